@@ -1,0 +1,25 @@
+use mathlib.Core.Path.{refl}
+use native.Mathlib.Nat.{mod-le}
+use native.Mathlib.Omega.{arith}
+use native.Mathlib.Nat.{mod-zero}
+use Rattle.arithmetic.specs.Rounding.{roundDown}
+use borrow.Author.Needs.{needs}
+use Rattle.arithmetic.proofs.offsets.down.Statement.{statement}
+use Rattle.arithmetic.proofs.offsets.down.Tie as tie
+
+returns : tie.Need-returns
+unfolding roundDown
+returns c = rw (c .if1 .taken, mod-zero) (omega arith)
+
+rem-result : tie.Need-rem-result
+rem-result c = search needs
+
+sub-result : tie.Need-sub-result
+sub-result c = mod-le _ _
+
+returns-2 : tie.Need-returns-2
+unfolding roundDown
+returns-2 c = refl
+
+pub down-spec : {M : Type 1} → statement M
+down-spec = tie.close (tie.spec returns rem-result sub-result returns-2)

@@ -1,0 +1,13 @@
+use Rattle.arithmetic.specs.RoundingLaws.{room}
+use borrow.Author.Needs.{needs}
+use Rattle.arithmetic.proofs.settings.Lent.ends.Statement.{statement}
+use Rattle.arithmetic.proofs.settings.Lent.ends.Tie as tie
+
+sub-result : tie.Need-sub-result
+sub-result c = search needs
+
+returns : tie.Need-returns
+returns c = room (c .before .before .args .self .address) (c .before .before .args .self .length) (search needs)
+
+pub ends-spec : {M : Type 1} → statement M
+ends-spec = tie.close (tie.spec sub-result returns)

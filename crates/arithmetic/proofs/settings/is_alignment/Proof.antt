@@ -1,0 +1,19 @@
+use Rattle.arithmetic.specs.Settings.{isAlignment}
+use Rattle.arithmetic.specs.PowerLaws.{test}
+use borrow.Author.Needs.{needs}
+use Rattle.arithmetic.proofs.settings.is_alignment.Statement.{statement}
+use Rattle.arithmetic.proofs.settings.is_alignment.Tie as tie
+
+returns : tie.Need-returns
+unfolding isAlignment
+returns c = rw (c .if1 .taken)
+
+rem-result : tie.Need-rem-result
+rem-result c = search needs
+
+returns-2 : tie.Need-returns-2
+unfolding isAlignment
+returns-2 c = test 16 (c .before .args .x)
+
+pub is-alignment-spec : {M : Type 1} → statement M
+is-alignment-spec = tie.close (tie.spec returns rem-result returns-2)

@@ -1,0 +1,32 @@
+use borrow.Author.Tests.{not-true, not-false}
+use mathlib.Core.Path.{_≡_, sym, _∙_}
+use mathlib.Core.Bool.{true}
+use Rattle.arithmetic.specs.Settings.{openingOf, settingsFit}
+use borrow.Author.Needs.{needs}
+use Rattle.arithmetic.proofs.settings.opening.Statement.{statement}
+use Rattle.arithmetic.proofs.settings.opening.Tie as tie
+
+-- past the first test the settings fit
+fit-is : (c : tie.Else1) → settingsFit (c .before .before .args .s) ≡ true
+fit-is c = sym (c .before .fit .ensures) ∙ not-false _ (c .if1 .left)
+
+fit-requires : tie.Need-fit-requires
+fit-requires c κs = search needs
+
+returns : tie.Need-returns
+unfolding openingOf
+returns c = simp (sym (c .before .fit .ensures) ∙ not-true _ (c .if1 .taken))
+
+fit-requires-2 : tie.Need-fit-requires-2
+fit-requires-2 c κs = fit-is c
+
+returns-2 : tie.Need-returns-2
+unfolding openingOf
+returns-2 c = simp (fit-is (c .before .before), sym (c .before .fit2 .ensures) ∙ not-true _ (c .if2 .taken))
+
+returns-3 : tie.Need-returns-3
+unfolding openingOf
+returns-3 c = simp (fit-is (c .before .before), sym (c .before .fit2 .ensures) ∙ not-false _ (c .if2 .left))
+
+pub opening-spec : {M : Type 1} → statement M
+opening-spec = tie.close (tie.spec fit-requires returns fit-requires-2 returns-2 returns-3)

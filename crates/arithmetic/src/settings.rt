@@ -1,0 +1,176 @@
+// Settings: the store's alignments, the bounce buffer's length, the lent buffers; what opening tests.
+use crate::refusals::Outcome;
+use crate::refusals::Refusal;
+ghost use mathlib.Core.Bool.{true};
+ghost use mathlib.Core.Path.{_≡_};
+ghost use Prim.Native.Nat.{_+_};
+ghost use Rattle.arithmetic.specs.Rounding.{fits};
+ghost use Rattle.arithmetic.specs.Settings.{isAlignment, lengthAlign, alignmentsFit, bounceFits, settingsFit, buffersFit, openingOf, profileOf};
+use crate::offsets::LARGEST;
+
+// Document 01's mem, req, zero, discard: M, R, Z, D.
+pub struct Alignments {
+    pub mem: u64,
+    pub req: u64,
+    pub zero: u64,
+    pub discard: u64,
+}
+
+// The alignments, and the length of one job's bounce buffer (document 01: the share).
+pub struct Settings {
+    pub align: Alignments,
+    pub bounce: u64,
+}
+
+// Address and length of a buffer that is lent.
+pub struct Lent {
+    pub address: u64,
+    pub length: u64,
+}
+
+// The buffers as opening fixes them.
+pub struct Buffers {
+    pub data: Lent,
+    pub scratch: Lent,
+}
+
+// A drive profile (document 01: a drive row), by its index.
+pub enum Profile {
+    Of(Alignments),
+    Refused(Refusal),
+}
+
+const MAX_BOUNCE: u64 = 1048576;
+
+const SLOTS: u64 = 8;
+
+fn is_alignment(x: u64) -> bool
+    ensures { λ r. ⌜ r ≡ isAlignment x ⌝ }
+{
+    if x == 0 {
+        return false;
+    }
+    65536 % x == 0
+}
+
+impl Alignments {
+    // L: the greater of the memory and the request alignment.
+    pub fn length_align(self) -> u64
+        ensures { λ r. ⌜ r ≡ lengthAlign self ⌝ }
+    {
+        if self.mem < self.req {
+            self.req
+        } else {
+            self.mem
+        }
+    }
+
+    pub fn fit(self) -> bool
+        ensures { λ r. ⌜ r ≡ alignmentsFit self ⌝ }
+    {
+        let mem = is_alignment(self.mem);
+        let req = is_alignment(self.req);
+        let zero = is_alignment(self.zero);
+        let discard = is_alignment(self.discard);
+        mem & req & zero & discard
+    }
+}
+
+impl Settings {
+    // Whether opening accepts the alignments and the bounce buffer's length: false is refusal 201.
+    pub fn fit(self) -> bool
+        ensures { λ r. ⌜ r ≡ settingsFit self ⌝ }
+    {
+        let align = self.align;
+        let len = self.bounce;
+        if !align.fit() {
+            return false;
+        }
+        let l = align.length_align();
+        (len % l == 0) & (2 * align.zero + 2 * l <= len) & (len <= MAX_BOUNCE)
+    }
+}
+
+impl Lent {
+    // Whether address plus length is at most 2^64 - 1.
+    fn ends(self) -> bool
+        ensures { λ r. ⌜ r ≡ fits (self .address + self .length) ⌝ }
+    {
+        self.length <= LARGEST - self.address
+    }
+}
+
+impl Buffers {
+    fn fit(self, s: Settings) -> bool
+        requires { ⌜ settingsFit s ≡ true ⌝ }
+        ensures { λ r. ⌜ r ≡ buffersFit s self ⌝ }
+    {
+        let align = s.align;
+        let data = self.data;
+        let scratch = self.scratch;
+        let data_ends = data.ends();
+        let scratch_ends = scratch.ends();
+        data_ends
+            & scratch_ends
+            & (SLOTS * s.bounce <= scratch.length)
+            & (scratch.address % align.mem == 0)
+    }
+}
+
+// What opening answers: 201 for unfit settings, then 205 for unfit buffers.
+pub fn opening(s: Settings, b: Buffers) -> Outcome
+    ensures { λ r. ⌜ r ≡ openingOf s b ⌝ }
+{
+    if !s.fit() {
+        return Outcome::Refused(Refusal::Unfit);
+    }
+    if !b.fit(s) {
+        return Outcome::Refused(Refusal::Buffer);
+    }
+    Outcome::Done
+}
+
+// The alignments of a drive profile.
+pub fn drive_profile(index: usize) -> Profile
+    ensures { λ r. ⌜ r ≡ profileOf index ⌝ }
+{
+    match index {
+        0 => Profile::Of(Alignments {
+            mem: 1,
+            req: 1,
+            zero: 1,
+            discard: 1,
+        }),
+        1 => Profile::Of(Alignments {
+            mem: 1,
+            req: 512,
+            zero: 512,
+            discard: 512,
+        }),
+        2 => Profile::Of(Alignments {
+            mem: 512,
+            req: 512,
+            zero: 4096,
+            discard: 4096,
+        }),
+        3 => Profile::Of(Alignments {
+            mem: 4096,
+            req: 4096,
+            zero: 4096,
+            discard: 65536,
+        }),
+        4 => Profile::Of(Alignments {
+            mem: 4096,
+            req: 512,
+            zero: 512,
+            discard: 512,
+        }),
+        5 => Profile::Of(Alignments {
+            mem: 4096,
+            req: 512,
+            zero: 4096,
+            discard: 65536,
+        }),
+        _ => Profile::Refused(Refusal::Unfit),
+    }
+}
