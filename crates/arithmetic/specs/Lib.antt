@@ -7,4 +7,10 @@ pub mod Powers
 pub mod PowerLaws
 pub mod Settings
 pub mod SettingsLaws
+pub mod Padding
+pub mod PaddingLaws
+pub mod Zeroes
+pub mod ZeroesLaws
+pub mod Planner
+pub mod PlannerLaws
 pub mod RoundingLaws

@@ -4,9 +4,9 @@ use mathlib.Core.Bool.{Bool, true, false}
 use Prim.Native.Nat.{ℕ, _+_, _-_, _*_, _/_, _%_, _^_, _<_, _≤_}
 use native.Mathlib.Nat.{mod-lt, mod-le, mod-zero, div-add-mod', mul-mod-left, mod-eq-sub-div-mul, add-mul-mod-self-right, le-div-iff-mul-le, div-lt-iff-lt-mul, mul-le-mul-right, dvd-of-mod-eq-zero, mod-eq-zero-of-dvd, dvd-trans, dvd-add, dvd-sub}
 use native.Mathlib.Omega.{arith}
-use native.Mathlib.Decide.{decLt}
-use lib.Dec.{ltb, leb}
-use borrow.Author.Tests.{ltb-true, ltb-false, lt-ltb, le-ltb, le-leb, lt-leb, eq-eqb, eqb-true}
+use native.Mathlib.Decide.{decLt, ℕ-discrete}
+use lib.Dec.{ltb, leb, eqb}
+use borrow.Author.Tests.{ltb-true, ltb-false, lt-ltb, le-ltb, le-leb, lt-leb, eq-eqb, ne-eqb}
 use Rattle.arithmetic.specs.Rounding.{pick, fits, isMultiple, roundDown, roundUp, sumOf, upOf}
 use Rattle.arithmetic.specs.declared.offsets.Sum.{Sum}
 use Rattle.arithmetic.specs.declared.offsets.Sum.the-variants.{Fits, Over}
@@ -30,6 +30,13 @@ pub room : (a n : ℕ) → a < 2 ^ 64 → leb n (18446744073709551615 - a) ≡ f
 room a n h = elim (decLt (a + n) (2 ^ 64)) [
   | yes l ↦ le-leb n (18446744073709551615 - a) (omega arith) ∙ sym (fits-true (a + n) l)
   | no l ↦ lt-leb n (18446744073709551615 - a) (omega arith) ∙ sym (fits-false (a + n) (omega arith))
+]
+
+-- two tests for equality that say the same
+pub eqb-same : (a b x y : ℕ) → (a ≡ b → x ≡ y) → (x ≡ y → a ≡ b) → eqb a b ≡ eqb x y
+eqb-same a b x y f g = elim (ℕ-discrete a b) [
+  | yes e ↦ eq-eqb a b e ∙ sym (eq-eqb x y (f e))
+  | no n ↦ ne-eqb a b n ∙ sym (ne-eqb x y (λ e. n (g e)))
 ]
 
 -- a checked answer y of a test t on the value u: what it says of both

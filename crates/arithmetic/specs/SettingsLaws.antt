@@ -44,6 +44,7 @@ pub record Aligned (a : Alignments) : Type 0 where
   pub discard : Power (a .discard)
   pub positive : 0 < lengthAlign a
   pub most : lengthAlign a ≤ 65536
+  pub req-le : a .req ≤ lengthAlign a
   pub of-mem : lengthAlign a % a .mem ≡ 0
   pub of-req : lengthAlign a % a .req ≡ 0
 
@@ -66,6 +67,7 @@ aligned a e =
       discard = power-of (a .discard) (and-right (m && r && z) d e);
       positive = omega (arith, pm .positive);
       most = omega (arith, pm .most, pr .most);
+      req-le = omega arith;
       of-mem = g .0;
       of-req = g .1;
     }
@@ -76,6 +78,7 @@ pub record Accepted (s : Settings) : Type 0 where
   pub whole : s .bounce % lengthAlign (s .align) ≡ 0
   pub least : 2 * s .align .zero + 2 * lengthAlign (s .align) ≤ s .bounce
   pub most : s .bounce ≤ 1048576
+  pub positive : 0 < s .bounce
 
 pub accepted : (s : Settings) → settingsFit s ≡ true → Accepted s
 unfolding settingsFit bounceFits isMultiple
@@ -86,9 +89,12 @@ accepted s e =
     let h = leb (s .bounce) 1048576 in
     let r = and-right a (w && l && h) e in
     let wl = and-left (w && l) h r in
+    let k = aligned (s .align) (and-left a (w && l && h) e) in
+    let m = leb-true (2 * s .align .zero + 2 * lengthAlign (s .align)) (s .bounce) (and-right w l wl) in
     record {
-      align = aligned (s .align) (and-left a (w && l && h) e);
+      align = k;
       whole = eqb-true _ _ (and-left w l wl);
-      least = leb-true _ _ (and-right w l wl);
+      least = m;
       most = leb-true _ _ (and-right (w && l) h r);
+      positive = omega (arith, k .positive);
     }

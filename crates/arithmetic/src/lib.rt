@@ -2,6 +2,6 @@
 pub mod refusals; // the numbers 201 to 210
 pub mod offsets; // offsets on the store and in a bounce buffer, ranges, sums that fit, rounding
 pub mod settings; // alignments, drive profiles, what opening tests
-// pub mod padding; // direct or padded, the padded range, the reads of a padded write
-// pub mod zeroes; // cuts of zero and discard jobs, chunks of write_full_zeroes
-// pub mod planner; // pure_write_full_zeroes as a plan
+pub mod padding; // direct or padded, the padded range, the reads of a padded write
+pub mod zeroes; // cuts of zero and discard jobs, chunks of write_full_zeroes
+pub mod planner; // pure_write_full_zeroes as a plan

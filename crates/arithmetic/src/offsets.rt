@@ -1,7 +1,7 @@
 // Offsets that count from different zeros, ranges of the store, sums that fit 64 bits, rounding.
 use crate::refusals::Refusal;
 ghost use mathlib.Core.Path.{_≡_};
-ghost use Prim.Native.Nat.{_<_};
+ghost use Prim.Native.Nat.{min};
 ghost use Rattle.arithmetic.specs.Rounding.{sumOf, roundDown, upOf};
 ghost use Rattle.arithmetic.specs.Offsets.{inBufferOf, onStoreOf};
 
@@ -93,4 +93,10 @@ pub fn up(x: u64, r: u64) -> Sum
         return Sum::Over;
     }
     Sum::Fits(down(x + (r - 1), r))
+}
+
+pub fn lesser(a: u64, b: u64) -> u64
+    ensures { λ r. ⌜ r ≡ min a b ⌝ }
+{
+    if a < b { a } else { b }
 }

@@ -1,0 +1,15 @@
+use borrow.Author.Needs.{needs}
+use native.Mathlib.Omega.{arith}
+use mathlib.Core.Path.{sym}
+use Rattle.arithmetic.specs.PaddingLaws.{up-edge, up-nothing}
+use Rattle.arithmetic.proofs.padding.edge.Statement.{statement}
+use Rattle.arithmetic.proofs.padding.edge.Tie as tie
+
+returns : tie.Need-returns
+returns c = rw (c .if1 .taken) (sym (up-nothing (c .before .args .l) (omega arith)))
+
+returns-2 : tie.Need-returns-2
+returns-2 c = sym (up-edge (c .before .args .x) (c .before .args .l) (omega arith) (search needs))
+
+pub edge-spec : {M : Type 1} → statement M
+edge-spec = tie.close (tie.spec returns returns-2)

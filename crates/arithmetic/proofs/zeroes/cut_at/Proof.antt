@@ -1,0 +1,30 @@
+use native.Mathlib.Omega.{arith}
+use Rattle.arithmetic.specs.Rounding.{roundUp}
+use Rattle.arithmetic.specs.ZeroesLaws.{cut-sums}
+use Rattle.arithmetic.specs.Zeroes.{cutOf}
+use borrow.Author.Needs.{needs}
+use Rattle.arithmetic.proofs.zeroes.cut_at.Statement.{statement}
+use Rattle.arithmetic.proofs.zeroes.cut_at.Tie as tie
+
+sub-last : tie.Need-sub-last
+sub-last c = search needs
+
+add-last : tie.Need-add-last
+add-last c = omega (arith, cut-sums (c .args .z) (c .args .at) (c .args .length) (c .pre .1) .rounded)
+
+add-asked-end : tie.Need-add-asked-end
+add-asked-end c = omega (arith, cut-sums (c .args .z) (c .args .at) (c .args .length) (c .pre .1) .end)
+
+down-requires : tie.Need-down-requires
+down-requires c κs = search needs
+
+down-requires-2 : tie.Need-down-requires-2
+down-requires-2 c κs = search needs
+
+returns : tie.Need-returns
+unfolding cutOf roundUp
+returns c = rw (c .before .down .ensures, c .down2 .ensures)
+
+pub cut-at-spec : {M : Type 1} → statement M
+cut-at-spec =
+    tie.close (tie.spec sub-last add-last add-asked-end down-requires down-requires-2 returns)
