@@ -1,7 +1,7 @@
 -- Document 01, "Direct or padded" and "Requests of a padded write".
-use mathlib.Core.Bool.{Bool, _&&_}
+use mathlib.Core.Bool.{Bool, false, _&&_, _||_}
 use Prim.Native.Nat.{ℕ, _+_, _-_}
-use lib.Dec.{eqb}
+use lib.Dec.{eqb, ltb, leb}
 use Rattle.arithmetic.specs.Rounding.{pick, fits, isMultiple, roundDown, roundUp}
 use Rattle.arithmetic.specs.Offsets.{storeAt, bufferAt, rangeOf}
 use Rattle.arithmetic.specs.Settings.{alignmentsFit, lengthAlign}
@@ -91,3 +91,15 @@ readsOf s =
     (pick (eqb (s .prefix) 0)
     (pick (eqb (s .suffix) 0) Nothing (Tail (s .suffix)))
     (pick (eqb (s .suffix) 0) (Head (s .prefix)) (HeadThenTail (s .prefix) (s .suffix))))
+
+-- k lies in the bytes from a up to, not including, e
+abbrev pub within : ℕ → ℕ → ℕ → Bool
+within a e k = leb a k && ltb k e
+
+-- whether the byte at offset k is read before the write
+unfoldable pub isRead : Span → Reads → ℕ → Bool
+isRead s Nothing k = false
+isRead s Whole k = within (s .start .0) (s .end .0) k
+isRead s (Head h) k = within (s .start .0) (s .start .0 + h) k
+isRead s (Tail t) k = within (s .end .0 - t) (s .end .0) k
+isRead s (HeadThenTail h t) k = within (s .start .0) (s .start .0 + h) k || within (s .end .0 - t) (s .end .0) k

@@ -1,14 +1,22 @@
 -- Laws of padding: the padded range holds the asked one, its length is the least multiple of L that holds h + length, H and T are 0 or L, and the reads cover what is not asked. Assumes nothing.
 use mathlib.Core.Path.{_≡_, refl, sym, ap, _∙_}
-use mathlib.Core.Bool.{Bool, true, false, _&&_}
+use mathlib.Core.Bool.{Bool, true, false, _&&_, _||_, or-true}
 use mathlib.Core.Logic.{_⊎_, inl, inr, ⊎-elim}
 use Prim.Native.Nat.{ℕ, _+_, _-_, _*_, _%_, _^_, _<_, _≤_}
 use native.Mathlib.Nat.{mod-eq-of-lt, mod-self, zero-mod}
-use native.Mathlib.Decide.{decLt}
+use native.Mathlib.Decide.{decLt, ℕ-discrete}
+use borrow.Author.Tests.{le-leb, lt-ltb, eq-eqb, ne-eqb}
 use native.Mathlib.Omega.{arith}
-use Rattle.arithmetic.specs.Rounding.{fits, roundDown, roundUp}
-use Rattle.arithmetic.specs.RoundingLaws.{multiple-add, multiple-sub, multiple-trans, down-le, down-near, down-multiple, up-ge, up-near, up-multiple, up-least, up-same, true-fits}
-use Rattle.arithmetic.specs.Padding.{paddedStart, roundedEnd, paddedLength, paddedEnd, headOf, tailOf}
+use Rattle.arithmetic.specs.Rounding.{pick, fits, roundDown, roundUp}
+use Rattle.arithmetic.specs.RoundingLaws.{multiple-add, multiple-sub, multiple-trans, multiple-le, down-le, down-near, down-multiple, up-ge, up-near, up-multiple, up-least, up-same, true-fits}
+use Rattle.arithmetic.specs.Settings.{alignmentsFit, lengthAlign}
+use Rattle.arithmetic.specs.SettingsLaws.{and-right, Aligned, aligned}
+use Rattle.arithmetic.specs.Padding.{paddedStart, roundedEnd, paddedLength, paddedEnd, paddingFits, headOf, tailOf, spanOf, paddedOf, paddingOf, readsOf, within, isRead}
+use Rattle.arithmetic.specs.declared.refusals.Refusal.the-variants.{Unfit, Overflow}
+use Rattle.arithmetic.specs.declared.offsets.StoreOffset.{StoreOffset}
+use Rattle.arithmetic.specs.declared.settings.Alignments.{Alignments}
+use Rattle.arithmetic.specs.declared.padding.Span.{Span}
+use Rattle.arithmetic.specs.declared.padding.Padding.the-variants.{Padded, Refused}
 
 -- x rounded up to r and then to l, a multiple of r, is x rounded up to l
 pub up-twice : (x r l : ℕ) → 0 < r → 0 < l → l % r ≡ 0 → roundUp (roundUp x r) l ≡ roundUp x l
@@ -39,6 +47,17 @@ up-edge x l p h =
 
 pub up-nothing : (l : ℕ) → 0 < l → roundUp 0 l ≡ 0
 up-nothing l h = up-same 0 l h (zero-mod l)
+
+-- an edge of x bytes is rounded up to nothing or to l
+pub data Edge (x l : ℕ) : Type 0 where
+  none : x ≡ 0 → roundUp x l ≡ 0 → Edge x l
+  whole : 0 < x → roundUp x l ≡ l → Edge x l
+
+pub edge : (x l : ℕ) → x < l → Edge x l
+edge x l h = elim (decLt 0 x) [
+  | yes p ↦ whole p (up-edge x l p h)
+  | no p ↦ let z : x ≡ 0 = omega arith in none z (rw z (up-nothing l (omega arith)))
+]
 
 -- a request of n bytes at o, for alignments r and l, l a multiple of r
 module _ (r l o n : ℕ) (hr : 0 < r) (hl : 0 < l) (m : l % r ≡ 0) where
@@ -82,3 +101,110 @@ module _ (r l o n : ℕ) (hr : 0 < r) (hl : 0 < l) (m : l % r ≡ 0) where
   -- t is below L
   pub tail-below : tailOf r l o n < l
   tail-below = omega (arith, length-is, up-near (headOf r o + n) l hl, start-le)
+
+  -- "H and T are h and t rounded up to L": each is 0 or L
+  pub prefix-edge : Edge (headOf r o) l
+  prefix-edge = edge (headOf r o) l (omega (arith, head-below, multiple-le l r hl m))
+
+  pub suffix-edge : Edge (tailOf r l o n) l
+  suffix-edge = edge (tailOf r l o n) l tail-below
+
+-- ---- the reads of a padded write
+
+both : (a b : Bool) → a ≡ true → b ≡ true → (a && b) ≡ true
+both a b p q = rw (p, q)
+
+either-left : (a b : Bool) → a ≡ true → (a || b) ≡ true
+either-left a b p = rw p
+
+either-right : (a b : Bool) → b ≡ true → (a || b) ≡ true
+either-right a b p = rw p (or-true a)
+
+-- a byte of the range among its first H or its last T bytes is read
+pub read-edges : (s : Span) (k : ℕ) → s .start .0 ≤ k → k < s .end .0 → (k < s .start .0 + s .prefix) ⊎ (s .end .0 - s .suffix ≤ k)
+    → isRead s (readsOf s) k ≡ true
+unfolding isRead readsOf
+read-edges s k a b c = elim (ℕ-discrete (s .prefix + s .suffix) (s .length)) [
+  | yes w ↦ simp (eq-eqb _ _ w) (both _ _ (le-leb _ _ a) (lt-ltb _ _ b))
+  | no w ↦
+      elim (ℕ-discrete (s .prefix) 0) [
+        | yes p ↦
+            let t : s .end .0 - s .suffix ≤ k = ⊎-elim (λ x. omega arith) (λ x. x) c in
+            elim (ℕ-discrete (s .suffix) 0) [
+              | yes q ↦ absurd (omega arith)
+              | no q ↦ simp (ne-eqb _ _ w, eq-eqb _ _ p, ne-eqb _ _ q) (both _ _ (le-leb _ _ t) (lt-ltb _ _ b))
+            ]
+        | no p ↦
+            elim (ℕ-discrete (s .suffix) 0) [
+              | yes q ↦
+                  let h : k < s .start .0 + s .prefix = ⊎-elim (λ x. x) (λ x. omega arith) c in
+                  simp (ne-eqb _ _ w, ne-eqb _ _ p, eq-eqb _ _ q) (both _ _ (le-leb _ _ a) (lt-ltb _ _ h))
+              | no q ↦
+                  simp (ne-eqb _ _ w, ne-eqb _ _ p, ne-eqb _ _ q)
+                  (⊎-elim (λ x. either-left (within (s .start .0) (s .start .0 + s .prefix) k) _ (both _ _ (le-leb _ _ a) (lt-ltb _ _ x))) (λ x. either-right (within (s .start .0) (s .start .0 + s .prefix) k) (within (s .end .0 - s .suffix) (s .end .0) k) (both _ _ (le-leb _ _ x) (lt-ltb _ _ b))) c)
+            ]
+      ]
+]
+
+-- every byte of the padded range that is not asked is read
+pub read-outside : (r l o n k : ℕ) → 0 < r → 0 < l → l % r ≡ 0 → paddedStart r o ≤ k → k < paddedEnd r l o n → (k < o) ⊎ (o + n ≤ k)
+    → isRead (spanOf r l o n) (readsOf (spanOf r l o n)) k ≡ true
+unfolding spanOf
+read-outside r l o n k hr hl m a b c =
+    read-edges (spanOf r l o n) k a b
+    (⊎-elim
+    (λ x. inl (omega (arith, up-ge (headOf r o) l hl, start-le r l o n hr hl m)))
+    (λ x. inr (omega (arith, up-ge (tailOf r l o n) l hl, end-ge r l o n hr hl m)))
+    c)
+
+-- ---- what `pad` gives
+
+-- a padded range of n bytes at o
+pub record Spans (a : Alignments) (o n : ℕ) (s : Span) : Type 0 where
+  pub is : s ≡ spanOf (a .req) (lengthAlign a) o n
+  pub fits : s .end .0 < 2 ^ 64
+  pub end : s .end .0 ≡ s .start .0 + s .length
+  pub from : s .start .0 + s .head .0 ≡ o
+  pub holds : s .head .0 + n ≤ s .length
+  pub whole : s .length % lengthAlign a ≡ 0
+  pub start : s .start .0 % a .req ≡ 0
+  pub least : (k : ℕ) → k % lengthAlign a ≡ 0 → s .head .0 + n ≤ k → s .length ≤ k
+  pub prefix : Edge (s .head .0) (lengthAlign a)
+  pub prefix-is : s .prefix ≡ roundUp (s .head .0) (lengthAlign a)
+  pub suffix : Edge (s .end .0 - (o + n)) (lengthAlign a)
+  pub suffix-is : s .suffix ≡ roundUp (s .end .0 - (o + n)) (lengthAlign a)
+
+spans-of : (a : Alignments) (o n : ℕ) → Aligned a → paddingFits (a .req) (lengthAlign a) o n ≡ true → Spans a o n (spanOf (a .req) (lengthAlign a) o n)
+unfolding spanOf paddingFits
+spans-of a o n k e =
+    let r = a .req in
+    let l = lengthAlign a in
+    let p = k .req .positive in
+    let q = k .positive in
+    let m = k .of-req in
+    record {
+      is = refl;
+      fits = true-fits (paddedEnd r l o n) (and-right (fits (o + n) && fits (o + n + (r - 1)) && fits (roundedEnd r o n - paddedStart r o + (l - 1))) (fits (paddedEnd r l o n)) e);
+      end = refl;
+      from = omega (arith, start-le r l o n p q m);
+      holds = omega (arith, end-ge r l o n p q m, start-le r l o n p q m);
+      whole = length-multiple r l o n p q m;
+      start = start-multiple r l o n p q m;
+      least = length-least r l o n p q m;
+      prefix = prefix-edge r l o n p q m;
+      prefix-is = refl;
+      suffix = suffix-edge r l o n p q m;
+      suffix-is = refl
+    }
+
+pub spans : (a : Alignments) (o : StoreOffset) (n : ℕ) (s : Span) → paddingOf a o n ≡ Padded s → Spans a (o .0) n s
+unfolding paddingOf paddedOf
+spans a o n s e = go (alignmentsFit a) (paddingFits (a .req) (lengthAlign a) (o .0) n) refl refl e
+  where
+    go : (x y : Bool) → alignmentsFit a ≡ x → paddingFits (a .req) (lengthAlign a) (o .0) n ≡ y
+        → pick x (pick y (Padded (spanOf (a .req) (lengthAlign a) (o .0) n)) (Refused Overflow)) (Refused Unfit) ≡ Padded s → Spans a (o .0) n s
+    go true true p q e =
+        let i : spanOf (a .req) (lengthAlign a) (o .0) n ≡ s = cc in
+        rw i at (spans-of a (o .0) n (aligned a p) q)
+    go true false p q e = let z : _≡_ {A = ℕ} 0 1 = cc in absurd (omega arith)
+    go false y p q e = let z : _≡_ {A = ℕ} 0 1 = cc in absurd (omega arith)

@@ -2,7 +2,7 @@
 use mathlib.Core.Path.{_≡_, refl, sym, ap, _∙_}
 use mathlib.Core.Bool.{Bool, true, false, _&&_}
 use Prim.Native.Nat.{ℕ, suc, _+_, _-_, _*_, _/_, _%_, _<_, _≤_, min}
-use native.Mathlib.Nat.{div-eq-of-lt-le, div-add-mod', mod-lt, mul-le-mul-right, le-trans}
+use native.Mathlib.Nat.{div-eq-of-lt-le, div-add-mod', mod-lt, mul-le-mul-right, le-div-iff-mul-le, div-lt-iff-lt-mul}
 use native.Mathlib.Omega.{arith}
 use Rattle.arithmetic.specs.Offsets.{rangeOf}
 use Rattle.arithmetic.specs.Rounding.{pick, fits, isMultiple}
@@ -65,3 +65,50 @@ module _ (b n : ℕ) (h : 0 < b) where
 
   pub end-past : (i : ℕ) → n / b < i → n ≡ min ((i + 1) * b) n
   end-past i l = omega (arith, starts-past i l)
+
+  -- chunk i starts before the range's end exactly where i is below the count
+  pub below-count : (i : ℕ) → i < chunkCount b n → i * b < n
+  unfolding chunkCount
+  below-count i l =
+      let q : (i + 1) * b ≤ n + (b - 1) = le-div-iff-mul-le h .0 (omega arith) in
+      omega arith
+
+  pub past-count : (i : ℕ) → chunkCount b n ≤ i → n ≤ i * b
+  unfolding chunkCount
+  past-count i l =
+      let q : n + (b - 1) < (i + 1) * b = div-lt-iff-lt-mul h .0 (omega arith) in
+      omega arith
+
+-- the chunks of n bytes at o, each of at most b
+module _ (b o n : ℕ) (h : 0 < b) where
+  abbrev start : ℕ → ℕ
+  start i = plannedChunk b o n i .start .0
+
+  abbrev end : ℕ → ℕ
+  end i = plannedChunk b o n i .end .0
+
+  pub first-start : start 0 ≡ o
+  unfolding plannedChunk
+  first-start = omega arith
+
+  pub adjacent : (i : ℕ) → end i ≡ start (i + 1)
+  unfolding plannedChunk
+  adjacent i = refl
+
+  -- "an i at or past the count gives length 0 at offset + length"
+  pub last-end : (i : ℕ) → chunkCount b n ≤ i → (start i ≡ o + n) × (end i ≡ o + n)
+  unfolding plannedChunk
+  last-end i l = let p = past-count b n h i l in (omega arith, omega arith)
+
+  pub not-empty : (i : ℕ) → i < chunkCount b n → start i < end i
+  unfolding plannedChunk
+  not-empty i l = let p = below-count b n h i l in omega arith
+
+  pub at-most : (i : ℕ) → end i ≤ start i + b
+  unfolding plannedChunk
+  at-most i = omega arith
+
+  -- "each of the share but the last"
+  pub full : (i : ℕ) → i + 1 < chunkCount b n → end i ≡ start i + b
+  unfolding plannedChunk
+  full i l = let p = below-count b n h (i + 1) l in omega arith

@@ -2,7 +2,7 @@
 use mathlib.Core.Path.{_≡_, refl, sym, ap, _∙_}
 use mathlib.Core.Bool.{Bool, true, false}
 use Prim.Native.Nat.{ℕ, _+_, _-_, _*_, _/_, _%_, _^_, _<_, _≤_}
-use native.Mathlib.Nat.{mod-lt, mod-le, mod-zero, div-add-mod', mul-mod-left, mod-eq-sub-div-mul, add-mul-mod-self-right, le-div-iff-mul-le, div-lt-iff-lt-mul, mul-le-mul-right, dvd-of-mod-eq-zero, mod-eq-zero-of-dvd, dvd-trans, dvd-add, dvd-sub}
+use native.Mathlib.Nat.{mod-lt, mod-le, mod-zero, div-add-mod', mul-mod-left, mod-eq-sub-div-mul, add-mul-mod-self-right, le-div-iff-mul-le, div-lt-iff-lt-mul, mul-le-mul-right, dvd-of-mod-eq-zero, mod-eq-zero-of-dvd, dvd-trans, dvd-add, dvd-sub, le-of-dvd}
 use native.Mathlib.Omega.{arith}
 use native.Mathlib.Decide.{decLt, ℕ-discrete}
 use lib.Dec.{ltb, leb, eqb}
@@ -86,6 +86,9 @@ multiple-sub a b r p q = mod-eq-zero-of-dvd r (dvd-sub r (dvd-of-mod-eq-zero r p
 
 pub multiple-trans : (a b r : ℕ) → a % b ≡ 0 → b % r ≡ 0 → a % r ≡ 0
 multiple-trans a b r p q = mod-eq-zero-of-dvd r (dvd-trans r (dvd-of-mod-eq-zero r q) (dvd-of-mod-eq-zero b p))
+
+pub multiple-le : (a r : ℕ) → 0 < a → a % r ≡ 0 → r ≤ a
+multiple-le a r h m = le-of-dvd h (dvd-of-mod-eq-zero r m)
 
 -- ---- rounding down: the greatest multiple that is at most x
 
