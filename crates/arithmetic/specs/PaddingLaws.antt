@@ -194,7 +194,7 @@ spans-of a o n k e =
       prefix = prefix-edge r l o n p q m;
       prefix-is = refl;
       suffix = suffix-edge r l o n p q m;
-      suffix-is = refl
+      suffix-is = refl;
     }
 
 pub spans : (a : Alignments) (o : StoreOffset) (n : ℕ) (s : Span) → paddingOf a o n ≡ Padded s → Spans a (o .0) n s

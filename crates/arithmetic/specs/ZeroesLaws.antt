@@ -63,7 +63,7 @@ tiled z o n h = record {
   tail-ordered = down-le (o + n) z;
   tail-short = down-near (o + n) z h;
   start-whole = up-multiple o z;
-  end-whole = down-multiple (o + n) z
+  end-whole = down-multiple (o + n) z;
 }
 
 -- a range without a middle is shorter than 2Z
