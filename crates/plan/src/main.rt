@@ -164,6 +164,9 @@ fn chunks(at: u64, end: u64, settings: Settings, most: u64) {
         let Chunk::Next(r) = arithmetic::zeroes::next_chunk(rest, settings) else {
             return;
         };
+        if 0 < i {
+            text(b",");
+        }
         text(b" zeroes ");
         range(r);
         let to = r.end;
@@ -172,11 +175,12 @@ fn chunks(at: u64, end: u64, settings: Settings, most: u64) {
     }
 }
 
-// Row 1, bounce buffer 4096: the jobs with one segment whose address does not matter, and one aligned in two.
+// Drive profile 1, bounce buffer 4096; every address is a multiple of 1, so a vector is aligned where each length is a multiple of 512.
 fn row_one(align: Alignments) {
     write(100, 10, true, align);
     write(100, 412, true, align);
     write(512, 512, true, align);
+    write(512, 512, false, align);
     write(100, 900, true, align);
     write(100, 1500, true, align);
     zero(100, 1000, align);

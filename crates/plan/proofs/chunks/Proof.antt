@@ -1,13 +1,14 @@
+-- `plan::chunks` ends: each turn shows one chunk of at most `most`. Assumes nothing.
 use borrow.Author.Needs.{needs}
 use Prim.Native.Nat.{_≤_, _-_}
 use Rattle.plan.proofs.chunks.Statement.{statement}
 use Rattle.plan.proofs.chunks.Tie as tie
 
 abbrev Inv-loop : tie.InvT-loop
-Inv-loop at end settings most from₀ i₀ t10 from i = i ≤ most
+Inv-loop at end settings most from₀ i₀ t10 t11 from i = i ≤ most
 
 abbrev μ-loop : tie.MeasureT-loop
-μ-loop at end settings most from₀ i₀ t10 from i = most - i
+μ-loop at end settings most from₀ i₀ t10 t11 from i = most - i
 
 loop-holds : tie.Need-loop-holds Inv-loop μ-loop
 loop-holds c = search needs
@@ -26,6 +27,12 @@ slice-aggregate-text c = search needs
 
 text-requires : tie.Need-text-requires Inv-loop μ-loop
 text-requires c κs = search needs
+
+slice-aggregate-text-2 : tie.Need-slice-aggregate-text-2 Inv-loop μ-loop
+slice-aggregate-text-2 c = search needs
+
+text-requires-2 : tie.Need-text-requires-2 Inv-loop μ-loop
+text-requires-2 c κs = search needs
 
 range-requires : tie.Need-range-requires Inv-loop μ-loop
 range-requires c κs = search needs
@@ -54,6 +61,8 @@ chunks-spec =
     returns
     slice-aggregate-text
     text-requires
+    slice-aggregate-text-2
+    text-requires-2
     range-requires
     add-i
     loop-less
