@@ -32,9 +32,9 @@ pub power-of : (x : ℕ) → isAlignment x ≡ true → Power x
 unfolding isAlignment
 power-of x e =
     let k = exponent 16 x e in
-    let p : 0 < 2 ^ k .0 = pow-pos (k .0) in
-    let m : 2 ^ k .0 ≤ 2 ^ 16 = pow-mono (k .1) in
-    record { is = e; positive = omega (arith, k .2); most = omega (arith, k .2) }
+    let p : 0 < 2 ^ k .k = pow-pos (k .k) in
+    let m : 2 ^ k .k ≤ 2 ^ 16 = pow-mono (k .most) in
+    record { is = e; positive = omega (arith, k .is); most = omega (arith, k .is) }
 
 -- alignments that opening accepts
 pub record Aligned (a : Alignments) : Type 0 where

@@ -1,3 +1,4 @@
+-- `arithmetic::offsets::add` meets its contract: there is room for the second number exactly where the sum fits. Assumes nothing.
 use borrow.Author.Tests.{lt-ltb, le-ltb}
 use Prim.Native.Nat.{_+_, _^_}
 use native.Mathlib.Omega.{arith}

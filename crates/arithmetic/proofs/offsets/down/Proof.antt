@@ -1,3 +1,4 @@
+-- `arithmetic::offsets::down` meets its contract: a number less its remainder; nothing but 0 is a multiple of 0. Assumes nothing.
 use mathlib.Core.Path.{refl}
 use native.Mathlib.Nat.{mod-le}
 use native.Mathlib.Omega.{arith}

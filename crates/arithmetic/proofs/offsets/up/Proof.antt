@@ -1,3 +1,4 @@
+-- `arithmetic::offsets::up` meets its contract: the sum with r - 1, where it fits, rounded down. Assumes nothing.
 use borrow.Author.Tests.{lt-ltb, le-ltb}
 use mathlib.Core.Path.{ap, sym}
 use Rattle.arithmetic.specs.RoundingLaws.{up-zero}

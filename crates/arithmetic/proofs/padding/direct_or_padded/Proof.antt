@@ -1,3 +1,4 @@
+-- `arithmetic::padding::direct_or_padded` meets its contract: 201, 207, direct, then as padded. Assumes nothing.
 use borrow.Author.Tests.{not-true, not-false}
 use mathlib.Core.Path.{_≡_, sym, ap, _∙_}
 use mathlib.Core.Bool.{true}

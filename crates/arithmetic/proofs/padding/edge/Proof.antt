@@ -1,3 +1,4 @@
+-- `arithmetic::padding::edge` meets its contract: what is below l rounds up to 0 or l. Assumes nothing.
 use borrow.Author.Needs.{needs}
 use native.Mathlib.Omega.{arith}
 use mathlib.Core.Path.{sym}

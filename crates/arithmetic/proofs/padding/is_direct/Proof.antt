@@ -1,3 +1,4 @@
+-- `arithmetic::padding::is_direct` meets its contract: by definition. Assumes nothing.
 use Rattle.arithmetic.specs.Padding.{isDirect}
 use Rattle.arithmetic.specs.Rounding.{isMultiple}
 use mathlib.Core.Path.{refl}

@@ -1,3 +1,4 @@
+-- `arithmetic::padding::pad` meets its contract: past 201 the alignments are what `padded` asks. Assumes nothing.
 use borrow.Author.Tests.{not-true, not-false}
 use mathlib.Core.Path.{_≡_, sym, _∙_}
 use mathlib.Core.Bool.{true}

@@ -1,3 +1,4 @@
+-- `arithmetic::planner::check` meets its contract: 201, 210, 207. Assumes nothing.
 use borrow.Author.Tests.{not-true, not-false}
 use mathlib.Core.Path.{_≡_, sym, ap, _∙_}
 use mathlib.Core.Bool.{true, false, _&&_}

@@ -1,3 +1,4 @@
+-- `arithmetic::planner::chunk_at` meets its contract: a chunk that starts within the range, or the end. Assumes nothing.
 use native.Mathlib.Omega.{arith}
 use mathlib.Core.Path.{_≡_, ap, _∙_}
 use Prim.Native.Nat.{ℕ, _+_, _*_, _<_, _^_, _≤_, _/_, _-_, min}

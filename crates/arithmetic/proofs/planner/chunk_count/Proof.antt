@@ -1,3 +1,4 @@
+-- `arithmetic::planner::chunk_count` meets its contract: division, one more where something is left. Assumes nothing.
 use native.Mathlib.Omega.{arith}
 use native.Mathlib.Nat.{div-add-mod', mul-le-mul-left}
 use Prim.Native.Nat.{_/_, _≤_}

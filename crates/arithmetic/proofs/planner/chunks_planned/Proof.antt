@@ -1,3 +1,4 @@
+-- `arithmetic::planner::chunks_planned` meets its contract: the count of a plan that is not refused. Assumes nothing.
 use borrow.Author.Tests.{not-true, not-false}
 use mathlib.Core.Path.{_≡_, sym, ap, _∙_}
 use mathlib.Core.Bool.{true, false}

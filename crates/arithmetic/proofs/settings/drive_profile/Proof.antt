@@ -1,3 +1,4 @@
+-- `arithmetic::settings::drive_profile` meets its contract: each row by its index. Assumes nothing.
 use borrow.Author.Needs.{needs}
 use borrow.Author.Tests.{le-ltb}
 use native.Mathlib.Omega.{arith}

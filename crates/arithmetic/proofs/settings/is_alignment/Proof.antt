@@ -1,3 +1,4 @@
+-- `arithmetic::settings::is_alignment` meets its contract: the powers of two up to 2 ^ 16 are the divisors of 2 ^ 16. Assumes nothing.
 use Rattle.arithmetic.specs.Settings.{isAlignment}
 use Rattle.arithmetic.specs.PowerLaws.{test}
 use borrow.Author.Needs.{needs}

@@ -1,3 +1,4 @@
+-- `arithmetic::settings::opening` meets its contract: 201, then 205. Assumes nothing.
 use borrow.Author.Tests.{not-true, not-false}
 use mathlib.Core.Path.{_≡_, sym, _∙_}
 use mathlib.Core.Bool.{true}

@@ -1,3 +1,4 @@
+-- `arithmetic::zeroes::chunk_length` meets its contract: on or off R. Assumes nothing.
 use borrow.Author.Tests.{eq-eqb, ne-eqb}
 use native.Mathlib.Omega.{arith}
 use native.Mathlib.Nat.{mod-lt}

@@ -1,3 +1,4 @@
+-- `arithmetic::zeroes::cut_at` meets its contract: both sums fit, and are rounded as defined. Assumes nothing.
 use native.Mathlib.Omega.{arith}
 use Rattle.arithmetic.specs.Rounding.{roundUp}
 use Rattle.arithmetic.specs.ZeroesLaws.{cut-sums}

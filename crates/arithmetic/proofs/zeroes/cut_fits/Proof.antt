@@ -1,3 +1,4 @@
+-- `arithmetic::zeroes::cut_fits` meets its contract: there is room for a number exactly where the sum fits. Assumes nothing.
 use Rattle.arithmetic.specs.RoundingLaws.{room}
 use Rattle.arithmetic.specs.Zeroes.{cutFits}
 use Prim.Native.Nat.{_-_}

@@ -1,3 +1,4 @@
+-- `arithmetic::zeroes::next_chunk` meets its contract: 201, an empty range, then the chunk, which lies within the range. Assumes nothing.
 use borrow.Author.Tests.{not-true, not-false}
 use mathlib.Core.Path.{_≡_, sym, ap, _∙_}
 use mathlib.Core.Bool.{true, false}

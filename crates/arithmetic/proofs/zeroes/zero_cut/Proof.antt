@@ -1,3 +1,4 @@
+-- `arithmetic::zeroes::zero_cut` meets its contract: 201, an empty job, 207, then the cut. Assumes nothing.
 use borrow.Author.Tests.{not-true, not-false}
 use mathlib.Core.Path.{_≡_, sym, ap, _∙_}
 use mathlib.Core.Bool.{true, false}

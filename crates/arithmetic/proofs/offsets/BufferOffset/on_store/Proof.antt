@@ -1,3 +1,4 @@
+-- `arithmetic::offsets::BufferOffset::on_store` meets its contract: the sum of start and place, where it fits. Assumes nothing.
 use mathlib.Core.Path.{_≡_}
 use Rattle.arithmetic.specs.Rounding.{sumOf}
 use Rattle.arithmetic.specs.RoundingLaws.{sum-fits, sum-over}

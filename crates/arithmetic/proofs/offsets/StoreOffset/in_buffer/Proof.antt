@@ -1,3 +1,4 @@
+-- `arithmetic::offsets::StoreOffset::in_buffer` meets its contract: an offset at or past the start lies in the buffer. Assumes nothing.
 use borrow.Author.Tests.{le-leb, lt-leb}
 use Rattle.arithmetic.specs.Offsets.{inBufferOf}
 use Rattle.arithmetic.proofs.offsets.StoreOffset.in_buffer.Statement.{statement}

@@ -1,3 +1,4 @@
+-- `arithmetic::padding::Span::is_edges` meets its contract: by a difference, since the sum may not fit. Assumes nothing.
 use borrow.Author.Tests.{ne-eqb}
 use mathlib.Core.Path.{sym}
 use Prim.Native.Nat.{_+_, _-_, _≤_}

@@ -1,3 +1,4 @@
+-- `arithmetic::padding::Span::reads` meets its contract: a case for each test. Assumes nothing.
 use borrow.Author.Tests.{eq-eqb, ne-eqb}
 use mathlib.Core.Path.{_≡_, sym, _∙_}
 use mathlib.Core.Bool.{false}

@@ -1,3 +1,4 @@
+-- `arithmetic::settings::Alignments::fit` meets its contract: each of the four alignments is tested. Assumes nothing.
 use Rattle.arithmetic.specs.Settings.{alignmentsFit}
 use borrow.Author.Needs.{needs}
 use Rattle.arithmetic.proofs.settings.Alignments.fit.Statement.{statement}

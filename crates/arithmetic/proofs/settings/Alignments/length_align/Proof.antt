@@ -1,3 +1,4 @@
+-- `arithmetic::settings::Alignments::length_align` meets its contract: the greater of two numbers. Assumes nothing.
 use native.Mathlib.Omega.{arith}
 use Rattle.arithmetic.specs.Settings.{lengthAlign}
 use Rattle.arithmetic.proofs.settings.Alignments.length_align.Statement.{statement}

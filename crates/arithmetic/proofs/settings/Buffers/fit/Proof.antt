@@ -1,3 +1,4 @@
+-- `arithmetic::settings::Buffers::fit` meets its contract: settings that fit bound the shares, and M is no 0. Assumes nothing.
 use native.Mathlib.Omega.{arith}
 use Rattle.arithmetic.specs.Rounding.{isMultiple}
 use Rattle.arithmetic.specs.Settings.{buffersFit}

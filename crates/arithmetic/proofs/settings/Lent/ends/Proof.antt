@@ -1,3 +1,4 @@
+-- `arithmetic::settings::Lent::ends` meets its contract: there is room for the length exactly where the sum fits. Assumes nothing.
 use Rattle.arithmetic.specs.RoundingLaws.{room}
 use borrow.Author.Needs.{needs}
 use Rattle.arithmetic.proofs.settings.Lent.ends.Statement.{statement}
