@@ -1,0 +1,4 @@
+-- What the proofs of the crate's functions share.
+pub mod Pass
+pub mod Building
+pub mod Editing

@@ -1,0 +1,90 @@
+-- `vectors::vector::IoVector::append` meets its contract: each step of the building joins what the tests showed to fit. Assumes nothing.
+use mathlib.Core.Path.{_≡_, sym, _∙_}
+use mathlib.Core.Bool.{true, _&&_}
+use mathlib.Core.List.{[]}
+use Prim.Native.Nat.{_+_}
+use native.Mathlib.Omega.{arith}
+use lib.Dec.{leb}
+use lib.ListN.{length}
+use borrow.Author.Tests.{not-true, not-false}
+use Rattle.vectors.specs.Vectors.{isValid}
+use Rattle.vectors.specs.SegmentLaws.{Valid, valid}
+use Rattle.vectors.proofs.Pass.{array-long}
+use Rattle.vectors.proofs.Building.{grown}
+use Rattle.vectors.proofs.Editing.{not-valid, append-other, append-is, append-full, append-first, append-rest, append-done}
+use borrow.Author.Needs.{needs}
+use Rattle.vectors.proofs.vector.IoVector.append.Statement.{statement}
+use Rattle.vectors.proofs.vector.IoVector.append.Tie as tie
+
+-- what the tests have shown
+other-of : (c : tie.Else1) → isValid (c .before .before .args .data-len) (c .before .before .args .other) ≡ true
+other-of c = sym (c .before .valid .ensures) ∙ not-false _ (c .if1 .left)
+
+valid-of : (c : tie.Else2) → Valid (c .before .before .before .before .args .data-len) (c .before .before .before .before .args .self)
+valid-of c = valid _ _ (sym (c .before .valid2 .ensures) ∙ not-false _ (c .if2 .left))
+
+wide-of : (c : tie.Else2) → length (c .before .before .before .before .args .self .segments) ≡ 16
+wide-of c = search (needs, array-long)
+
+wide-other : (c : tie.Else2) → length (c .before .before .before .before .args .other .segments) ≡ 16
+wide-other c = search (needs, array-long)
+
+room-of : (c : tie.Else3) → (leb (c .before .before .before .before .before .before .args .self .count + c .before .before .before .before .before .before .args .other .count) 16 && leb (c .before .before .before .before .before .before .args .self .total + c .before .before .before .before .before .before .args .other .total) 1048576) ≡ true
+room-of c = sym (c .before .has-room .ensures) ∙ not-false _ (c .if3 .left)
+
+valid-requires : tie.Need-valid-requires
+valid-requires c κs = search needs
+
+refused-requires : tie.Need-refused-requires
+refused-requires c κs = search needs
+
+returns : tie.Need-returns
+returns c = c .refused .ensures ∙ append-other _ _ _ (sym (c .before .before .valid .ensures) ∙ not-true _ (c .before .if1 .taken))
+
+valid-requires-2 : tie.Need-valid-requires-2
+valid-requires-2 c κs = search needs
+
+refused-requires-2 : tie.Need-refused-requires-2
+refused-requires-2 c κs = search needs
+
+returns-2 : tie.Need-returns-2
+returns-2 c = c .refused2 .ensures ∙ not-valid _ _ _ (sym (c .before .before .valid2 .ensures) ∙ not-true _ (c .before .if2 .taken)) ∙ append-is (c .before .before .before .before .before .args .data-len) (c .before .before .before .before .before .args .self) (c .before .before .before .before .before .args .other) (other-of (c .before .before .before))
+
+has-room-requires : tie.Need-has-room-requires
+has-room-requires c κs = (valid-of c .few, omega (arith, valid-of c .total, valid-of c .fit .small))
+
+refused-requires-3 : tie.Need-refused-requires-3
+refused-requires-3 c κs = search needs
+
+returns-3 : tie.Need-returns-3
+returns-3 c = let k = c .before .before .before in c .refused3 .ensures ∙ append-full _ _ _ (wide-of k) (wide-other k) (valid-of k) (valid _ _ (other-of (k .before .before))) (sym (c .before .before .has-room .ensures) ∙ not-true _ (c .before .if3 .taken))
+
+new-requires : tie.Need-new-requires
+new-requires c κs = search needs
+
+joined-requires : tie.Need-joined-requires
+joined-requires c κs = let k = c .before .before .before in append-first _ _ _ (wide-of k) (wide-other k) (valid-of k) (valid _ _ (other-of (k .before .before))) (room-of (c .before)) (c .new .result) (c .new .ensures)
+
+joined-requires-2 : tie.Need-joined-requires-2
+joined-requires-2 c κs = let k = c .before .before .before .before in append-rest _ _ _ (wide-of k) (wide-other k) (valid-of k) (valid _ _ (other-of (k .before .before))) (room-of (c .before .before)) (c .joined .result) (grown [] _ (c .before .new .ensures) (c .joined .ensures))
+
+returns-4 : tie.Need-returns-4
+returns-4 c = let k = c .before .before .before .before .before in append-done _ _ _ (wide-of k) (wide-other k) (valid-of k) (valid _ _ (other-of (k .before .before))) (room-of (c .before .before .before)) (c .joined2 .result) (grown _ _ (grown [] _ (c .before .before .new .ensures) (c .before .joined .ensures)) (c .joined2 .ensures))
+
+pub append-spec : {M : Type 1} → statement M
+append-spec =
+    tie.close
+    (tie.spec
+    valid-requires
+    refused-requires
+    returns
+    valid-requires-2
+    refused-requires-2
+    returns-2
+    has-room-requires
+    refused-requires-3
+    returns-3
+    new-requires
+    joined-requires
+    joined-requires-2
+    returns-4)

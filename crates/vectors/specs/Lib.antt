@@ -1,0 +1,4 @@
+-- What the contracts of vectors cite, and the laws on it.
+pub mod Vectors
+pub mod Joining
+pub mod SegmentLaws

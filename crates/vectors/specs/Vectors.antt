@@ -1,0 +1,173 @@
+-- Document 01, "Vector": the segments of a vector as a list, and what each call makes of it.
+-- A vector that a call returns is `vectorOf` its list of segments: what stands past the count is zero.
+use mathlib.Core.Bool.{Bool, true, false, _&&_, _||_}
+use mathlib.Core.List.{List, [], _∷_, _++_}
+use Prim.Native.Nat.{ℕ, _+_, _-_, max, min}
+use lib.Dec.{ltb, leb, eqb}
+use lib.ListN.{length, take, drop, replicate}
+use Rattle.arithmetic.specs.Rounding.{pick, fits, isMultiple}
+use Rattle.arithmetic.specs.Settings.{alignmentsFit, lengthAlign}
+use Rattle.arithmetic.specs.declared.refusals.Refusal.the-variants.{Unfit, Segment as BadSegment, Buffer}
+use Rattle.arithmetic.specs.declared.refusals.Outcome.{Outcome}
+use Rattle.arithmetic.specs.declared.refusals.Outcome.the-variants.{Done, Refused}
+use Rattle.arithmetic.specs.declared.settings.Alignments.{Alignments}
+use Rattle.arithmetic.specs.declared.settings.Lent.{Lent}
+use Rattle.vectors.specs.declared.vector.Segment.{Segment}
+use Rattle.vectors.specs.declared.vector.IoVector.{IoVector}
+use Rattle.vectors.specs.declared.vector.Changed.{Changed}
+use Rattle.vectors.specs.declared.vector.Halves.{Halves}
+use Rattle.vectors.specs.declared.vector.Alignment.{Alignment}
+use Rattle.vectors.specs.declared.vector.Alignment.the-variants.{Aligned, Unaligned, Refused as NotAsked}
+
+-- ---- what a vector is
+
+abbrev pub segment : ℕ → ℕ → Segment
+segment s n = record { start = s; length = n }
+
+abbrev pub none : Segment
+none = segment 0 0
+
+-- the segments in use: the first `count`
+abbrev pub segmentsOf : IoVector → List Segment
+segmentsOf v = take (v .count) (v .segments)
+
+-- how many bytes the segments hold
+unfoldable pub sizeOf : List Segment → ℕ
+sizeOf [] = 0
+sizeOf (p ∷ ps) = p .length + sizeOf ps
+
+-- not empty, and inside data of n bytes
+unfoldable pub liesIn : ℕ → Segment → Bool
+liesIn n p = ltb 0 (p .length) && leb (p .start + p .length) n
+
+unfoldable pub allSegments : (Segment → Bool) → List Segment → Bool
+allSegments test [] = true
+allSegments test (p ∷ ps) = test p && allSegments test ps
+
+unfoldable pub anySegment : (Segment → Bool) → List Segment → Bool
+anySegment test [] = false
+anySegment test (p ∷ ps) = test p || anySegment test ps
+
+-- "Up to 16 pieces (start, length) of the data, none empty, 1,048,576 bytes in total."
+unfoldable pub segmentsFit : ℕ → List Segment → Bool
+segmentsFit n ps = leb (length ps) 16 && (allSegments (liesIn n) ps && leb (sizeOf ps) 1048576)
+
+-- the vector of a list of at most 16 segments
+unfoldable pub vectorOf : List Segment → IoVector
+vectorOf ps = record { segments = ps ++ replicate (16 - length ps) none; count = length ps; total = sizeOf ps }
+
+-- a vector over data of n bytes: any value of the type may come in, and another than this is 202
+unfoldable pub isValid : ℕ → IoVector → Bool
+isValid n v = leb (v .count) 16 && (segmentsFit n (segmentsOf v) && eqb (v .total) (sizeOf (segmentsOf v)))
+
+-- ---- push, insert, append
+
+abbrev pub refusedVector : IoVector → Changed
+refusedVector v = record { vector = v; outcome = Refused BadSegment }
+
+-- v with the segments ps in the place of its own, where both fit
+unfoldable pub changedTo : ℕ → IoVector → List Segment → Changed
+changedTo n v ps = pick (isValid n v && segmentsFit n ps) (record { vector = vectorOf ps; outcome = Done }) (refusedVector v)
+
+unfoldable pub pushOf : ℕ → IoVector → Segment → Changed
+pushOf n v p = changedTo n v (segmentsOf v ++ (p ∷ []))
+
+-- an index past the count: 202
+unfoldable pub insertOf : ℕ → IoVector → ℕ → Segment → Changed
+insertOf n v i p = pick (leb i (v .count)) (changedTo n v (take i (segmentsOf v) ++ (p ∷ drop i (segmentsOf v)))) (refusedVector v)
+
+unfoldable pub appendOf : ℕ → IoVector → IoVector → Changed
+appendOf n v w = pick (isValid n w) (changedTo n v (segmentsOf v ++ segmentsOf w)) (refusedVector v)
+
+-- ---- split
+
+-- the segments of the first mid bytes
+unfoldable pub headOf : List Segment → ℕ → List Segment
+headOf [] mid = []
+headOf (p ∷ ps) mid = pick (eqb mid 0) [] (pick (ltb mid (p .length)) (segment (p .start) mid ∷ []) (p ∷ headOf ps (mid - p .length)))
+
+-- the segments of the bytes from mid on
+unfoldable pub tailOf : List Segment → ℕ → List Segment
+tailOf [] mid = []
+tailOf (p ∷ ps) mid =
+    pick (eqb mid 0) (p ∷ ps) (pick (ltb mid (p .length)) (segment (p .start + mid) (p .length - mid) ∷ ps) (tailOf ps (mid - p .length)))
+
+-- "A split at or past the total gives the whole and an empty tail. A split at 0 of a vector with pieces gives an empty head."
+unfoldable pub splitOf : ℕ → IoVector → ℕ → Halves
+splitOf n v mid =
+    pick (isValid n v)
+    (record { head = vectorOf (headOf (segmentsOf v) mid); tail = vectorOf (tailOf (segmentsOf v) mid); outcome = Done })
+    (record { head = v; tail = vectorOf []; outcome = Refused BadSegment })
+
+unfoldable pub splitTailOf : ℕ → IoVector → ℕ → Changed
+splitTailOf n v mid =
+    pick (isValid n v) (record { vector = vectorOf (tailOf (segmentsOf v) mid); outcome = Done }) (refusedVector v)
+
+-- ---- bytes: "each area is filled or used up before the next" (POSIX readv, writev)
+
+-- bs in the place of l's elements from a on
+unfoldable pub put : {A : Type 0} → List A → ℕ → List A → List A
+put l a bs = take a l ++ (bs ++ drop (length bs) (drop a l))
+
+-- the bytes of the segments, joined in order
+unfoldable pub bytesOf : List ℕ → List Segment → List ℕ
+bytesOf memory [] = []
+bytesOf memory (p ∷ ps) = take (p .length) (drop (p .start) memory) ++ bytesOf memory ps
+
+-- the bytes src into the segments in order: where segments overlap, the later wins
+unfoldable pub scatterOf : List ℕ → List Segment → List ℕ → List ℕ
+scatterOf memory [] src = memory
+scatterOf memory (p ∷ ps) src = scatterOf (put memory (p .start) (take (p .length) src)) ps (drop (p .length) src)
+
+-- the byte b into every byte of the segments
+unfoldable pub fillOf : List ℕ → List Segment → ℕ → List ℕ
+fillOf memory [] b = memory
+fillOf memory (p ∷ ps) b = fillOf (put memory (p .start) (replicate (p .length) b)) ps b
+
+-- whether a slice of n bytes is copied to or from v: "copy of another length" is 202
+unfoldable pub copies : List ℕ → IoVector → ℕ → Bool
+copies memory v n = isValid (length memory) v && eqb n (v .total)
+
+abbrev pub outcomeOf : Bool → Outcome
+outcomeOf t = pick t Done (Refused BadSegment)
+
+-- whether a buffer of n bytes is long enough for v's: the first of its bytes become v's, the others stay
+unfoldable pub owns : List ℕ → IoVector → ℕ → Bool
+owns memory v n = isValid (length memory) v && leb (v .total) n
+
+unfoldable pub ownedOf : List ℕ → IoVector → List ℕ → List ℕ
+ownedOf memory v buffer =
+    pick (owns memory v (length buffer)) (bytesOf memory (segmentsOf v) ++ drop (v .total) buffer) buffer
+
+-- ---- which vectors share a byte (the test of 203)
+
+-- the segments share an index
+unfoldable pub shares : Segment → Segment → Bool
+shares p q = ltb (max (p .start) (q .start)) (min (p .start + p .length) (q .start + q .length))
+
+unfoldable pub overlapOf : List Segment → List Segment → Bool
+overlapOf ps qs = anySegment (λ p. anySegment (shares p) qs) ps
+
+-- two of the segments share an index
+unfoldable pub selfOverlapOf : List Segment → Bool
+selfOverlapOf [] = false
+selfOverlapOf (p ∷ ps) = anySegment (shares p) ps || selfOverlapOf ps
+
+-- ---- alignment
+
+-- every segment's address is a multiple of m and its length of l, over data at the address
+unfoldable pub allAligned : ℕ → ℕ → ℕ → List Segment → Bool
+allAligned address m l ps = allSegments (λ p. isMultiple (address + p .start) m && isMultiple (p .length) l) ps
+
+-- "true if M = R = 1; otherwise every piece's address is a multiple of M and its length of L"
+unfoldable pub isAlignedOf : Alignments → ℕ → List Segment → Bool
+isAlignedOf a address ps = (eqb (a .mem) 1 && eqb (a .req) 1) || allAligned address (a .mem) (lengthAlign a) ps
+
+-- 201 for unfit alignments, 205 where the data's address plus its length is past 2^64 - 1, 202 for no vector over the data
+unfoldable pub alignmentOf : Alignments → Lent → IoVector → Alignment
+alignmentOf a lent v =
+    pick (alignmentsFit a)
+    (pick (fits (lent .address + lent .length))
+    (pick (isValid (lent .length) v) (pick (isAlignedOf a (lent .address) (segmentsOf v)) Aligned Unaligned) (NotAsked BadSegment))
+    (NotAsked Buffer))
+    (NotAsked Unfit)
