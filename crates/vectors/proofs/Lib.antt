@@ -2,3 +2,4 @@
 pub mod Pass
 pub mod Building
 pub mod Editing
+pub mod Splitting

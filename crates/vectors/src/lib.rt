@@ -1,2 +1,3 @@
 // Layer 2: I/O vectors over the lent data (imago: impl_io_vector! of io_buffers.rs), gather and scatter.
 pub mod vector; // segments, validity, push, insert, append
+pub mod split; // split_at, split_tail_at

@@ -1,0 +1,110 @@
+// Splits of a vector at a byte.
+use crate::vector::Changed;
+use crate::vector::Halves;
+use crate::vector::IoVector;
+use crate::vector::Segment;
+use crate::vector::SplitPosition;
+use arithmetic::refusals::Outcome;
+use arithmetic::refusals::Refusal;
+ghost use mathlib.Core.Path.{_≡_};
+ghost use Prim.Native.Nat.{_≤_};
+ghost use Rattle.vectors.specs.Vectors.{vectorOf, segmentsOf, splitOf, splitTailOf};
+ghost use Rattle.vectors.specs.Positions.{Cut, positionOf, headAt, tailAt};
+
+impl IoVector {
+    // The first `mid` bytes, and the rest.
+    pub fn split_at(self, mid: u64, data_len: usize) -> Halves
+        ensures { λ r. ⌜ r ≡ splitOf data_len self mid ⌝ }
+    {
+        if !self.valid(data_len) {
+            return Halves {
+                head: self,
+                tail: IoVector::new(),
+                outcome: Outcome::Refused(Refusal::Segment),
+            };
+        }
+        let position = self.do_split_at(mid);
+        Halves {
+            head: self.head_to(position),
+            tail: self.tail_from(position),
+            outcome: Outcome::Done,
+        }
+    }
+
+    // The bytes from `mid` on.
+    pub fn split_tail_at(self, mid: u64, data_len: usize) -> Changed
+        ensures { λ r. ⌜ r ≡ splitTailOf data_len self mid ⌝ }
+    {
+        if !self.valid(data_len) {
+            return self.refused();
+        }
+        let position = self.do_split_at(mid);
+        Changed {
+            vector: self.tail_from(position),
+            outcome: Outcome::Done,
+        }
+    }
+
+    // Where byte `mid` lies; at or past the total, behind the last segment.
+    fn do_split_at(self, mid: u64) -> SplitPosition
+        requires { ⌜ self .count ≤ 16 ⌝ }
+        ensures { λ r. ⌜ r ≡ positionOf (segmentsOf self) mid ⌝ }
+    {
+        let n = self.count;
+        let mut i = 0usize;
+        let mut rest = mid;
+        let position = loop {
+            if n <= i {
+                break SplitPosition {
+                    index: n,
+                    inside: 0,
+                };
+            }
+            let p = self.segments[i];
+            if rest < p.length as u64 {
+                break SplitPosition {
+                    index: i,
+                    inside: rest as usize,
+                };
+            }
+            rest -= p.length as u64;
+            i += 1;
+        };
+        position
+    }
+
+    fn head_to(self, position: SplitPosition) -> IoVector
+        requires { ⌜ Cut self position ⌝ }
+        ensures { λ r. ⌜ r ≡ vectorOf (headAt (segmentsOf self) position) ⌝ }
+    {
+        let index = position.index;
+        let inside = position.inside;
+        let head = IoVector::new().joined(self, 0, index);
+        if inside == 0 {
+            return head;
+        }
+        let p = self.segments[index];
+        head.with(Segment {
+            start: p.start,
+            length: inside,
+        })
+    }
+
+    fn tail_from(self, position: SplitPosition) -> IoVector
+        requires { ⌜ Cut self position ⌝ }
+        ensures { λ r. ⌜ r ≡ vectorOf (tailAt (segmentsOf self) position) ⌝ }
+    {
+        let n = self.count;
+        let index = position.index;
+        let inside = position.inside;
+        if inside == 0 {
+            return IoVector::new().joined(self, index, n - index);
+        }
+        let p = self.segments[index];
+        let first = IoVector::new().with(Segment {
+            start: p.start + inside,
+            length: p.length - inside,
+        });
+        first.joined(self, index + 1, n - (index + 1))
+    }
+}
