@@ -3,3 +3,4 @@ pub mod Pass
 pub mod Building
 pub mod Editing
 pub mod Splitting
+pub mod Testing

@@ -2,6 +2,9 @@
 pub mod Vectors
 pub mod Joining
 pub mod Positions
+pub mod Aligning
+pub mod Places
 pub mod SegmentLaws
 pub mod SplitLaws
 pub mod EditLaws
+pub mod OverlapLaws
