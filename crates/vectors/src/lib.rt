@@ -2,3 +2,4 @@
 pub mod vector; // segments, validity, push, insert, append
 pub mod split; // split_at, split_tail_at
 pub mod overlap; // which vectors share a byte
+pub mod alignment; // whether a vector is aligned

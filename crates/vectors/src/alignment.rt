@@ -1,0 +1,57 @@
+// Whether a vector's segments lie as direct requests need them.
+use crate::vector::Alignment;
+use crate::vector::IoVector;
+use arithmetic::offsets::LARGEST;
+use arithmetic::refusals::Refusal;
+use arithmetic::settings::Alignments;
+use arithmetic::settings::Lent;
+ghost use mathlib.Core.Path.{_≡_};
+ghost use mathlib.Core.Bool.{_&&_, true};
+ghost use Prim.Native.Nat.{_+_, _<_, _≤_};
+ghost use Rattle.arithmetic.specs.Rounding.{isMultiple, fits};
+ghost use Rattle.vectors.specs.Vectors.{segmentsOf, isValid, allAligned, alignmentOf};
+ghost use Rattle.vectors.specs.Aligning.{Placed};
+
+impl IoVector {
+    pub fn is_aligned(self, align: Alignments, data: Lent) -> Alignment
+        ensures { λ r. ⌜ r ≡ alignmentOf align «data» self ⌝ }
+    {
+        if !align.fit() {
+            return Alignment::Refused(Refusal::Unfit);
+        }
+        if LARGEST - data.address < data.length {
+            return Alignment::Refused(Refusal::Buffer);
+        }
+        if !self.valid(data.length as usize) {
+            return Alignment::Refused(Refusal::Segment);
+        }
+        if (align.mem == 1) & (align.req == 1) {
+            return Alignment::Aligned;
+        }
+        if self.segments_aligned(data.address, align.mem, align.length_align()) {
+            Alignment::Aligned
+        } else {
+            Alignment::Unaligned
+        }
+    }
+
+    // Whether every segment's address is a multiple of `mem` and its length of `len`, over data at `address`.
+    fn segments_aligned(self, address: u64, mem: u64, len: u64) -> bool
+        requires { ⌜ Placed self address mem len ⌝ }
+        ensures { λ r. ⌜ r ≡ allAligned address mem len (segmentsOf self) ⌝ }
+    {
+        let n = self.count;
+        let mut i = 0usize;
+        while i < n {
+            let p = self.segments[i];
+            if (address + p.start as u64) % mem != 0 {
+                return false;
+            }
+            if p.length as u64 % len != 0 {
+                return false;
+            }
+            i += 1;
+        }
+        true
+    }
+}
