@@ -3,4 +3,5 @@ pub mod Pass
 pub mod Building
 pub mod Editing
 pub mod Splitting
+pub mod Moving
 pub mod Testing

@@ -8,3 +8,4 @@ pub mod SegmentLaws
 pub mod SplitLaws
 pub mod EditLaws
 pub mod OverlapLaws
+pub mod ByteLaws

@@ -1,0 +1,145 @@
+// The bytes of a vector's segments, copied into a slice and back, and filled.
+use crate::vector::IoVector;
+use arithmetic::refusals::Outcome;
+use arithmetic::refusals::Refusal;
+ghost use mathlib.Core.Path.{_≡_};
+ghost use mathlib.Core.Bool.{true};
+ghost use lib.ListN.{length, replicate};
+ghost use Rattle.arithmetic.specs.Rounding.{pick};
+ghost use Rattle.vectors.specs.Vectors.{segmentsOf, isValid, bytesOf, scatterOf, fillOf, copies, owns, ownedOf, outcomeOf};
+
+// `part` becomes `source`: both have the same length.
+fn copy(part: &mut [u8], source: &[u8])
+    requires { ⌜ length (now part) ≡ length (now source) ⌝ }
+    ensures { λ _. ⌜ now (part .exit) ≡ now (source .entry) ⌝ }
+{
+    let n = source.len();
+    let mut i = 0;
+    while i < n {
+        part[i] = source[i];
+        i += 1;
+    }
+}
+
+// Every byte of `part` becomes `value`.
+pub fn fill_bytes(part: &mut [u8], value: u8)
+    ensures { λ _. ⌜ now (part .exit) ≡ replicate (length (now (part .entry))) value ⌝ }
+{
+    let n = part.len();
+    let mut i = 0;
+    while i < n {
+        part[i] = value;
+        i += 1;
+    }
+}
+
+impl IoVector {
+    fn gather(self, data: &[u8], slice: &mut [u8])
+        requires { ⌜ copies (now «data») self (length (now slice)) ≡ true ⌝ }
+        ensures { λ _. ⌜ now (slice .exit) ≡ bytesOf (now («data» .entry)) (segmentsOf self) ⌝ }
+    {
+        let n = self.count;
+        let mut at = 0usize;
+        let mut i = 0usize;
+        while i < n {
+            let p = self.segments[i];
+            let from = p.start;
+            let to = from + p.length;
+            let next = at + p.length;
+            copy(&mut slice[at..next], &data[from..to]);
+            at = next;
+            i += 1;
+        }
+    }
+
+    fn scatter(self, data: &mut [u8], slice: &[u8])
+        requires { ⌜ copies (now «data») self (length (now slice)) ≡ true ⌝ }
+        ensures { λ _. ⌜ now («data» .exit) ≡ scatterOf (now («data» .entry)) (segmentsOf self) (now (slice .entry)) ⌝ }
+    {
+        let n = self.count;
+        let mut at = 0usize;
+        let mut i = 0usize;
+        while i < n {
+            let p = self.segments[i];
+            let from = p.start;
+            let to = from + p.length;
+            let next = at + p.length;
+            copy(&mut data[from..to], &slice[at..next]);
+            at = next;
+            i += 1;
+        }
+    }
+
+    fn fill_segments(self, data: &mut [u8], value: u8)
+        requires { ⌜ isValid (length (now «data»)) self ≡ true ⌝ }
+        ensures { λ _. ⌜ now («data» .exit) ≡ fillOf (now («data» .entry)) (segmentsOf self) value ⌝ }
+    {
+        let n = self.count;
+        let mut i = 0usize;
+        while i < n {
+            let p = self.segments[i];
+            let from = p.start;
+            let to = from + p.length;
+            fill_bytes(&mut data[from..to], value);
+            i += 1;
+        }
+    }
+
+    // `slice`, as long as the vector, becomes its bytes.
+    pub fn copy_into_slice(self, data: &[u8], slice: &mut [u8]) -> Outcome
+        ensures outcome { λ r. ⌜ r ≡ outcomeOf (copies (now («data» .entry)) self (length (now (slice .entry)))) ⌝ }
+        ensures bytes { λ _. ⌜ now (slice .exit) ≡ pick (copies (now («data» .entry)) self (length (now (slice .entry)))) (bytesOf (now («data» .entry)) (segmentsOf self)) (now (slice .entry)) ⌝ }
+    {
+        if !self.valid(data.len()) {
+            return Outcome::Refused(Refusal::Segment);
+        }
+        if slice.len() as u64 != self.total {
+            return Outcome::Refused(Refusal::Segment);
+        }
+        self.gather(data, slice);
+        Outcome::Done
+    }
+
+    // The bytes of `slice`, as long as the vector, go into its segments in order.
+    pub fn copy_from_slice(self, data: &mut [u8], slice: &[u8]) -> Outcome
+        ensures outcome { λ r. ⌜ r ≡ outcomeOf (copies (now («data» .entry)) self (length (now (slice .entry)))) ⌝ }
+        ensures bytes { λ _. ⌜ now («data» .exit) ≡ pick (copies (now («data» .entry)) self (length (now (slice .entry)))) (scatterOf (now («data» .entry)) (segmentsOf self) (now (slice .entry))) (now («data» .entry)) ⌝ }
+    {
+        if !self.valid(data.len()) {
+            return Outcome::Refused(Refusal::Segment);
+        }
+        if slice.len() as u64 != self.total {
+            return Outcome::Refused(Refusal::Segment);
+        }
+        self.scatter(data, slice);
+        Outcome::Done
+    }
+
+    // Every byte of the segments becomes `value`.
+    pub fn fill(self, data: &mut [u8], value: u8) -> Outcome
+        ensures outcome { λ r. ⌜ r ≡ outcomeOf (isValid (length (now («data» .entry))) self) ⌝ }
+        ensures bytes { λ _. ⌜ now («data» .exit) ≡ pick (isValid (length (now («data» .entry))) self) (fillOf (now («data» .entry)) (segmentsOf self) value) (now («data» .entry)) ⌝ }
+    {
+        if !self.valid(data.len()) {
+            return Outcome::Refused(Refusal::Segment);
+        }
+        self.fill_segments(data, value);
+        Outcome::Done
+    }
+
+    // The first bytes of `buffer`, which is at least as long, become the vector's.
+    pub fn try_into_owned(self, data: &[u8], buffer: &mut [u8]) -> Outcome
+        ensures outcome { λ r. ⌜ r ≡ outcomeOf (owns (now («data» .entry)) self (length (now (buffer .entry)))) ⌝ }
+        ensures bytes { λ _. ⌜ now (buffer .exit) ≡ ownedOf (now («data» .entry)) self (now (buffer .entry)) ⌝ }
+    {
+        if !self.valid(data.len()) {
+            return Outcome::Refused(Refusal::Segment);
+        }
+        if (buffer.len() as u64) < self.total {
+            return Outcome::Refused(Refusal::Segment);
+        }
+        let end = self.total as usize;
+        self.gather(data, &mut buffer[..end]);
+        Outcome::Done
+    }
+}
