@@ -39,15 +39,15 @@ impl IoVector {
         ensures { λ _. ⌜ now (slice .exit) ≡ bytesOf (now («data» .entry)) (segmentsOf self) ⌝ }
     {
         let n = self.count;
-        let mut at = 0usize;
+        let mut filled = 0usize;
         let mut i = 0usize;
         while i < n {
             let p = self.segments[i];
             let from = p.start;
             let to = from + p.length;
-            let next = at + p.length;
-            copy(&mut slice[at..next], &data[from..to]);
-            at = next;
+            let next = filled + p.length;
+            copy(&mut slice[filled..next], &data[from..to]);
+            filled = next;
             i += 1;
         }
     }
@@ -57,15 +57,15 @@ impl IoVector {
         ensures { λ _. ⌜ now («data» .exit) ≡ scatterOf (now («data» .entry)) (segmentsOf self) (now (slice .entry)) ⌝ }
     {
         let n = self.count;
-        let mut at = 0usize;
+        let mut taken = 0usize;
         let mut i = 0usize;
         while i < n {
             let p = self.segments[i];
             let from = p.start;
             let to = from + p.length;
-            let next = at + p.length;
-            copy(&mut data[from..to], &slice[at..next]);
-            at = next;
+            let next = taken + p.length;
+            copy(&mut data[from..to], &slice[taken..next]);
+            taken = next;
             i += 1;
         }
     }

@@ -25,7 +25,7 @@ element-copy-out-p : tie.Need-element-copy-out-p Inv-loop μ-loop
 element-copy-out-p c = omega (arith, c .before .loop .inv .few)
 
 sub-rest : tie.Need-sub-rest Inv-loop μ-loop
-sub-rest c = c .if2 .left
+sub-rest c = omega (arith, c .if2 .left)
 
 add-i : tie.Need-add-i Inv-loop μ-loop
 add-i c = omega (arith, c .before .before .before .loop .inv .few, c .before .before .if1 .left)
@@ -34,13 +34,13 @@ loop-less : tie.Need-loop-less Inv-loop μ-loop
 loop-less c = omega (arith, c .before .before .if1 .left)
 
 loop-again : tie.Need-loop-again Inv-loop μ-loop
-loop-again c = walk-next _ _ _ _ (c .before .before .before .loop .inv) (c .before .before .if1 .left) (c .if2 .left)
+loop-again c = walk-next _ _ _ _ (c .before .before .before .loop .inv) (c .before .before .if1 .left) (omega (arith, c .if2 .left))
 
 returns : tie.Need-returns Inv-loop μ-loop
 returns c = walk-end _ _ _ _ (c .before .loop .inv) (c .if1 .taken)
 
 returns-2 : tie.Need-returns-2 Inv-loop μ-loop
-returns-2 c = walk-here _ _ _ _ (c .before .before .before .loop .inv) (c .before .before .if1 .left) (c .if2 .taken)
+returns-2 c = walk-here _ _ _ _ (c .before .before .before .loop .inv) (c .before .before .if1 .left) (omega (arith, c .if2 .taken))
 
 pub do-split-at-spec : {M : Type 1} → statement M
 do-split-at-spec =

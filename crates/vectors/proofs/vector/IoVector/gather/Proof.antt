@@ -11,10 +11,10 @@ use Rattle.vectors.proofs.vector.IoVector.gather.Statement.{statement}
 use Rattle.vectors.proofs.vector.IoVector.gather.Tie as tie
 
 abbrev Inv-loop : tie.InvT-loop
-Inv-loop «data» slice₀ self n at₀ i₀ slice at i = Gathered self «data» slice at i
+Inv-loop «data» slice₀ self n filled₀ i₀ slice filled i = Gathered self «data» slice filled i
 
 abbrev μ-loop : tie.MeasureT-loop
-μ-loop «data» slice₀ self n at₀ i₀ slice at i = self .count - i
+μ-loop «data» slice₀ self n filled₀ i₀ slice filled i = self .count - i
 
 loop-holds : tie.Need-loop-holds Inv-loop μ-loop
 loop-holds c = let a = c .before .before .args in
@@ -63,7 +63,7 @@ loop-less c = omega (arith, gather-fits _ _ _ _ _ (c .before .before .before .be
 loop-again : tie.Need-loop-again Inv-loop μ-loop
 loop-again c = let l = c .before .before .before .before .before .before .before .before .before .loop in
     let a = c .before .before .before .before .before .before .before .before .before .before .before .before .args in
-    rw (copied-back (l .slice) (now (a .«data»)) (l .at) (nth (a .t1) (l .i) .length) (nth (a .t1) (l .i) .start) (c .before .before .copy .last .0) (omega (arith, gather-fits _ _ _ _ _ (c .before .before .before .before .before .before .before .before .before .loop .inv) (c .before .before .before .before .before .before .before .before .loop-test .taken))) (c .before .before .copy .ensures))
+    rw (copied-back (l .slice) (now (a .«data»)) (l .filled) (nth (a .t1) (l .i) .length) (nth (a .t1) (l .i) .start) (c .before .before .copy .last .0) (omega (arith, gather-fits _ _ _ _ _ (c .before .before .before .before .before .before .before .before .before .loop .inv) (c .before .before .before .before .before .before .before .before .loop-test .taken))) (c .before .before .copy .ensures))
     (gather-step _ _ _ _ _ (l .inv) (c .before .before .before .before .before .before .before .before .loop-test .taken))
 
 same-length : tie.Need-same-length Inv-loop μ-loop

@@ -11,10 +11,10 @@ use Rattle.vectors.proofs.vector.IoVector.scatter.Statement.{statement}
 use Rattle.vectors.proofs.vector.IoVector.scatter.Tie as tie
 
 abbrev Inv-loop : tie.InvT-loop
-Inv-loop data₀ slice self n at₀ i₀ «data» at i = Scattered self data₀ slice «data» at i
+Inv-loop data₀ slice self n taken₀ i₀ «data» taken i = Scattered self data₀ slice «data» taken i
 
 abbrev μ-loop : tie.MeasureT-loop
-μ-loop data₀ slice self n at₀ i₀ «data» at i = self .count - i
+μ-loop data₀ slice self n taken₀ i₀ «data» taken i = self .count - i
 
 loop-holds : tie.Need-loop-holds Inv-loop μ-loop
 loop-holds c = let a = c .before .before .args in
@@ -63,7 +63,7 @@ loop-less c = omega (arith, scatter-fits _ _ _ _ _ _ (c .before .before .before 
 loop-again : tie.Need-loop-again Inv-loop μ-loop
 loop-again c = let l = c .before .before .before .before .before .before .before .before .before .loop in
     let a = c .before .before .before .before .before .before .before .before .before .before .before .before .args in
-    rw (copied-back (l .«data») (now (a .slice)) (nth (a .t1) (l .i) .start) (nth (a .t1) (l .i) .length) (l .at) (c .before .before .copy .last .0) (omega (arith, scatter-fits _ _ _ _ _ _ (c .before .before .before .before .before .before .before .before .before .loop .inv) (c .before .before .before .before .before .before .before .before .loop-test .taken))) (c .before .before .copy .ensures))
+    rw (copied-back (l .«data») (now (a .slice)) (nth (a .t1) (l .i) .start) (nth (a .t1) (l .i) .length) (l .taken) (c .before .before .copy .last .0) (omega (arith, scatter-fits _ _ _ _ _ _ (c .before .before .before .before .before .before .before .before .before .loop .inv) (c .before .before .before .before .before .before .before .before .loop-test .taken))) (c .before .before .copy .ensures))
     (scatter-step _ _ _ _ _ _ (l .inv) (c .before .before .before .before .before .before .before .before .loop-test .taken))
 
 same-length : tie.Need-same-length Inv-loop μ-loop
