@@ -1,4 +1,4 @@
-// Copies, fills and overlaps, over 26 letters.
+// Copies and fills over 26 letters, and overlaps.
 use crate::show;
 use vectors::bytes;
 use vectors::vector::IoVector;
@@ -39,56 +39,50 @@ fn three() -> IoVector {
     show::more(show::more(show::one(2, 3), 8, 4), 20, 5)
 }
 
-pub fn into_slice() {
-    let v = three();
+fn into(label: &[u8], v: IoVector, slice: &mut [u8]) {
     let data = letters();
-    let mut right = [46u8; 12];
-    let done = v.copy_into_slice(&data, &mut right);
-    show::bytes(b"copy into 12 bytes", done, &right);
-    let mut short = [46u8; 11];
-    let refused = v.copy_into_slice(&data, &mut short);
-    show::bytes(b"copy into 11 bytes", refused, &short);
-    let mut long = [46u8; 13];
-    let over = v.copy_into_slice(&data, &mut long);
-    show::bytes(b"copy into 13 bytes", over, &long);
+    let done = v.copy_into_slice(&data, slice);
+    show::bytes(label, done, slice);
 }
 
-pub fn into_slice_outside() {
-    let data = letters();
-    let mut three_bytes = [46u8; 3];
-    let outside = show::more(show::one(0, 1), 25, 2).copy_into_slice(&data, &mut three_bytes);
-    show::bytes(
+pub fn into_slice() {
+    into(b"copy into 12 bytes", three(), &mut [46u8; 12]);
+    into(b"copy into 11 bytes", three(), &mut [46u8; 11]);
+    into(b"copy into 13 bytes", three(), &mut [46u8; 13]);
+    into(
         b"copy of a segment one past the data",
-        outside,
-        &three_bytes,
+        show::one(25, 2),
+        &mut [46u8; 2],
     );
 }
 
-pub fn from_slice() {
-    let v = three();
+fn from(label: &[u8], v: IoVector, slice: &[u8]) {
     let mut data = letters();
-    let refused = v.copy_from_slice(&mut data, b"ABCDEFGHIJK");
-    show::bytes(b"copy from 11 bytes", refused, &data);
-    let done = v.copy_from_slice(&mut data, b"ABCDEFGHIJKL");
-    show::bytes(b"copy from 12 bytes", done, &data);
-    let over = v.copy_from_slice(&mut data, b"ABCDEFGHIJKLM");
-    show::bytes(b"copy from 13 bytes", over, &data);
-    let mut again = letters();
-    let twice = show::more(show::one(0, 4), 2, 4);
-    let later = twice.copy_from_slice(&mut again, b"ABCDEFGH");
-    show::bytes(b"copy over two that overlap", later, &again);
-    let mut none = letters();
-    let nothing = IoVector::new().copy_from_slice(&mut none, b"");
-    show::bytes(b"copy from nothing", nothing, &none);
+    let done = v.copy_from_slice(&mut data, slice);
+    show::bytes(label, done, &data);
+}
+
+pub fn from_slice() {
+    from(b"copy from 11 bytes", three(), b"ABCDEFGHIJK");
+    from(b"copy from 12 bytes", three(), b"ABCDEFGHIJKL");
+    from(b"copy from 13 bytes", three(), b"ABCDEFGHIJKLM");
+    from(
+        b"copy over two that overlap",
+        show::more(show::one(0, 4), 2, 4),
+        b"ABCDEFGH",
+    );
+    from(b"copy from nothing", IoVector::new(), b"");
+}
+
+fn fill(label: &[u8], v: IoVector) {
+    let mut data = letters();
+    let done = v.fill(&mut data, 46);
+    show::bytes(label, done, &data);
 }
 
 pub fn fills() {
-    let mut data = letters();
-    let done = three().fill(&mut data, 46);
-    show::bytes(b"fill", done, &data);
-    let mut other = letters();
-    let refused = show::one(20, 7).fill(&mut other, 46);
-    show::bytes(b"fill outside of the data", refused, &other);
+    fill(b"fill", three());
+    fill(b"fill one past the data", show::one(20, 7));
     let mut eight = [65u8; 8];
     bytes::fill_bytes(&mut eight, 46);
     show::text(b"fill eight bytes: ");
@@ -96,38 +90,44 @@ pub fn fills() {
     show::text(b"\n");
 }
 
-pub fn owned() {
-    let v = three();
+fn own(label: &[u8], buffer: &mut [u8]) {
     let data = letters();
-    let mut long = [46u8; 16];
-    let done = v.try_into_owned(&data, &mut long);
-    show::bytes(b"own in 16 bytes", done, &long);
-    let mut right = [46u8; 12];
-    let exact = v.try_into_owned(&data, &mut right);
-    show::bytes(b"own in 12 bytes", exact, &right);
-    let mut short = [46u8; 11];
-    let refused = v.try_into_owned(&data, &mut short);
-    show::bytes(b"own in 11 bytes", refused, &short);
+    let done = three().try_into_owned(&data, buffer);
+    show::bytes(label, done, buffer);
+}
+
+pub fn owned() {
+    own(b"own in 16 bytes", &mut [46u8; 16]);
+    own(b"own in 12 bytes", &mut [46u8; 12]);
+    own(b"own in 11 bytes", &mut [46u8; 11]);
+}
+
+fn overlap(label: &[u8], v: IoVector, start: usize, length: usize) {
+    show::yes_no(label, v.overlaps(show::one(start, length)));
 }
 
 pub fn overlaps() {
     let v = show::one(4, 4);
-    show::yes_no(b"overlap with one before", v.overlaps(show::one(0, 4)));
-    show::yes_no(b"overlap of one byte before", v.overlaps(show::one(0, 5)));
-    show::yes_no(b"overlap with one behind", v.overlaps(show::one(8, 1)));
-    show::yes_no(b"overlap of one byte behind", v.overlaps(show::one(7, 1)));
-    show::yes_no(b"overlap with nothing", v.overlaps(IoVector::new()));
-    show::yes_no(
-        b"overlap of three with the gap",
-        three().overlaps(show::one(5, 3)),
-    );
-    show::yes_no(
+    overlap(b"overlap with one before", v, 0, 4);
+    overlap(b"overlap of one byte before", v, 0, 5);
+    overlap(b"overlap with one behind", v, 8, 1);
+    overlap(b"overlap of one byte behind", v, 7, 1);
+    overlap(b"overlap of three with the gap", three(), 5, 3);
+    overlap(
         b"overlap of three with the gap and one byte",
-        three().overlaps(show::one(12, 9)),
+        three(),
+        12,
+        9,
     );
-    let mut end = v;
-    end.segments[0].start = 18446744073709551615;
-    show::yes_no(b"overlap at the end of the numbers", end.overlaps(end));
+    overlap(b"overlap of nothing", IoVector::new(), 0, 9);
+}
+
+// A segment that ends past 2^64 - 1.
+pub fn past_the_end() {
+    let mut v = show::one(4, 4);
+    v.segments[0].start = 18446744073709551615;
+    show::yes_no(b"overlap at the end of the numbers", v.overlaps(v));
+    overlap(b"overlap of that with the first bytes", v, 0, 9);
 }
 
 pub fn overlaps_itself() {
@@ -137,7 +137,7 @@ pub fn overlaps_itself() {
         show::more(three(), 5, 3).overlaps_itself(),
     );
     show::yes_no(
-        b"three and one byte of the last overlap",
+        b"three and a byte of the last overlap",
         show::more(three(), 24, 1).overlaps_itself(),
     );
     show::yes_no(

@@ -3,11 +3,19 @@ use crate::show;
 use vectors::vector::IoVector;
 use vectors::vector::Segment;
 
-fn at(start: usize, length: usize) -> Segment {
-    Segment { start, length }
+fn push(label: &[u8], v: IoVector, start: usize, length: usize, data_len: usize) {
+    show::changed(label, v.push(Segment { start, length }, data_len));
 }
 
-// n segments of one byte, side by side, of a long enough data.
+fn insert(label: &[u8], v: IoVector, index: usize, start: usize, length: usize) {
+    show::changed(label, v.insert(index, Segment { start, length }, 100));
+}
+
+fn append(label: &[u8], v: IoVector, other: IoVector) {
+    show::changed(label, v.append(other, 2000000));
+}
+
+// n segments of one byte, side by side.
 fn side_by_side(n: usize) -> IoVector {
     let mut v = IoVector::new();
     let mut i = 0usize;
@@ -32,63 +40,60 @@ pub fn first() {
 
 pub fn segment_limits() {
     let v = show::one(0, 2);
-    show::changed(b"push one short of the end of 8", v.push(at(6, 1), 8));
-    show::changed(b"push up to the end of 8", v.push(at(7, 1), 8));
-    show::changed(b"push one past the end of 8", v.push(at(7, 2), 8));
-    show::changed(b"push behind the end of 8", v.push(at(8, 1), 8));
-    show::changed(b"push an empty one", v.push(at(4, 0), 8));
-    show::changed(
+    push(b"push one short of the end of 8", v, 6, 1, 8);
+    push(b"push up to the end of 8", v, 7, 1, 8);
+    push(b"push one past the end of 8", v, 7, 2, 8);
+    push(b"push behind the end of 8", v, 8, 1, 8);
+    push(b"push an empty one", v, 4, 0, 8);
+    push(
         b"push one whose end is past 2^64 - 1",
-        v.push(at(18446744073709551615, 1), 8),
+        v,
+        18446744073709551615,
+        1,
+        8,
     );
-    show::changed(b"push to a vector outside of 1 byte", v.push(at(0, 1), 1));
+    push(b"push to a vector outside of 1 byte", v, 0, 1, 1);
 }
 
 pub fn count_limits() {
     let v = side_by_side(15);
     show::vector_line(b"15 segments", v);
-    let w = v.push(at(15, 1), 100);
-    show::changed(b"push the 16th", w);
-    show::changed(b"push the 17th", w.vector.push(at(16, 1), 100));
-    show::changed(b"insert the 17th", w.vector.insert(0, at(16, 1), 100));
+    push(b"push the 16th", v, 15, 1, 100);
+    let w = show::more(v, 15, 1);
+    push(b"push the 17th", w, 16, 1, 100);
+    insert(b"insert the 16th", v, 0, 15, 1);
+    insert(b"insert the 17th", w, 0, 16, 1);
 }
 
 pub fn total_limits() {
     let v = IoVector::new();
-    show::changed(b"push 1048575 bytes", v.push(at(0, 1048575), 2000000));
-    show::changed(b"push 1048576 bytes", v.push(at(0, 1048576), 2000000));
-    show::changed(b"push 1048577 bytes", v.push(at(0, 1048577), 2000000));
+    push(b"push 1048575 bytes", v, 0, 1048575, 2000000);
+    push(b"push 1048576 bytes", v, 0, 1048576, 2000000);
+    push(b"push 1048577 bytes", v, 0, 1048577, 2000000);
     let w = show::one(0, 1048575);
-    show::changed(b"push 1 byte more", w.push(at(7, 1), 2000000));
-    show::changed(b"push 2 bytes more", w.push(at(7, 2), 2000000));
+    push(b"push 1 byte more", w, 7, 1, 2000000);
+    push(b"push 2 bytes more", w, 7, 2, 2000000);
 }
 
 pub fn inserts() {
     let v = show::more(show::one(10, 1), 20, 2);
-    show::changed(b"insert at 0", v.insert(0, at(30, 3), 100));
-    show::changed(b"insert at 1", v.insert(1, at(30, 3), 100));
-    show::changed(b"insert at the count", v.insert(2, at(30, 3), 100));
-    show::changed(b"insert past the count", v.insert(3, at(30, 3), 100));
-    show::changed(b"insert an empty one", v.insert(1, at(30, 0), 100));
+    insert(b"insert at 0", v, 0, 30, 3);
+    insert(b"insert at 1", v, 1, 30, 3);
+    insert(b"insert at the count", v, 2, 30, 3);
+    insert(b"insert past the count", v, 3, 30, 3);
+    insert(b"insert an empty one", v, 1, 30, 0);
 }
 
 pub fn appends() {
     let eight = side_by_side(8);
-    let nine = side_by_side(9);
     let half = show::one(0, 524288);
-    show::changed(b"append nothing", half.append(IoVector::new(), 2000000));
-    show::changed(b"append to nothing", IoVector::new().append(half, 2000000));
-    show::changed(b"append 8 to 8", eight.append(eight, 100));
-    show::changed(b"append 9 to 8", eight.append(nine, 100));
-    show::changed(b"append up to 1048576 bytes", half.append(half, 2000000));
-    show::changed(
-        b"append one byte more",
-        half.append(show::one(0, 524289), 2000000),
-    );
-    show::changed(
-        b"append one outside of the data",
-        eight.append(show::one(100, 1), 100),
-    );
+    append(b"append nothing", half, IoVector::new());
+    append(b"append to nothing", IoVector::new(), half);
+    append(b"append 8 to 8", eight, eight);
+    append(b"append 9 to 8", eight, side_by_side(9));
+    append(b"append up to 1048576 bytes", half, half);
+    append(b"append one byte more", half, show::one(0, 524289));
+    show::changed(b"append one outside of the data", eight.append(half, 100));
 }
 
 // Values of the type that no call returns.
@@ -99,11 +104,11 @@ pub fn values() {
     let mut total = v;
     total.total = 6;
     show::yes_no(b"valid with a total one over", total.valid(7));
-    let mut count = v;
-    count.count = 17;
-    show::yes_no(b"valid with 17 segments", count.valid(100));
     let mut hidden = v;
     hidden.count = 3;
     show::yes_no(b"valid with an empty segment", hidden.valid(7));
-    show::changed(b"push to 17 segments", count.push(at(0, 1), 100));
+    let mut count = v;
+    count.count = 17;
+    show::yes_no(b"valid with 17 segments", count.valid(100));
+    push(b"push to 17 segments", count, 0, 1, 100);
 }

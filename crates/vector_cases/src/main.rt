@@ -14,12 +14,13 @@ fn main() {
     edits::appends();
     edits::values();
     splits::all();
+    splits::edges();
     copies::into_slice();
-    copies::into_slice_outside();
     copies::from_slice();
     copies::fills();
     copies::owned();
     copies::overlaps();
+    copies::past_the_end();
     copies::overlaps_itself();
     aligned::answers();
     aligned::lengths();
