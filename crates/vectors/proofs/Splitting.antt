@@ -16,7 +16,7 @@ use Rattle.vectors.specs.Vectors.{segment, none, segmentsOf, sizeOf, lie
 use Rattle.vectors.specs.Joining.{Room, Joins}
 use Rattle.vectors.specs.Positions.{position, behind, positionOf, headAt, tailAt, Cut}
 use Rattle.vectors.specs.SegmentLaws.{size-cut, size-at, all-at, lies, Valid, valid}
-use Rattle.vectors.specs.SplitLaws.{Placed, placed}
+use Rattle.vectors.specs.SplitLaws.{Located, located}
 use Rattle.vectors.proofs.Pass.{nth, in-use, first, same, none-left}
 use Rattle.vectors.proofs.Building.{room-of, joins-of}
 
@@ -69,7 +69,7 @@ pub cut-of : (n : ℕ) (v : IoVector) (mid : ℕ) (c : SplitPosition) → length
 cut-of n v mid c w z h e =
     let ps = segmentsOf v in
     let k = in-use v w (h .few) in
-    let p : Placed ps mid = placed n ps mid (h .fit .lie) in
+    let p : Located ps mid = located n ps mid (h .fit .lie) in
     let part : (c .inside ≡ 0 → ⊥) → (c .index < length ps) × (c .inside < getD ps (c .index) none .length) = rw e (p .part) in
     let read : c .index < length ps → getD ps (c .index) none ≡ nth v (c .index) = λ l. same v w (c .index) l in
     record {
@@ -168,7 +168,7 @@ pub split-done : (n : ℕ) (v : IoVector) (mid : ℕ) (c : SplitPosition) (h t :
     → h ≡ vectorOf (headAt (segmentsOf v) c) → t ≡ vectorOf (tailAt (segmentsOf v) c) → record { head = h; tail = t; outcome = Done } ≡ splitOf n v mid
 unfolding splitOf
 split-done n v mid c h t e p f g =
-    let q = placed n (segmentsOf v) mid (valid n v e .fit .lie) in
+    let q = located n (segmentsOf v) mid (valid n v e .fit .lie) in
     rw (e, f, g, p, q .head, q .tail)
 
 pub tail-refused : (n : ℕ) (v : IoVector) (mid : ℕ) → isValid n v ≡ false → refusedVector v ≡ splitTailOf n v mid
@@ -179,5 +179,5 @@ pub tail-done : (n : ℕ) (v : IoVector) (mid : ℕ) (c : SplitPosition) (t : Io
     → t ≡ vectorOf (tailAt (segmentsOf v) c) → record { vector = t; outcome = Done } ≡ splitTailOf n v mid
 unfolding splitTailOf
 tail-done n v mid c t e p g =
-    let q = placed n (segmentsOf v) mid (valid n v e .fit .lie) in
+    let q = located n (segmentsOf v) mid (valid n v e .fit .lie) in
     rw (e, g, p, q .tail)

@@ -1,4 +1,4 @@
--- Laws of a split: the bytes of head and tail are those of the whole, their sizes, and that parts of a list that fits fit. Assumes nothing.
+-- Laws of a split: bytes, sizes and flat positions of head and tail are those of the whole, and parts of a list that fits fit. Assumes nothing.
 use mathlib.Core.Path.{_≡_, refl, sym, ap, _∙_}
 use mathlib.Core.Bool.{Bool, true, false}
 use mathlib.Core.List.{List, [], _∷_, _++_, append-assoc, append-nil}
@@ -17,6 +17,7 @@ use Rattle.vectors.specs.declared.vector.Segment.{Segment}
 use Rattle.vectors.specs.declared.vector.SplitPosition.{SplitPosition}
 use Rattle.vectors.specs.Vectors.{segment, none, sizeOf, liesIn, allSegments, segmentsFit, headOf, tailOf, bytesOf}
 use Rattle.vectors.specs.Positions.{position, behind, positionOf, headAt, tailAt}
+use Rattle.vectors.specs.Places.{placeOf}
 use Rattle.vectors.specs.SegmentLaws.{both, Lies, lies, lies-true, fit, fit-true}
 
 -- ---- the three cases of a split at a list's first segment
@@ -154,6 +155,73 @@ module _ (n : ℕ) where
         small = omega (arith, f .small, tail-size ps mid);
       })
 
+-- ---- flat positions
+
+-- byte i of the head is byte i of the whole
+pub head-place : (ps : List Segment) (mid i : ℕ) → i < mid → i < sizeOf ps → placeOf (headOf ps mid) i ≡ placeOf ps i
+unfolding placeOf sizeOf headOf
+head-place [] mid i h l = absurd (omega arith)
+head-place (p ∷ ps) mid i h l =
+    ⊎-elim (λ b. absurd (omega (arith, b .is)))
+    (λ r. ⊎-elim (λ w. inside w) (λ b. past b (λ g. head-place ps (mid - p .length) (i - p .length) (omega (arith, b .is)) (omega arith))) r)
+    (cases p ps mid)
+  where
+    inside : Within p ps mid → placeOf (headOf (p ∷ ps) mid) i ≡ placeOf (p ∷ ps) i
+    inside w = let k : i < p .length = omega (arith, w .is) in rw (w .head) (rw (lt-ltb i mid h, lt-ltb i (p .length) k))
+
+    past : Past p ps mid → (p .length ≤ i → placeOf (headOf ps (mid - p .length)) (i - p .length) ≡ placeOf ps (i - p .length)) → placeOf (headOf (p ∷ ps) mid) i ≡ placeOf (p ∷ ps) i
+    past b f = rw (b .head) (elim (decLt i (p .length)) [
+      | yes k ↦ rw (lt-ltb i (p .length) k)
+      | no k ↦ let g : p .length ≤ i = omega arith in rw (le-ltb i (p .length) g) (f g)
+    ])
+
+-- and byte i of the tail is byte mid + i
+pub tail-place : (ps : List Segment) (mid i : ℕ) → mid + i < sizeOf ps → placeOf (tailOf ps mid) i ≡ placeOf ps (mid + i)
+unfolding placeOf sizeOf tailOf
+tail-place [] mid i l = absurd (omega arith)
+tail-place (p ∷ ps) mid i l =
+    ⊎-elim (λ b. before b)
+    (λ r. ⊎-elim (λ w. inside w) (λ b. past b (tail-place ps (mid - p .length) i (omega (arith, b .is)))) r)
+    (cases p ps mid)
+  where
+    before : Before p ps mid → placeOf (tailOf (p ∷ ps) mid) i ≡ placeOf (p ∷ ps) (mid + i)
+    before b = let k : i ≡ mid + i = omega (arith, b .is) in rw (b .tail) (ap (placeOf (p ∷ ps)) k)
+
+    inside : Within p ps mid → placeOf (tailOf (p ∷ ps) mid) i ≡ placeOf (p ∷ ps) (mid + i)
+    inside w = rw (w .tail) (elim (decLt i (p .length - mid)) [
+      | yes k ↦
+          let m : mid + i < p .length = omega arith in
+          rw (lt-ltb i (p .length - mid) k, lt-ltb (mid + i) (p .length) m) (omega arith)
+      | no k ↦
+          let g : p .length - mid ≤ i = omega arith in
+          let m : p .length ≤ mid + i = omega (arith, w .is) in
+          let e : i - (p .length - mid) ≡ mid + i - p .length = omega (arith, w .is) in
+          rw (le-ltb i (p .length - mid) g, le-ltb (mid + i) (p .length) m) (ap (placeOf ps) e)
+    ])
+
+    past : Past p ps mid → placeOf (tailOf ps (mid - p .length)) i ≡ placeOf ps (mid - p .length + i) → placeOf (tailOf (p ∷ ps) mid) i ≡ placeOf (p ∷ ps) (mid + i)
+    past b f =
+        let m : p .length ≤ mid + i = omega (arith, b .is) in
+        let e : mid - p .length + i ≡ mid + i - p .length = omega (arith, b .is) in
+        rw (b .tail, le-ltb (mid + i) (p .length) m) (f ∙ ap (placeOf ps) e)
+
+-- of two lists joined, the first's bytes come first
+pub place-left : (ps qs : List Segment) (i : ℕ) → i < sizeOf ps → placeOf (ps ++ qs) i ≡ placeOf ps i
+unfolding placeOf sizeOf
+place-left [] qs i l = absurd (omega arith)
+place-left (p ∷ ps) qs i l = elim (decLt i (p .length)) [
+  | yes k ↦ rw (lt-ltb i (p .length) k)
+  | no k ↦ let g : p .length ≤ i = omega arith in rw (le-ltb i (p .length) g) (place-left ps qs (i - p .length) (omega arith))
+]
+
+pub place-right : (ps qs : List Segment) (i : ℕ) → placeOf (ps ++ qs) (sizeOf ps + i) ≡ placeOf qs i
+unfolding placeOf sizeOf
+place-right [] qs i = let k : 0 + i ≡ i = omega arith in ap (placeOf qs) k
+place-right (p ∷ ps) qs i =
+    let m : p .length ≤ p .length + sizeOf ps + i = omega arith in
+    let e : p .length + sizeOf ps + i - p .length ≡ sizeOf ps + i = omega arith in
+    rw (le-ltb (p .length + sizeOf ps + i) (p .length) m) (ap (placeOf (ps ++ qs)) e ∙ place-right ps qs i)
+
 -- ---- the position of a split
 
 picked : (t : Bool) (p : Segment) (a b : List Segment) → pick t (p ∷ a) (p ∷ b) ≡ p ∷ pick t a b
@@ -170,26 +238,26 @@ unfolding tailAt
 tail-behind p ps c = rw (add-one (c .index), add-one (suc (c .index)))
 
 -- in a list of no empty segments
-pub record Placed (ps : List Segment) (mid : ℕ) : Type 0 where
+pub record Located (ps : List Segment) (mid : ℕ) : Type 0 where
   pub head : headAt ps (positionOf ps mid) ≡ headOf ps mid
   pub tail : tailAt ps (positionOf ps mid) ≡ tailOf ps mid
   pub reach : positionOf ps mid .index ≤ length ps
   pub part : (positionOf ps mid .inside ≡ 0 → ⊥) → (positionOf ps mid .index < length ps) × (positionOf ps mid .inside < getD ps (positionOf ps mid .index) none .length)
 
-pub placed : (n : ℕ) (ps : List Segment) (mid : ℕ) → allSegments (liesIn n) ps ≡ true → Placed ps mid
+pub located : (n : ℕ) (ps : List Segment) (mid : ℕ) → allSegments (liesIn n) ps ≡ true → Located ps mid
 unfolding positionOf headOf tailOf headAt tailAt allSegments
-placed n [] mid e = record { head = refl; tail = refl; reach = omega arith; part = λ z. absurd (z refl) }
-placed n (p ∷ ps) mid e =
+located n [] mid e = record { head = refl; tail = refl; reach = omega arith; part = λ z. absurd (z refl) }
+located n (p ∷ ps) mid e =
     let l = lies n p (and-left (liesIn n p) (allSegments (liesIn n) ps) e) in
-    ⊎-elim (λ b. first b l) (λ r. ⊎-elim (λ w. inside w) (λ b. past b (placed n ps (mid - p .length) (and-right (liesIn n p) (allSegments (liesIn n) ps) e))) r) (cases p ps mid)
+    ⊎-elim (λ b. first b l) (λ r. ⊎-elim (λ w. inside w) (λ b. past b (located n ps (mid - p .length) (and-right (liesIn n p) (allSegments (liesIn n) ps) e))) r) (cases p ps mid)
   where
-    first : Before p ps mid → Lies n p → Placed (p ∷ ps) mid
+    first : Before p ps mid → Lies n p → Located (p ∷ ps) mid
     first b l =
         let k : mid < p .length = omega (arith, b .is, l .positive) in
         let q : positionOf (p ∷ ps) mid ≡ position 0 0 = rw (lt-ltb mid (p .length) k) (ap (λ (m : ℕ). position 0 m) (b .is)) in
         record { head = rw q (sym (b .head)); tail = rw q (sym (b .tail)); reach = rw q (omega arith); part = rw q (λ z. absurd (z refl)) }
 
-    inside : Within p ps mid → Placed (p ∷ ps) mid
+    inside : Within p ps mid → Located (p ∷ ps) mid
     inside w =
         let q : positionOf (p ∷ ps) mid ≡ position 0 mid = simp (lt-ltb mid (p .length) (w .is)) in
         let z : mid ≡ 0 → ⊥ = omega (arith, w .some) in
@@ -200,7 +268,7 @@ placed n (p ∷ ps) mid e =
           part = rw q (λ y. (omega arith, w .is));
         }
 
-    past : Past p ps mid → Placed ps (mid - p .length) → Placed (p ∷ ps) mid
+    past : Past p ps mid → Located ps (mid - p .length) → Located (p ∷ ps) mid
     past b i =
         let q : positionOf (p ∷ ps) mid ≡ behind 1 (positionOf ps (mid - p .length)) = simp (le-ltb mid (p .length) (b .is)) in
         record {

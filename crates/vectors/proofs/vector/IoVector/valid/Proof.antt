@@ -2,7 +2,7 @@
 use borrow.Author.Needs.{needs}
 use native.Mathlib.Omega.{arith}
 use mathlib.Core.Path.{_≡_, sym, _∙_}
-use Prim.Native.Nat.{_-_}
+use Prim.Native.Nat.{_-_, _<_}
 use lib.ListN.{length}
 use borrow.Author.Tests.{not-true, not-false, lt-leb}
 use Rattle.vectors.specs.Vectors.{isValid}
@@ -18,10 +18,10 @@ abbrev μ-loop : tie.MeasureT-loop
 
 returns : tie.Need-returns Inv-loop μ-loop
 unfolding isValid
-returns c = simp (lt-leb _ _ (c .if1 .taken))
+returns c = let h : 16 < c .before .args .t1 .count = omega (arith, c .if1 .taken) in simp (lt-leb _ _ h)
 
 loop-holds : tie.Need-loop-holds Inv-loop μ-loop
-loop-holds c = let w : length (c .before .args .t1 .segments) ≡ 16 = search (needs, array-long) in check-start (c .before .args .data-len) (c .before .args .t1) w (c .if1 .left)
+loop-holds c = let w : length (c .before .args .t1 .segments) ≡ 16 = search (needs, array-long) in check-start (c .before .args .data-len) (c .before .args .t1) w (omega (arith, c .if1 .left))
 
 mul-p : tie.Need-mul-p Inv-loop μ-loop
 mul-p c = omega (arith, c .before .loop .inv .few)
