@@ -6,13 +6,12 @@ use arithmetic::refusals::Refusal;
 use arithmetic::settings::Alignments;
 use arithmetic::settings::Lent;
 ghost use mathlib.Core.Path.{_≡_};
-ghost use mathlib.Core.Bool.{_&&_, true};
-ghost use Prim.Native.Nat.{_+_, _<_, _≤_};
-ghost use Rattle.arithmetic.specs.Rounding.{isMultiple, fits};
-ghost use Rattle.vectors.specs.Vectors.{segmentsOf, isValid, allAligned, alignmentOf};
+ghost use Rattle.vectors.specs.Vectors.{segmentsOf, allAligned, alignmentOf};
 ghost use Rattle.vectors.specs.Aligning.{Placed};
 
 impl IoVector {
+    // Whether direct requests can use the segments. Refused: 201 for unfit alignments, then 205 for data that ends past
+    // 2^64 - 1, then 202 for no vector over the data.
     pub fn is_aligned(self, align: Alignments, data: Lent) -> Alignment
         ensures { λ r. ⌜ r ≡ alignmentOf align «data» self ⌝ }
     {

@@ -34,6 +34,7 @@ pub fn fill_bytes(part: &mut [u8], value: u8)
 }
 
 impl IoVector {
+    // `slice` becomes the bytes of the segments, joined in order.
     fn gather(self, data: &[u8], slice: &mut [u8])
         requires { ⌜ copies (now «data») self (length (now slice)) ≡ true ⌝ }
         ensures { λ _. ⌜ now (slice .exit) ≡ bytesOf (now («data» .entry)) (segmentsOf self) ⌝ }
@@ -52,6 +53,7 @@ impl IoVector {
         }
     }
 
+    // The bytes of `slice` go into the segments, each filled before the next.
     fn scatter(self, data: &mut [u8], slice: &[u8])
         requires { ⌜ copies (now «data») self (length (now slice)) ≡ true ⌝ }
         ensures { λ _. ⌜ now («data» .exit) ≡ scatterOf (now («data» .entry)) (segmentsOf self) (now (slice .entry)) ⌝ }
@@ -70,6 +72,7 @@ impl IoVector {
         }
     }
 
+    // Every byte of the segments becomes `value`.
     fn fill_segments(self, data: &mut [u8], value: u8)
         requires { ⌜ isValid (length (now «data»)) self ≡ true ⌝ }
         ensures { λ _. ⌜ now («data» .exit) ≡ fillOf (now («data» .entry)) (segmentsOf self) value ⌝ }
@@ -85,7 +88,7 @@ impl IoVector {
         }
     }
 
-    // `slice`, as long as the vector, becomes its bytes.
+    // `slice`, as long as the vector, becomes its bytes. Refused where it is of another length.
     pub fn copy_into_slice(self, data: &[u8], slice: &mut [u8]) -> Outcome
         ensures outcome { λ r. ⌜ r ≡ outcomeOf (copies (now («data» .entry)) self (length (now (slice .entry)))) ⌝ }
         ensures bytes { λ _. ⌜ now (slice .exit) ≡ pick (copies (now («data» .entry)) self (length (now (slice .entry)))) (bytesOf (now («data» .entry)) (segmentsOf self)) (now (slice .entry)) ⌝ }
@@ -100,7 +103,8 @@ impl IoVector {
         Outcome::Done
     }
 
-    // The bytes of `slice`, as long as the vector, go into its segments in order.
+    // The bytes of `slice`, as long as the vector, go into its segments in order: where these overlap, the later wins.
+    // Refused where it is of another length.
     pub fn copy_from_slice(self, data: &mut [u8], slice: &[u8]) -> Outcome
         ensures outcome { λ r. ⌜ r ≡ outcomeOf (copies (now («data» .entry)) self (length (now (slice .entry)))) ⌝ }
         ensures bytes { λ _. ⌜ now («data» .exit) ≡ pick (copies (now («data» .entry)) self (length (now (slice .entry)))) (scatterOf (now («data» .entry)) (segmentsOf self) (now (slice .entry))) (now («data» .entry)) ⌝ }
@@ -127,7 +131,7 @@ impl IoVector {
         Outcome::Done
     }
 
-    // The first bytes of `buffer`, which is at least as long, become the vector's.
+    // The first bytes of `buffer`, which is at least as long as the vector, become its bytes. Refused where it is shorter.
     pub fn try_into_owned(self, data: &[u8], buffer: &mut [u8]) -> Outcome
         ensures outcome { λ r. ⌜ r ≡ outcomeOf (owns (now («data» .entry)) self (length (now (buffer .entry)))) ⌝ }
         ensures bytes { λ _. ⌜ now (buffer .exit) ≡ ownedOf (now («data» .entry)) self (now (buffer .entry)) ⌝ }

@@ -1,5 +1,6 @@
 // Which segments share a byte: the test of refusal 203. Total for any value of the types.
 use crate::vector::IoVector;
+use crate::vector::MAX_COUNT;
 use crate::vector::Segment;
 ghost use mathlib.Core.Path.{_≡_};
 ghost use Prim.Native.Nat.{_≤_};
@@ -23,7 +24,11 @@ impl IoVector {
     fn used(self) -> usize
         ensures { λ r. ⌜ r ≡ length (segmentsOf self) ⌝ }
     {
-        if self.count < 16 { self.count } else { 16 }
+        if self.count < MAX_COUNT {
+            self.count
+        } else {
+            MAX_COUNT
+        }
     }
 
     // Whether `segment` shares a byte with one of the segments from `start` on.

@@ -73,6 +73,7 @@ impl IoVector {
         position
     }
 
+    // The segments before the position: of the one it lies in, the first part.
     fn head_to(self, position: SplitPosition) -> IoVector
         requires { ⌜ Cut self position ⌝ }
         ensures { λ r. ⌜ r ≡ vectorOf (headAt (segmentsOf self) position) ⌝ }
@@ -90,6 +91,7 @@ impl IoVector {
         })
     }
 
+    // The segments from the position on: of the one it lies in, the last part.
     fn tail_from(self, position: SplitPosition) -> IoVector
         requires { ⌜ Cut self position ⌝ }
         ensures { λ r. ⌜ r ≡ vectorOf (tailAt (segmentsOf self) position) ⌝ }

@@ -2,9 +2,9 @@
 use arithmetic::refusals::Outcome;
 use arithmetic::refusals::Refusal;
 ghost use mathlib.Core.Path.{_≡_};
-ghost use mathlib.Core.Bool.{true, _&&_};
+ghost use mathlib.Core.Bool.{_&&_};
 ghost use mathlib.Core.List.{[], _∷_, _++_};
-ghost use Prim.Native.Nat.{_+_, _<_, _≤_};
+ghost use Prim.Native.Nat.{_+_, _≤_};
 ghost use lib.Dec.{eqb, leb};
 ghost use lib.ListN.{take, drop};
 ghost use Rattle.vectors.specs.Vectors.{vectorOf, segmentsOf, liesIn, isValid, refusedVector, pushOf, insertOf, appendOf};
@@ -48,7 +48,7 @@ pub enum Alignment {
     Refused(Refusal),
 }
 
-const MAX_COUNT: usize = 16;
+pub(crate) const MAX_COUNT: usize = 16;
 
 const MAX_TOTAL: u64 = 1048576;
 
@@ -65,6 +65,7 @@ impl Segment {
 }
 
 impl IoVector {
+    // The vector of no segments.
     pub fn new() -> IoVector
         ensures { λ r. ⌜ r ≡ vectorOf [] ⌝ }
     {
@@ -79,12 +80,14 @@ impl IoVector {
         }
     }
 
+    // How many bytes the segments hold.
     pub fn len(self) -> u64
         ensures { λ r. ⌜ r ≡ self .total ⌝ }
     {
         self.total
     }
 
+    // How many segments are in use.
     pub fn buffer_count(self) -> usize
         ensures { λ r. ⌜ r ≡ self .count ⌝ }
     {
@@ -156,6 +159,7 @@ impl IoVector {
         v
     }
 
+    // 202: the vector stays as it was.
     pub(crate) fn refused(self) -> Changed
         ensures { λ r. ⌜ r ≡ refusedVector self ⌝ }
     {
@@ -165,12 +169,14 @@ impl IoVector {
         }
     }
 
+    // With `segment` at the end. Refused where the vector is none over the data, or would then be none.
     pub fn push(self, segment: Segment, data_len: usize) -> Changed
         ensures { λ r. ⌜ r ≡ pushOf data_len self segment ⌝ }
     {
         self.insert(self.count, segment, data_len)
     }
 
+    // With `segment` before the one at `index`, which is at most the count. Refused as push is.
     pub fn insert(self, index: usize, segment: Segment, data_len: usize) -> Changed
         ensures { λ r. ⌜ r ≡ insertOf data_len self index segment ⌝ }
     {
@@ -195,6 +201,7 @@ impl IoVector {
         }
     }
 
+    // With the segments of `other` at the end. Refused as push is, and where `other` is no vector over the data.
     pub fn append(self, other: IoVector, data_len: usize) -> Changed
         ensures { λ r. ⌜ r ≡ appendOf data_len self other ⌝ }
     {
