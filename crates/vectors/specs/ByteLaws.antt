@@ -7,7 +7,7 @@ use Prim.Native.Nat.{ℕ, zero, suc, _+_, _-_, _≤_, _<_}
 use native.Mathlib.Nat.{zero-add, suc-add}
 use native.Mathlib.Decide.{decLt}
 use native.Mathlib.Omega.{arith}
-use lib.ListN.{length, take, drop, getD, replicate, length-append, length-take, length-drop, length-replicate, take-append-drop, getD-replicate, List·getD-append}
+use lib.ListN.{length, take, drop, getD, replicate, length-append, length-take, length-drop, length-replicate, replicate-append-replicate, take-append-drop, getD-replicate, List·getD-append}
 use lib.Seq.{take-at, drop-at, take-take, take-nil, drop-drop, take-append-le, take-append-seam, drop-append-add, length-take-le, getD-take, getD-drop, getD-append-add}
 use borrow.Author.Tests.{lt-ltb, le-ltb, le-leb}
 use Rattle.arithmetic.specs.SettingsLaws.{and-left, and-right}
@@ -161,12 +161,19 @@ scatter-length l (p ∷ ps) src e =
     let bs = take (p .length) src in
     scatter-length (put l (p .start) bs) ps (drop (p .length) src) (still l p ps bs e (taken p src)) ∙ length-put l (p .start) bs (fits l p ps bs e (taken p src))
 
+-- a fill is a scatter of one byte over and over
+pub fill-is : (l : List ℕ) (ps : List Segment) (b : ℕ) → fillOf l ps b ≡ scatterOf l ps (replicate (sizeOf ps) b)
+unfolding fillOf scatterOf sizeOf
+fill-is l [] b = refl
+fill-is l (p ∷ ps) b =
+    let n = p .length in
+    let m = sizeOf ps in
+    let r = length-replicate n b in
+    fill-is (put l (p .start) (replicate n b)) ps b
+    ∙ (rw (← replicate-append-replicate n m b, take-at (replicate n b) (replicate m b) n r, drop-at (replicate n b) (replicate m b) n r))
+
 pub fill-length : (l : List ℕ) (ps : List Segment) (b : ℕ) → allSegments (liesIn (length l)) ps ≡ true → length (fillOf l ps b) ≡ length l
-unfolding fillOf
-fill-length l [] b e = refl
-fill-length l (p ∷ ps) b e =
-    let bs = replicate (p .length) b in
-    fill-length (put l (p .start) bs) ps b (still l p ps bs e (filling p b)) ∙ length-put l (p .start) bs (fits l p ps bs e (filling p b))
+fill-length l ps b e = ap length (fill-is l ps b) ∙ scatter-length l ps (replicate (sizeOf ps) b) e
 
 -- off the segments every byte is as it was
 pub scatter-off : (l : List ℕ) (ps : List Segment) (src : List ℕ) (k : ℕ) → allSegments (liesIn (length l)) ps ≡ true → covered ps k ≡ false → getD (scatterOf l ps src) k 0 ≡ getD l k 0
@@ -178,12 +185,7 @@ scatter-off l (p ∷ ps) src k e o =
     ∙ kept l p ps bs e (taken p src) k (or-left (inSegment k p) (anySegment (inSegment k) ps) o)
 
 pub fill-off : (l : List ℕ) (ps : List Segment) (b : ℕ) (k : ℕ) → allSegments (liesIn (length l)) ps ≡ true → covered ps k ≡ false → getD (fillOf l ps b) k 0 ≡ getD l k 0
-unfolding fillOf covered anySegment
-fill-off l [] b k e o = refl
-fill-off l (p ∷ ps) b k e o =
-    let bs = replicate (p .length) b in
-    fill-off (put l (p .start) bs) ps b k (still l p ps bs e (filling p b)) (or-right (inSegment k p) (anySegment (inSegment k) ps) o)
-    ∙ kept l p ps bs e (filling p b) k (or-left (inSegment k p) (anySegment (inSegment k) ps) o)
+fill-off l ps b k e o = ap (λ (t : List ℕ). getD t k 0) (fill-is l ps b) ∙ scatter-off l ps (replicate (sizeOf ps) b) k e o
 
 -- on them every byte is the one filled in
 pub fill-on : (l : List ℕ) (ps : List Segment) (b : ℕ) (k : ℕ) → allSegments (liesIn (length l)) ps ≡ true → covered ps k ≡ true → getD (fillOf l ps b) k 0 ≡ b

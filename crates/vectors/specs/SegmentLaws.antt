@@ -44,12 +44,6 @@ module _ (test : Segment → Bool) where
   all-at (p ∷ ps) zero d h e = and-left (test p) (allSegments test ps) e
   all-at (p ∷ ps) (suc i) d h e = all-at ps i d (le-of-suc-le-suc h) (and-right (test p) (allSegments test ps) e)
 
-  pub all-other : (other : Segment → Bool) (ps : List Segment) → ((p : Segment) → test p ≡ true → other p ≡ true) → allSegments test ps ≡ true → allSegments other ps ≡ true
-  unfolding allSegments
-  all-other other [] f e = refl
-  all-other other (p ∷ ps) f e =
-      both (other p) (allSegments other ps) (f p (and-left (test p) (allSegments test ps) e)) (all-other other ps f (and-right (test p) (allSegments test ps) e))
-
 module _ (ps : List Segment) (i : ℕ) (d : Segment) (h : i < length ps) where
   -- the segments from i on are the one at i and those from i + 1 on
   pub from-at : drop i ps ≡ getD ps i d ∷ drop (i + 1) ps
@@ -58,10 +52,6 @@ module _ (ps : List Segment) (i : ℕ) (d : Segment) (h : i < length ps) where
   pub size-at : sizeOf (drop i ps) ≡ getD ps i d .length + sizeOf (drop (i + 1) ps)
   unfolding sizeOf
   size-at = ap sizeOf from-at
-
-  pub all-step : (test : Segment → Bool) → allSegments test (drop i ps) ≡ (test (getD ps i d) && allSegments test (drop (i + 1) ps))
-  unfolding allSegments
-  all-step test = ap (allSegments test) from-at
 
 -- ---- what fits
 
@@ -81,10 +71,6 @@ pub lies-true : (n : ℕ) (p : Segment) → Lies n p → liesIn n p ≡ true
 unfolding liesIn
 lies-true n p l = both _ _ (lt-ltb _ _ (l .positive)) (le-leb _ _ (l .ends))
 
--- what lies in data of n bytes lies in longer data
-pub lies-more : (n m : ℕ) → n ≤ m → (p : Segment) → liesIn n p ≡ true → liesIn m p ≡ true
-lies-more n m h p e = let l = lies n p e in lies-true m p (record { positive = l .positive; ends = omega (arith, l .ends) })
-
 pub record Fit (n : ℕ) (ps : List Segment) : Type 0 where
   pub few : length ps ≤ 16
   pub lie : allSegments (liesIn n) ps ≡ true
@@ -103,10 +89,6 @@ fit n ps e =
 pub fit-true : (n : ℕ) (ps : List Segment) → Fit n ps → segmentsFit n ps ≡ true
 unfolding segmentsFit
 fit-true n ps f = both _ _ (le-leb _ _ (f .few)) (both _ _ (f .lie) (le-leb _ _ (f .small)))
-
-pub fit-none : (n : ℕ) → Fit n []
-unfolding sizeOf allSegments
-fit-none n = record { few = omega arith; lie = refl; small = omega arith }
 
 pub record Valid (n : ℕ) (v : IoVector) : Type 0 where
   pub few : v .count ≤ 16
