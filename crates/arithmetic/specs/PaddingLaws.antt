@@ -5,18 +5,24 @@ use mathlib.Core.Logic.{_⊎_, inl, inr, ⊎-elim}
 use Prim.Native.Nat.{ℕ, _+_, _-_, _*_, _%_, _^_, _<_, _≤_}
 use native.Mathlib.Nat.{mod-eq-of-lt, mod-self, zero-mod}
 use native.Mathlib.Decide.{decLt, ℕ-discrete}
-use borrow.Author.Tests.{le-leb, lt-ltb, eq-eqb, ne-eqb}
+use borrow.Author.Tests.{le-leb, lt-ltb, eq-eqb, ne-eqb, eqb-true}
 use native.Mathlib.Omega.{arith}
-use Rattle.arithmetic.specs.Rounding.{pick, fits, roundDown, roundUp}
+use Rattle.arithmetic.specs.Rounding.{pick, fits, isMultiple, roundDown, roundUp}
+use Rattle.arithmetic.specs.Offsets.{rangeOf}
+use lib.Dec.{eqb}
 use Rattle.arithmetic.specs.RoundingLaws.{multiple-add, multiple-sub, multiple-trans, multiple-le, down-le, down-near, down-multiple, up-ge, up-near, up-multiple, up-least, up-same, true-fits}
 use Rattle.arithmetic.specs.Settings.{alignmentsFit, lengthAlign}
-use Rattle.arithmetic.specs.SettingsLaws.{and-right, Aligned, aligned}
-use Rattle.arithmetic.specs.Padding.{paddedStart, roundedEnd, paddedLength, paddedEnd, paddingFits, headOf, tailOf, spanOf, paddedOf, paddingOf, readsOf, within, isRead}
+use Rattle.arithmetic.specs.SettingsLaws.{and-left, and-right, Aligned, aligned}
+use Rattle.arithmetic.specs.Padding.{paddedStart, roundedEnd, paddedLength, paddedEnd, paddingFits, headOf, tailOf, spanOf, paddedOf, paddingOf, isDirect, bounced, transferOf, readsOf, within, isRead}
 use Rattle.arithmetic.specs.declared.refusals.Refusal.the-variants.{Unfit, Overflow}
 use Rattle.arithmetic.specs.declared.offsets.StoreOffset.{StoreOffset}
 use Rattle.arithmetic.specs.declared.settings.Alignments.{Alignments}
 use Rattle.arithmetic.specs.declared.padding.Span.{Span}
+use Rattle.arithmetic.specs.declared.offsets.Range.{Range}
+use Rattle.arithmetic.specs.declared.padding.Padding.{Padding}
 use Rattle.arithmetic.specs.declared.padding.Padding.the-variants.{Padded, Refused}
+use Rattle.arithmetic.specs.declared.padding.Transfer.{Transfer}
+use Rattle.arithmetic.specs.declared.padding.Transfer.the-variants.{Direct, Bounced, Refused as NoTransfer}
 
 -- x rounded up to r and then to l, a multiple of r, is x rounded up to l
 pub up-twice : (x r l : ℕ) → 0 < r → 0 < l → l % r ≡ 0 → roundUp (roundUp x r) l ≡ roundUp x l
@@ -171,8 +177,10 @@ pub record Spans (a : Alignments) (o n : ℕ) (s : Span) : Type 0 where
   pub least : (k : ℕ) → k % lengthAlign a ≡ 0 → s .head .0 + n ≤ k → s .length ≤ k
   pub prefix : Edge (s .head .0) (lengthAlign a)
   pub prefix-is : s .prefix ≡ roundUp (s .head .0) (lengthAlign a)
+  pub prefix-le : s .prefix ≤ s .length
   pub suffix : Edge (s .end .0 - (o + n)) (lengthAlign a)
   pub suffix-is : s .suffix ≡ roundUp (s .end .0 - (o + n)) (lengthAlign a)
+  pub suffix-le : s .suffix ≤ s .length
 
 spans-of : (a : Alignments) (o n : ℕ) → Aligned a → paddingFits (a .req) (lengthAlign a) o n ≡ true → Spans a o n (spanOf (a .req) (lengthAlign a) o n)
 unfolding spanOf paddingFits
@@ -193,18 +201,62 @@ spans-of a o n k e =
       least = length-least r l o n p q m;
       prefix = prefix-edge r l o n p q m;
       prefix-is = refl;
+      prefix-le = up-least (headOf r o) l (paddedLength r l o n) q (length-multiple r l o n p q m) (omega (arith, end-ge r l o n p q m, start-le r l o n p q m));
       suffix = suffix-edge r l o n p q m;
       suffix-is = refl;
+      suffix-le = up-least (tailOf r l o n) l (paddedLength r l o n) q (length-multiple r l o n p q m) (omega (arith, end-ge r l o n p q m, start-le r l o n p q m));
     }
 
-pub spans : (a : Alignments) (o : StoreOffset) (n : ℕ) (s : Span) → paddingOf a o n ≡ Padded s → Spans a (o .0) n s
-unfolding paddingOf paddedOf
-spans a o n s e = go (alignmentsFit a) (paddingFits (a .req) (lengthAlign a) (o .0) n) refl refl e
+padded-spans : (a : Alignments) (o n : ℕ) (s : Span) → Aligned a → paddedOf (a .req) (lengthAlign a) o n ≡ Padded s → Spans a o n s
+unfolding paddedOf
+padded-spans a o n s k e = go (paddingFits (a .req) (lengthAlign a) o n) refl e
   where
-    go : (x y : Bool) → alignmentsFit a ≡ x → paddingFits (a .req) (lengthAlign a) (o .0) n ≡ y
-        → pick x (pick y (Padded (spanOf (a .req) (lengthAlign a) (o .0) n)) (Refused Overflow)) (Refused Unfit) ≡ Padded s → Spans a (o .0) n s
-    go true true p q e =
-        let i : spanOf (a .req) (lengthAlign a) (o .0) n ≡ s = cc in
-        rw i at (spans-of a (o .0) n (aligned a p) q)
-    go true false p q e = let z : _≡_ {A = ℕ} 0 1 = cc in absurd (omega arith)
-    go false y p q e = let z : _≡_ {A = ℕ} 0 1 = cc in absurd (omega arith)
+    go : (y : Bool) → paddingFits (a .req) (lengthAlign a) o n ≡ y → pick y (Padded (spanOf (a .req) (lengthAlign a) o n)) (Refused Overflow) ≡ Padded s → Spans a o n s
+    go true q e =
+        let i : spanOf (a .req) (lengthAlign a) o n ≡ s = cc in
+        rw i at (spans-of a o n k q)
+    go false q e = let z : _≡_ {A = ℕ} 0 1 = cc in absurd (omega arith)
+
+pub spans : (a : Alignments) (o : StoreOffset) (n : ℕ) (s : Span) → paddingOf a o n ≡ Padded s → Spans a (o .0) n s
+unfolding paddingOf
+spans a o n s e = go (alignmentsFit a) refl e
+  where
+    go : (x : Bool) → alignmentsFit a ≡ x → pick x (paddedOf (a .req) (lengthAlign a) (o .0) n) (Refused Unfit) ≡ Padded s → Spans a (o .0) n s
+    go true p e = padded-spans a (o .0) n s (aligned a p) e
+    go false p e = let z : _≡_ {A = ℕ} 0 1 = cc in absurd (omega arith)
+
+-- ---- what `direct_or_padded` gives
+
+-- direct: the asked range, at multiples of R
+pub record Directs (a : Alignments) (o n : ℕ) (x : Range) : Type 0 where
+  pub is : x ≡ rangeOf o (o + n)
+  pub fits : o + n < 2 ^ 64
+  pub start : o % a .req ≡ 0
+  pub whole : n % a .req ≡ 0
+
+-- what a transfer that is not refused says
+unfoldable pub Transfers : Alignments → ℕ → ℕ → Transfer → Type 0
+Transfers a o n (Direct x) = Directs a o n x
+Transfers a o n (Bounced s) = Spans a o n s
+Transfers a o n (NoTransfer r) = Unit {0}
+
+transfers-by : (a : Alignments) (o n : ℕ) → Aligned a → (p : Padding) → paddedOf (a .req) (lengthAlign a) o n ≡ p → Transfers a o n (bounced p)
+unfolding Transfers
+transfers-by a o n k (Padded s) e = padded-spans a o n s k e
+transfers-by a o n k (Refused r) e = tt
+
+pub transfers : (a : Alignments) (o : StoreOffset) (n : ℕ) (t : Bool) → Transfers a (o .0) n (transferOf a o n t)
+unfolding transferOf isDirect Transfers isMultiple
+transfers a o n t = go (alignmentsFit a) (fits (o .0 + n)) (t && eqb (o .0 % a .req) 0 && eqb (n % a .req) 0) refl refl refl
+  where
+    go : (x y z : Bool) → alignmentsFit a ≡ x → fits (o .0 + n) ≡ y → (t && eqb (o .0 % a .req) 0 && eqb (n % a .req) 0) ≡ z
+        → Transfers a (o .0) n (pick x (pick y (pick z (Direct (rangeOf (o .0) (o .0 + n))) (bounced (paddedOf (a .req) (lengthAlign a) (o .0) n))) (NoTransfer Overflow)) (NoTransfer Unfit))
+    go true true true p q d = record {
+      is = refl;
+      fits = true-fits (o .0 + n) q;
+      start = eqb-true _ _ (and-right t _ (and-left _ (eqb (n % a .req) 0) d));
+      whole = eqb-true _ _ (and-right (t && eqb (o .0 % a .req) 0) _ d);
+    }
+    go true true false p q d = transfers-by a (o .0) n (aligned a p) (paddedOf (a .req) (lengthAlign a) (o .0) n) refl
+    go true false z p q d = tt
+    go false y z p q d = tt

@@ -2,7 +2,7 @@
 use crate::refusals::Refusal;
 ghost use mathlib.Core.Path.{_≡_};
 ghost use Prim.Native.Nat.{min};
-ghost use Rattle.arithmetic.specs.Rounding.{sumOf, roundDown, upOf};
+ghost use Rattle.arithmetic.specs.Rounding.{sumOf, isMultiple, roundDown, upOf};
 ghost use Rattle.arithmetic.specs.Offsets.{inBufferOf, onStoreOf};
 
 // A byte's place on the store.
@@ -99,4 +99,13 @@ pub fn lesser(a: u64, b: u64) -> u64
     ensures { λ r. ⌜ r ≡ min a b ⌝ }
 {
     if a < b { a } else { b }
+}
+
+pub fn is_multiple(x: u64, r: u64) -> bool
+    ensures { λ t. ⌜ t ≡ isMultiple x r ⌝ }
+{
+    if r == 0 {
+        return x == 0;
+    }
+    x % r == 0
 }
