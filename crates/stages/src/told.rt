@@ -1,0 +1,186 @@
+// What a told code leads to.
+use crate::plan::Plan;
+use crate::plan::zeroes_plan;
+use crate::state::Course;
+use crate::state::Phase;
+use crate::state::State;
+use crate::state::size;
+use arithmetic::offsets::Range;
+use arithmetic::offsets::StoreOffset;
+use arithmetic::settings::Settings;
+use arithmetic::zeroes::Chunk;
+use arithmetic::zeroes::next_chunk;
+ghost use mathlib.Core.Path.{_≡_};
+ghost use lib.Dec.{ltb};
+ghost use Rattle.arithmetic.specs.Rounding.{pick};
+ghost use Rattle.stages.specs.Stages.{sizeOf, inPhase, endedWith, laterStage, zeroesNext, chunkNext, tailNext, headNext, stageDone, doneNext, unsupportedNext, toldOf};
+
+// The job goes on in its stage, ends, or enters its next stage.
+pub enum Step {
+    Stays(State),
+    Ends(State),
+    Enters(State),
+}
+
+impl State {
+    fn in_phase(mut self, phase: Phase) -> State
+        ensures { λ y. ⌜ y ≡ inPhase phase self ⌝ }
+    {
+        State { phase, ..self }
+    }
+
+    // The job ended, with its final answer.
+    fn ended_with(mut self, answer: u8) -> State
+        ensures { λ y. ⌜ y ≡ endedWith answer self ⌝ }
+    {
+        State {
+            phase: Phase::Ended,
+            answer,
+            ..self
+        }
+    }
+
+    fn ends(self, answer: u8) -> Step
+        ensures { λ t. ⌜ t ≡ Step.Ends (endedWith answer self) ⌝ }
+    {
+        Step::Ends(self.ended_with(answer))
+    }
+
+    // A later stage: a refusal, 207 among them, is the job's final answer.
+    fn later(self, plan: Plan) -> Step
+        ensures { λ t. ⌜ t ≡ laterStage self plan ⌝ }
+    {
+        match plan {
+            Plan::Done => self.ends(0),
+            Plan::Started(next) => Step::Enters(next),
+            Plan::Refused(r) => self.ends(r.number()),
+        }
+    }
+
+    fn zeroes(self, settings: Settings, course: Course, part: Range) -> Step
+        ensures { λ t. ⌜ t ≡ zeroesNext settings self course part ⌝ }
+    {
+        let job = self.job;
+        let range = self.range;
+        let middle = self.middle;
+        self.later(zeroes_plan(settings, job, range, middle, course, part))
+    }
+
+    // The next chunk of write_full_zeroes, from `start` to the end of the job's range.
+    fn chunk(self, settings: Settings, start: StoreOffset) -> Step
+        ensures { λ t. ⌜ t ≡ chunkNext settings self start ⌝ }
+    {
+        let range = self.range;
+        let end = range.end;
+        let rest = Range { start, end };
+        match next_chunk(rest, settings) {
+            Chunk::Nothing => self.ends(0),
+            Chunk::Next(part) => self.zeroes(settings, Course::Chunks, part),
+            Chunk::Refused(r) => self.ends(r.number()),
+        }
+    }
+
+    // The write of zeroes behind the middle, where not empty.
+    fn tail(self, settings: Settings) -> Step
+        ensures { λ t. ⌜ t ≡ tailNext settings self ⌝ }
+    {
+        let range = self.range;
+        let middle = self.middle;
+        let start = middle.end;
+        let end = range.end;
+        let part = Range { start, end };
+        if 0 < size(part) {
+            return self.zeroes(settings, Course::Last, part);
+        }
+        self.ends(0)
+    }
+
+    // The write of zeroes before the middle, where not empty, otherwise the one behind it.
+    fn head(self, settings: Settings) -> Step
+        ensures { λ t. ⌜ t ≡ headNext settings self ⌝ }
+    {
+        let range = self.range;
+        let middle = self.middle;
+        let start = range.start;
+        let end = middle.start;
+        let part = Range { start, end };
+        if 0 < size(part) {
+            return self.zeroes(settings, Course::Head, part);
+        }
+        self.tail(settings)
+    }
+
+    // The stage is done: what its course says comes next.
+    fn stage_done(self, settings: Settings) -> Step
+        ensures { λ t. ⌜ t ≡ stageDone (self .course) settings self ⌝ }
+    {
+        let course = self.course;
+        let stage = self.stage;
+        let asked = stage.asked;
+        match course {
+            Course::Last => self.ends(0),
+            Course::Middle => self.head(settings),
+            Course::Head => self.tail(settings),
+            Course::Chunks => self.chunk(settings, asked.end),
+        }
+    }
+
+    // Past the first read of a padded write.
+    fn second(self) -> Phase
+        ensures { λ p. ⌜ p ≡ pick (ltb 0 (sizeOf (self .stage .second))) Phase.SecondRead Phase.BouncedWrite ⌝ }
+    {
+        let stage = self.stage;
+        if 0 < size(stage.second) {
+            return Phase::SecondRead;
+        }
+        Phase::BouncedWrite
+    }
+
+    fn done(self, settings: Settings) -> Step
+        ensures { λ t. ⌜ t ≡ doneNext (self .phase) settings self ⌝ }
+    {
+        let phase = self.phase;
+        match phase {
+            Phase::Free => self.ends(0),
+            Phase::Ended => self.ends(0),
+            Phase::DirectRead => self.ends(0),
+            Phase::BouncedRead => self.ends(0),
+            Phase::FirstRead => Step::Stays(self.in_phase(self.second())),
+            Phase::SecondRead => Step::Stays(self.in_phase(Phase::BouncedWrite)),
+            Phase::BouncedWrite => self.stage_done(settings),
+            Phase::DirectWrite => self.ends(0),
+            Phase::ZeroRequest => self.stage_done(settings),
+            Phase::DiscardRequest => self.ends(0),
+        }
+    }
+
+    fn unsupported(self, settings: Settings) -> Step
+        ensures { λ t. ⌜ t ≡ unsupportedNext (self .phase) settings self ⌝ }
+    {
+        let phase = self.phase;
+        let whole = self.range;
+        match phase {
+            Phase::ZeroRequest => self.chunk(settings, whole.start),
+            Phase::DiscardRequest => self.ends(0), // answer 1 counts as done
+            Phase::Free
+            | Phase::Ended
+            | Phase::DirectRead
+            | Phase::BouncedRead
+            | Phase::FirstRead
+            | Phase::SecondRead
+            | Phase::BouncedWrite
+            | Phase::DirectWrite => self.ends(1),
+        }
+    }
+
+    // The job after its request's code: 0 done, 1 unsupported, any other failed.
+    pub fn told(mut self, settings: Settings, code: u8) -> Step
+        ensures { λ t. ⌜ t ≡ toldOf settings self code ⌝ }
+    {
+        match code {
+            0 => self.done(settings),
+            1 => self.unsupported(settings),
+            _ => self.ends(code),
+        }
+    }
+}
