@@ -1,0 +1,82 @@
+-- Laws on the slots: the lowest free one by its position, a slot's share of the scratch, and what a sound stage holds. Assumes nothing.
+use mathlib.Core.Path.{_≡_, sym, ap, _∙_}
+use mathlib.Core.Bool.{true, false, _&&_, _||_, not}
+use mathlib.Core.List.{List, map}
+use Prim.Native.Nat.{ℕ, suc, _+_, _*_, _/_, _≤_, _<_}
+use native.Mathlib.Decide.{decLe}
+use native.Mathlib.Nat.{mul-le-mul-right}
+use native.Mathlib.Numerals.{add-one}
+use native.Mathlib.Omega.{arith}
+use lib.Dec.{leb, eqb}
+use lib.ListN.{length, getD, drop, length-map, drop-of-length-le}
+use lib.Seq.{drop-cons}
+use borrow.Author.Tests.{leb-true, eqb-true, le-leb, lt-leb}
+use Rattle.arithmetic.specs.SettingsLaws.{and-left, and-right}
+use Rattle.arithmetic.specs.declared.settings.Settings.{Settings}
+use Rattle.arithmetic.specs.declared.settings.Buffers.{Buffers}
+use Rattle.stages.specs.Stages.{sizeOf, isFree, usesBounce, secondAt, liesIn, isSound}
+use Rattle.stages.specs.declared.state.Phase.{Phase}
+use Rattle.stages.specs.declared.state.Phase.the-variants.{SecondRead}
+use Rattle.stages.specs.declared.state.State.{State}
+use Rattle.dock.specs.Dock.{noState, lentFits, firstFree}
+use Rattle.dock.specs.Tell.{isKeptBy}
+
+-- an array of structs has its length by the relation that owning it gives, which stands at a map over the list
+pub long-states : {Y : Type 0} (f : State → Y) (l : List State) (n : ℕ) → length (map f l) ≡ n → length l ≡ n
+long-states f l n e = sym (length-map l f) ∙ e
+
+-- ---- the lowest free slot, where the first i are not free
+
+module _ (xs : List State) (i : ℕ) where
+  pub free-here : i < length xs → firstFree xs ≡ i + firstFree (drop i xs) → isFree (getD xs i noState .phase) ≡ true → i ≡ firstFree xs
+  unfolding firstFree
+  free-here h inv e =
+      let z : firstFree (drop i xs) ≡ 0 = rw (drop-cons xs i noState h) (simp e) in
+      omega arith
+
+  pub free-later : i < length xs → firstFree xs ≡ i + firstFree (drop i xs) → isFree (getD xs i noState .phase) ≡ false → firstFree xs ≡ i + 1 + firstFree (drop (i + 1) xs)
+  unfolding firstFree
+  free-later h inv e =
+      let z : firstFree (drop i xs) ≡ suc (firstFree (drop (i + 1) xs)) = rw (add-one, drop-cons xs i noState h) (simp e) in
+      omega arith
+
+  pub free-none : length xs ≤ i → firstFree xs ≡ i + firstFree (drop i xs) → i ≡ firstFree xs
+  unfolding firstFree
+  free-none h inv =
+      let z : firstFree (drop i xs) ≡ 0 = ap firstFree (drop-of-length-le xs h) in
+      omega arith
+
+-- ---- shares
+
+-- eight shares of b bytes lie in n bytes
+pub share-room : (b n : ℕ) → leb b (n / 8) ≡ leb (8 * b) n
+share-room b n = elim (decLe (8 * b) n) [
+  | yes l ↦ le-leb b (n / 8) (omega arith) ∙ sym (le-leb (8 * b) n l)
+  | no l ↦ lt-leb b (n / 8) (omega arith) ∙ sym (lt-leb (8 * b) n (omega arith))
+]
+
+-- a slot's share lies in them
+pub share-in : (p b : ℕ) → p < 8 → p * b + b ≤ 8 * b
+share-in p b h =
+    let l : suc p * b ≤ 8 * b = mul-le-mul-right b (omega arith) in
+    omega (arith, l)
+
+-- and the scratch has its length of opening, which is the one it is lent with
+pub share-kept : (p : ℕ) (x : State) (s : Settings) (b : Buffers) (m n : ℕ) → p < 8 → lentFits b m n ≡ true → isKeptBy x s b ≡ true → p * s .bounce + s .bounce ≤ n
+unfolding lentFits isKeptBy
+share-kept p x s b m n h f k =
+    let e = eqb-true n (b .scratch .length) (and-right (eqb m (b .«data» .length)) _ f) in
+    let l = leb-true (8 * s .bounce) (b .scratch .length) (and-right (isSound (s .bounce) x) _ k) in
+    omega (arith, share-in p (s .bounce) h)
+
+pub kept-sound : (x : State) (s : Settings) (b : Buffers) → isKeptBy x s b ≡ true → isSound (s .bounce) x ≡ true
+unfolding isKeptBy
+kept-sound x s b k = and-left _ _ k
+
+-- the second read's bytes start in the share
+pub second-in : (n : ℕ) (x : State) → x .phase ≡ SecondRead → isSound n x ≡ true → secondAt (x .stage) ≤ n
+unfolding isSound liesIn
+second-in n x e s =
+    let l : liesIn n (x .stage) ≡ true = sym (ap (λ (ph : Phase). not (usesBounce ph) || liesIn n (x .stage)) e) ∙ s in
+    let k = leb-true (secondAt (x .stage) + sizeOf (x .stage .second)) n (and-right (leb (x .stage .head .0 + sizeOf (x .stage .asked)) n && leb (sizeOf (x .stage .request)) n && leb (sizeOf (x .stage .first)) n) _ l) in
+    omega arith

@@ -1,0 +1,22 @@
+-- `dock::dock::Dock::piece` meets its contract: the bytes at the piece's place. Assumes nothing.
+use mathlib.Core.Path.{ap, _∙_}
+use denote.Ref.{now}
+use Rattle.dock.specs.Tell.{bytesAt, pieceBytes}
+use Rattle.dock.specs.declared.next.Piece.{Piece}
+use Rattle.dock.proofs.dock.Dock.piece.Statement.{statement}
+use Rattle.dock.proofs.dock.Dock.piece.Tie as tie
+
+piece-place-requires : tie.Need-piece-place-requires
+piece-place-requires c κs = tt
+
+part-at-requires : tie.Need-part-at-requires
+part-at-requires c κs = tt
+
+returns : tie.Need-returns
+unfolding pieceBytes
+returns c =
+    let a = c .before .before .before .before .args in
+    c .part-at .ensures ∙ ap (λ (q : Piece). bytesAt q (now (a .«data»)) (now (a .scratch))) (c .before .piece-place .ensures)
+
+pub piece-spec : {M : Type 1} → statement M
+piece-spec = tie.close (tie.spec piece-place-requires part-at-requires returns)

@@ -1,0 +1,4 @@
+-- What the contracts of dock cite.
+pub mod Dock
+pub mod Begin
+pub mod Tell
