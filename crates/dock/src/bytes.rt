@@ -72,7 +72,7 @@ fn merge(start: usize, n: usize, job: Job, v: IoVector, data: &[u8], scratch: &m
 }
 
 // As a job comes to its write from the bounce buffer, the asked part of its share, which starts at `share`, is filled.
-pub fn fill(share: usize, x: State, v: IoVector, data: &[u8], scratch: &mut [u8]) -> Outcome
+pub(crate) fn fill(share: usize, x: State, v: IoVector, data: &[u8], scratch: &mut [u8]) -> Outcome
     requires { ⌜ InShare share x (length (now scratch)) ⌝ }
     ensures { λ r. ⌜ fills r (now (scratch .exit)) ≡ filled share x v (now («data» .entry)) (now (scratch .entry)) ⌝ }
 {
@@ -98,7 +98,7 @@ fn copy_out(start: usize, n: usize, v: IoVector, data: &mut [u8], scratch: &[u8]
 }
 
 // As a padded read ends with 0, its asked bytes are copied out of its share, which starts at `share`.
-pub fn hand_out(
+pub(crate) fn hand_out(
     share: usize,
     x: State,
     code: u8,
