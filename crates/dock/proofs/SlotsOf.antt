@@ -19,7 +19,7 @@ use Rattle.stages.specs.declared.state.Phase.{Phase}
 use Rattle.stages.specs.declared.state.Phase.the-variants.{SecondRead}
 use Rattle.stages.specs.declared.state.State.{State}
 use Rattle.dock.specs.Dock.{noState, lentFits, firstFree}
-use Rattle.dock.specs.Tell.{isKeptBy}
+use Rattle.dock.specs.Next.{isKeptBy}
 
 -- an array of structs has its length by the relation that owning it gives, which stands at a map over the list
 pub long-states : {Y : Type 0} (f : State → Y) (l : List State) (n : ℕ) → length (map f l) ≡ n → length l ≡ n

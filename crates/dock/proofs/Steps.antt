@@ -29,7 +29,8 @@ use Rattle.stages.specs.declared.plan.Plan.{Plan}
 use Rattle.stages.specs.declared.plan.Plan.the-variants.{Done as NothingToDo, Started, Refused as PlanRefused}
 use Rattle.dock.specs.Dock.{shareAt, vectorAt, stateAt, isOutBy, lentFits, lentBy, lentOf, overlapsOf, firstFree}
 use Rattle.dock.specs.Begin.{Begins, begins, fills, filled, blockersWith, withJob, placedAt, begunBy, onlyIf, vectorThen, PlanSound}
-use Rattle.dock.specs.Tell.{Told, tells, refusal, accepted, hands, handed, blockersWithout, staysOf, endsOf, entersOf, isKeptBy, StepSound, stepped, tellAt, tellOf}
+use Rattle.dock.specs.Next.{isKeptBy}
+use Rattle.dock.specs.Tell.{Told, tells, refusal, accepted, hands, handed, blockersWithout, staysOf, endsOf, entersOf, StepSound, stepped, tellAt, tellOf}
 use Rattle.dock.specs.declared.dock.Dock.{Dock}
 use Rattle.dock.specs.declared.tell.Telling.{Telling}
 use Rattle.dock.specs.declared.begin.Begun.the-variants.{Placed, Refused as BeginRefused}

@@ -124,12 +124,21 @@ abbrev pub onlyIf : Dock → List ℕ → Outcome → Begins → Begins
 onlyIf d scratch Done k = k
 onlyIf d scratch (Refused r) k = refusedBegin d scratch r
 
--- the job x with the vector v comes to slot p: its blocker, then its bytes
+-- one step, then another: the first refusal counts
+abbrev pub thenDo : Outcome → Outcome → Outcome
+thenDo Done o = o
+thenDo (Refused r) o = Refused r
+
+-- the job x with the vector v comes to slot p: its blocker enters, its scratch is filled
+abbrev pub placed : Dock → ℕ → State → IoVector → List ℕ → List ℕ → Begins
+placed d p x v memory scratch =
+    record { dock = withJob d p (blockersWith (d .blockers) p x .blockers) x v; answer = Placed p; scratch = filled (shareAt d p) x v memory scratch .scratch }
+
+-- A dock of no call's making may have a blocker where the slot is free: the begin is then refused, and changes nothing. Law `made-begin` of
+-- crate every_list: no dock that calls made is refused so.
 unfoldable pub placedAt : Dock → ℕ → State → IoVector → List ℕ → List ℕ → Begins
 placedAt d p x v memory scratch =
-    let b = blockersWith (d .blockers) p x in
-    let f = filled (shareAt d p) x v memory scratch in
-    onlyIf d scratch (b .outcome) (onlyIf d scratch (f .outcome) (record { dock = withJob d p (b .blockers) x v; answer = Placed p; scratch = f .scratch }))
+    onlyIf d scratch (thenDo (blockersWith (d .blockers) p x .outcome) (filled (shareAt d p) x v memory scratch .outcome)) (placed d p x v memory scratch)
 
 -- a first stage lies in a bounce buffer of n bytes
 abbrev pub PlanSound : ℕ → Plan → Type 0

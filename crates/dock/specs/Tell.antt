@@ -1,102 +1,34 @@
--- Document 01, "Events": next, tell and collect.
+-- Document 01, "Events": tell and collect.
 use mathlib.Core.Path.{_≡_}
 use mathlib.Core.Bool.{Bool, true, false, _&&_}
 use mathlib.Core.List.{List, []}
-use Prim.Native.Nat.{ℕ, _+_, _*_}
-use lib.Dec.{ltb, leb, eqb}
-use lib.ListN.{length, take, drop, getD, set}
+use Prim.Native.Nat.{ℕ, _+_}
+use lib.Dec.{ltb, eqb}
+use lib.ListN.{length, take, drop, set}
 use Rattle.arithmetic.specs.Rounding.{pick}
 use Rattle.arithmetic.specs.declared.refusals.Refusal.{Refusal}
 use Rattle.arithmetic.specs.declared.refusals.Refusal.the-variants.{Segment, Buffer, Slot, NoAnswer}
 use Rattle.arithmetic.specs.declared.refusals.Outcome.{Outcome}
 use Rattle.arithmetic.specs.declared.refusals.Outcome.the-variants.{Done, Refused}
-use Rattle.arithmetic.specs.declared.settings.Settings.{Settings}
-use Rattle.arithmetic.specs.declared.settings.Buffers.{Buffers}
-use Rattle.vectors.specs.Vectors.{scatterOf, segmentsOf, copies, isValid, vectorOf, segment, none}
+use Rattle.vectors.specs.Vectors.{scatterOf, segmentsOf, copies, vectorOf}
 use Rattle.vectors.specs.declared.vector.IoVector.{IoVector}
-use Rattle.blockers.specs.Blockers.{leftOf, waitsOf}
+use Rattle.blockers.specs.Blockers.{leftOf}
 use Rattle.blockers.specs.declared.Blockers.{Blockers}
 use Rattle.blockers.specs.declared.Changed.{Changed}
-use Rattle.stages.specs.Stages.{sizeOf, isFree, hasEnded, isBlocking, isSound, requestOf, toldOf, secondAt}
+use Rattle.stages.specs.Stages.{sizeOf, hasEnded, isBlocking, isSound, toldOf}
 use Rattle.stages.specs.declared.state.Phase.{Phase}
 use Rattle.stages.specs.declared.state.Phase.the-variants.{Free, Ended, DirectRead, BouncedRead, FirstRead, SecondRead, BouncedWrite, DirectWrite, ZeroRequest, DiscardRequest}
 use Rattle.stages.specs.declared.state.State.{State}
 use Rattle.stages.specs.declared.told.Step.{Step}
 use Rattle.stages.specs.declared.told.Step.the-variants.{Stays, Ends, Enters}
-use Rattle.dock.specs.Dock.{vacant, stateAt, vectorAt, lentFits, isOutBy, isOut, shareAt}
-use Rattle.dock.specs.Begin.{Filled, filled, blockersWith, withJob}
+use Rattle.dock.specs.Dock.{vacant, stateAt, vectorAt, lentFits, isOutBy, shareAt}
+use Rattle.dock.specs.Begin.{filled, blockersWith, thenDo, withJob}
+use Rattle.dock.specs.Next.{isKeptBy}
 use Rattle.dock.specs.declared.dock.Dock.{Dock}
-use Rattle.dock.specs.declared.next.Due.{Due}
-use Rattle.dock.specs.declared.next.Due.the-variants.{Waiting, Make, Answer, Refused as NotDue}
-use Rattle.dock.specs.declared.next.Piece.{Piece}
-use Rattle.dock.specs.declared.next.Piece.the-variants.{InData, InScratch, Refused as NoPiece}
 use Rattle.dock.specs.declared.tell.Telling.{Telling}
 use Rattle.dock.specs.declared.tell.Collected.{Collected}
 use Rattle.dock.specs.declared.tell.Collected.the-variants.{Final, Refused as NotCollected}
 use Rattle.dock.specs.declared.tell.Collects.{Collects}
-
--- ---- next
-
--- "Next tells: waiting, the request, or the final answer"
-abbrev pub dueBy : Dock → ℕ → State → Due
-dueBy d p x =
-    pick (isFree (x .phase)) (NotDue Slot)
-    (pick (hasEnded (x .phase)) (Answer (x .answer)) (pick (waitsOf p (d .blockers)) Waiting (Make (requestOf x (vectorAt d p .count)))))
-
--- "Next [..]: 205, 208"
-unfoldable pub nextOf : Dock → ℕ → ℕ → ℕ → Due
-nextOf d p m n = pick (lentFits (d .buffers) m n) (pick (ltb p 8) (dueBy d p (stateAt d p)) (NotDue Slot)) (NotDue Buffer)
-
--- ---- the job at hand is one that a call made: its bytes lie in its share, its share in the scratch
-
-unfoldable pub isKeptBy : State → Settings → Buffers → Bool
-isKeptBy x s b = isSound (s .bounce) x && leb (8 * s .bounce) (b .scratch .length)
-
-unfoldable pub isKept : Dock → ℕ → Bool
-isKept d p = isKeptBy (stateAt d p) (d .settings) (d .buffers)
-
--- ---- a request's piece by number
-
--- n bytes of the scratch from a on, as the only piece
-abbrev pub inScratch : ℕ → ℕ → ℕ → Piece
-inScratch i a n = pick (eqb i 0 && ltb 0 n) (InScratch (segment a n)) (NoPiece Slot)
-
--- segment i of a vector over m bytes of data
-abbrev pub inData : ℕ → ℕ → IoVector → Piece
-inData i m v = pick (isValid m v && ltb i (v .count)) (InData (getD (v .segments) i none)) (NoPiece Slot)
-
--- "The bytes of a request's piece lie in the data or in the scratch"; `share` is where the slot's share starts
-abbrev pub pieceBy : Phase → ℕ → ℕ → ℕ → State → IoVector → Piece
-pieceBy Free share i m x v = NoPiece Slot
-pieceBy Ended share i m x v = NoPiece Slot
-pieceBy DirectRead share i m x v = inData i m v
-pieceBy BouncedRead share i m x v = inScratch i share (sizeOf (x .stage .request))
-pieceBy FirstRead share i m x v = inScratch i share (sizeOf (x .stage .first))
-pieceBy SecondRead share i m x v = inScratch i (share + secondAt (x .stage)) (sizeOf (x .stage .second))
-pieceBy BouncedWrite share i m x v = inScratch i share (sizeOf (x .stage .request))
-pieceBy DirectWrite share i m x v = inData i m v
-pieceBy ZeroRequest share i m x v = NoPiece Slot
-pieceBy DiscardRequest share i m x v = NoPiece Slot
-
--- "a request's piece [..]: 205, 208"; "208: [..] a piece number that the request lacks"
-unfoldable pub pieceOf : Dock → ℕ → ℕ → ℕ → ℕ → Piece
-pieceOf d p i m n =
-    pick (lentFits (d .buffers) m n)
-    (pick (isOut d p && isKept d p) (pieceBy (stateAt d p .phase) (shareAt d p) i m (stateAt d p) (vectorAt d p)) (NoPiece Slot))
-    (NoPiece Buffer)
-
--- the n bytes of l from a on, and none where they go past its end
-unfoldable pub partOf : List ℕ → ℕ → ℕ → List ℕ
-partOf l a n = pick (leb (a + n) (length l)) (take n (drop a l)) []
-
--- "handed out as a part of that buffer, uncopied"; a refusal is empty, and no piece is
-abbrev pub bytesAt : Piece → List ℕ → List ℕ → List ℕ
-bytesAt (InData s) memory scratch = partOf memory (s .start) (s .length)
-bytesAt (InScratch s) memory scratch = partOf scratch (s .start) (s .length)
-bytesAt (NoPiece r) memory scratch = partOf memory 0 0
-
-unfoldable pub pieceBytes : Dock → ℕ → ℕ → List ℕ → List ℕ → List ℕ
-pieceBytes d p i memory scratch = bytesAt (pieceOf d p i (length memory) (length scratch)) memory scratch
 
 -- ---- tell
 
@@ -161,32 +93,50 @@ abbrev pub tellIf : Dock → List ℕ → List ℕ → Outcome → Told → Told
 tellIf d memory scratch Done k = k
 tellIf d memory scratch (Refused r) k = refusedTell d memory scratch r
 
--- the slot's job goes on in its stage: "the vector is copied in" after the last read
+-- What an accepted tell leaves: the job goes on in its stage, its blocker too; "scratch is filled at the last read's tell"
+abbrev pub stayed : Dock → ℕ → State → List ℕ → List ℕ → Told
+stayed d p y memory scratch = tells (accepted d p (d .blockers) y) memory (filled (shareAt d p) y (vectorAt d p) memory scratch .scratch)
+
+-- or it ends: its blocker "leaves when its piece ends", and the bytes of a padded read are handed out
+abbrev pub ended : Dock → ℕ → State → ℕ → State → List ℕ → List ℕ → Told
+ended d p x code y memory scratch =
+    tells (accepted d p (blockersWithout (d .blockers) p x .blockers) y) (handed (shareAt d p) x code (vectorAt d p) memory scratch .memory) scratch
+
+-- or it enters its next stage: its blocker leaves first, then the next stage's enters, and where that reads nothing its scratch is filled
+abbrev pub entered : Dock → ℕ → State → State → List ℕ → List ℕ → Told
+entered d p x y memory scratch =
+    tells (accepted d p (blockersWith (blockersWithout (d .blockers) p x .blockers) p y .blockers) y) memory
+    (filled (shareAt d p) y (vectorAt d p) memory scratch .scratch)
+
+-- A dock of no call's making may lack the blocker that leaves, have one where another enters, or a vector of other bytes than the stage's: the
+-- tell is then refused, and changes nothing. Law `made-tell` of crate every_list: no dock that calls made is refused so.
 unfoldable pub staysOf : Dock → ℕ → State → List ℕ → List ℕ → Told
 staysOf d p y memory scratch =
-    let f = filled (shareAt d p) y (vectorAt d p) memory scratch in
-    tellIf d memory scratch (f .outcome) (tells (accepted d p (d .blockers) y) memory (f .scratch))
+    tellIf d memory scratch (filled (shareAt d p) y (vectorAt d p) memory scratch .outcome) (stayed d p y memory scratch)
 
--- it ends: its blocker leaves, and the bytes of a padded read are handed out
 unfoldable pub endsOf : Dock → ℕ → State → ℕ → State → List ℕ → List ℕ → Told
 endsOf d p x code y memory scratch =
-    let b = blockersWithout (d .blockers) p x in
-    let h = handed (shareAt d p) x code (vectorAt d p) memory scratch in
-    tellIf d memory scratch (b .outcome) (tellIf d memory scratch (h .outcome) (tells (accepted d p (b .blockers) y) (h .memory) scratch))
+    tellIf d memory scratch
+    (thenDo (blockersWithout (d .blockers) p x .outcome) (handed (shareAt d p) x code (vectorAt d p) memory scratch .outcome))
+    (ended d p x code y memory scratch)
 
--- it enters its next stage: its blocker leaves first, then the next stage's enters
 unfoldable pub entersOf : Dock → ℕ → State → State → List ℕ → List ℕ → Told
 entersOf d p x y memory scratch =
     let b = blockersWithout (d .blockers) p x in
-    let e = blockersWith (b .blockers) p y in
-    let f = filled (shareAt d p) y (vectorAt d p) memory scratch in
-    tellIf d memory scratch (b .outcome)
-    (tellIf d memory scratch (e .outcome) (tellIf d memory scratch (f .outcome) (tells (accepted d p (e .blockers) y) memory (f .scratch))))
+    tellIf d memory scratch
+    (thenDo (b .outcome) (thenDo (blockersWith (b .blockers) p y .outcome) (filled (shareAt d p) y (vectorAt d p) memory scratch .outcome)))
+    (entered d p x y memory scratch)
 
 abbrev pub stepped : Dock → ℕ → State → ℕ → List ℕ → List ℕ → Step → Told
 stepped d p x code memory scratch (Stays y) = staysOf d p y memory scratch
 stepped d p x code memory scratch (Ends y) = endsOf d p x code y memory scratch
 stepped d p x code memory scratch (Enters y) = entersOf d p x y memory scratch
+
+-- what a tell leaves of a dock that calls made
+abbrev pub after : Dock → ℕ → State → ℕ → List ℕ → List ℕ → Step → Told
+after d p x code memory scratch (Stays y) = stayed d p y memory scratch
+after d p x code memory scratch (Ends y) = ended d p x code y memory scratch
+after d p x code memory scratch (Enters y) = entered d p x y memory scratch
 
 -- the stage that a step goes on in or enters lies in a bounce buffer of n bytes
 abbrev pub StepSound : ℕ → Step → Type 0

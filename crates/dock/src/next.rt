@@ -22,7 +22,7 @@ ghost use Prim.Native.Nat.{_+_, _<_, _^_};
 ghost use lib.ListN.{length};
 ghost use Rattle.stages.specs.Stages.{secondAt, isSound};
 ghost use Rattle.dock.specs.Dock.{isOutBy};
-ghost use Rattle.dock.specs.Tell.{nextOf, isKeptBy, inScratch, inData, pieceBy, pieceOf, partOf, bytesAt, pieceBytes};
+ghost use Rattle.dock.specs.Next.{nextOf, isKeptBy, inScratch, inData, pieceBy, pieceOf, partOf, bytesAt, pieceBytes};
 
 // What next tells.
 pub enum Due {

@@ -4,7 +4,7 @@ use mathlib.Core.Bool.{Bool, _&&_}
 use lib.Dec.{leb}
 use Prim.Native.Nat.{_/_}
 use Rattle.stages.specs.Stages.{isSound}
-use Rattle.dock.specs.Tell.{isKeptBy}
+use Rattle.dock.specs.Next.{isKeptBy}
 use Rattle.dock.proofs.SlotsOf.{share-room}
 use Rattle.dock.proofs.next.is_kept.Statement.{statement}
 use Rattle.dock.proofs.next.is_kept.Tie as tie

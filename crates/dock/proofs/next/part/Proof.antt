@@ -5,7 +5,7 @@ use Prim.Native.Nat.{_+_, _-_}
 use native.Mathlib.Omega.{arith}
 use lib.ListN.{length}
 use denote.Ref.{now}
-use Rattle.dock.specs.Tell.{partOf}
+use Rattle.dock.specs.Next.{partOf}
 use borrow.Author.Needs.{needs}
 use Rattle.dock.proofs.next.part.Statement.{statement}
 use Rattle.dock.proofs.next.part.Tie as tie

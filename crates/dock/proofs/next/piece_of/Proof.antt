@@ -6,7 +6,7 @@ use Rattle.vectors.specs.declared.vector.IoVector.{IoVector}
 use Rattle.stages.specs.declared.state.Phase.{Phase}
 use Rattle.stages.specs.declared.state.State.{State}
 use Rattle.stages.specs.Stages.{sizeOf}
-use Rattle.dock.specs.Tell.{pieceBy, inScratch}
+use Rattle.dock.specs.Next.{pieceBy, inScratch}
 use Rattle.dock.specs.declared.next.Piece.{Piece}
 use Rattle.dock.proofs.SlotsOf.{second-in}
 use borrow.Author.Needs.{needs}

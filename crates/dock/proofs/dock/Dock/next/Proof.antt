@@ -11,7 +11,7 @@ use Rattle.dock.specs.declared.dock.Dock.{Dock}
 use lib.ListN.{length}
 use denote.Ref.{now}
 use Rattle.dock.specs.Dock.{lentFits, stateAt, vectorAt}
-use Rattle.dock.specs.Tell.{nextOf}
+use Rattle.dock.specs.Next.{nextOf}
 use Rattle.dock.specs.declared.next.Due.the-variants.{Waiting, Make, Answer, Refused}
 use borrow.Author.Needs.{needs}
 use Rattle.dock.proofs.dock.Dock.next.Statement.{statement}

@@ -1,7 +1,7 @@
 -- `dock::dock::Dock::piece` meets its contract: the bytes at the piece's place. Assumes nothing.
 use mathlib.Core.Path.{ap, _∙_}
 use denote.Ref.{now}
-use Rattle.dock.specs.Tell.{bytesAt, pieceBytes}
+use Rattle.dock.specs.Next.{bytesAt, pieceBytes}
 use Rattle.dock.specs.declared.next.Piece.{Piece}
 use Rattle.dock.proofs.dock.Dock.piece.Statement.{statement}
 use Rattle.dock.proofs.dock.Dock.piece.Tie as tie

@@ -5,7 +5,7 @@ use mathlib.Core.Bool.{true}
 use native.Mathlib.Omega.{arith}
 use Prim.Native.Nat.{_+_, _*_, _≤_}
 use Rattle.dock.specs.Dock.{lentFits, isOut, stateAt}
-use Rattle.dock.specs.Tell.{isKept, isKeptBy, pieceOf}
+use Rattle.dock.specs.Next.{isKept, isKeptBy, pieceOf}
 use Rattle.dock.proofs.SlotsOf.{share-kept, kept-sound}
 use borrow.Author.Needs.{needs}
 use Rattle.dock.proofs.dock.Dock.piece_place.Statement.{statement}
