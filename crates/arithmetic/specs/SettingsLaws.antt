@@ -1,4 +1,4 @@
--- What accepted settings give: alignments that are positive and at most 65,536, L a multiple of M and R, a bounce buffer that holds 2Z + 2L bytes. Assumes nothing.
+-- What accepted settings give: alignments that are positive and at most 65,536, L a multiple of M and R, a bounce buffer that holds 2Z + 2L bytes; and what an opening that is not refused gives. Assumes nothing.
 use mathlib.Core.Path.{_≡_, refl, sym, ap, _∙_}
 use mathlib.Core.Bool.{Bool, true, false, _&&_}
 use Prim.Native.Nat.{ℕ, _+_, _*_, _%_, _^_, _<_, _≤_}
@@ -9,10 +9,13 @@ use lib.Pow.{pow-mono, pow-pos}
 use borrow.Author.Tests.{eqb-true, leb-true}
 use Rattle.arithmetic.specs.Powers.{isPowerTo}
 use Rattle.arithmetic.specs.PowerLaws.{exponent, greater}
-use Rattle.arithmetic.specs.Rounding.{isMultiple}
-use Rattle.arithmetic.specs.Settings.{isAlignment, alignmentsFit, lengthAlign, bounceFits, settingsFit}
+use Rattle.arithmetic.specs.Rounding.{pick, fits, isMultiple}
+use Rattle.arithmetic.specs.Settings.{isAlignment, alignmentsFit, lengthAlign, bounceFits, settingsFit, buffersFit, openingOf}
+use Rattle.arithmetic.specs.declared.refusals.Refusal.the-variants.{Unfit, Buffer}
+use Rattle.arithmetic.specs.declared.refusals.Outcome.the-variants.{Done, Refused}
 use Rattle.arithmetic.specs.declared.settings.Alignments.{Alignments}
 use Rattle.arithmetic.specs.declared.settings.Settings.{Settings}
+use Rattle.arithmetic.specs.declared.settings.Buffers.{Buffers}
 
 pub and-left : (a b : Bool) → (a && b) ≡ true → a ≡ true
 and-left true b e = refl
@@ -98,3 +101,22 @@ accepted s e =
       most = leb-true _ _ (and-right (w && l) h r);
       positive = omega (arith, k .positive);
     }
+
+-- an opening that is not refused: fit settings, and a scratch of eight shares
+pub record Opened (s : Settings) (b : Buffers) : Type 0 where
+  pub fit : settingsFit s ≡ true
+  pub room : 8 * s .bounce ≤ b .scratch .length
+
+pub opened : (s : Settings) (b : Buffers) → openingOf s b ≡ Done → Opened s b
+unfolding openingOf buffersFit
+opened s b e = go (settingsFit s) (buffersFit s b) refl refl e
+  where
+    go : (x y : Bool) → settingsFit s ≡ x → buffersFit s b ≡ y → pick x (pick y Done (Refused Buffer)) (Refused Unfit) ≡ Done → Opened s b
+    go true true f q e =
+        let t1 = fits (b .«data» .address + b .«data» .length) in
+        let t2 = fits (b .scratch .address + b .scratch .length) in
+        let t3 = leb (8 * s .bounce) (b .scratch .length) in
+        let t4 = isMultiple (b .scratch .address) (s .align .mem) in
+        record { fit = f; room = leb-true (8 * s .bounce) (b .scratch .length) (and-right (t1 && t2) t3 (and-left (t1 && t2 && t3) t4 q)) }
+    go true false f q e = let z : _≡_ {A = ℕ} 0 1 = cc in absurd (omega arith)
+    go false y f q e = let z : _≡_ {A = ℕ} 0 1 = cc in absurd (omega arith)

@@ -8,12 +8,12 @@ use lib.Dec.{ltb, leb, eqb}
 use borrow.Author.Tests.{lt-ltb, le-ltb, leb-true, eqb-true}
 use lib.ListN.{length}
 use Rattle.arithmetic.specs.declared.refusals.Refusal.{Refusal}
-use Rattle.arithmetic.specs.declared.refusals.Refusal.the-variants.{Unfit, Segment, Overlap, Full, Buffer, Slot, NoAnswer}
+use Rattle.arithmetic.specs.declared.refusals.Refusal.the-variants.{Segment, Overlap, Full, Buffer, Slot, NoAnswer}
 use Rattle.arithmetic.specs.declared.refusals.Outcome.{Outcome}
 use Rattle.arithmetic.specs.declared.refusals.Outcome.the-variants.{Done, Refused}
-use Rattle.arithmetic.specs.Rounding.{pick, fits, isMultiple}
-use Rattle.arithmetic.specs.Settings.{settingsFit, buffersFit, openingOf}
-use Rattle.arithmetic.specs.SettingsLaws.{and-left, and-right}
+use Rattle.arithmetic.specs.Rounding.{pick}
+use Rattle.arithmetic.specs.Settings.{openingOf}
+use Rattle.arithmetic.specs.SettingsLaws.{and-left, and-right, opened}
 use Rattle.arithmetic.specs.declared.settings.Settings.{Settings}
 use Rattle.arithmetic.specs.declared.settings.Buffers.{Buffers}
 use Rattle.vectors.specs.Vectors.{isValid}
@@ -173,21 +173,6 @@ module _ (d : Dock) (j : Job) (v : IoVector) (memory scratch : List ℕ) (plan :
 
 -- ---- what a begin is lent
 
--- settings and buffers that opening accepts hold eight shares
-opened-room : (s : Settings) (b : Buffers) → openingOf s b ≡ Done → 8 * s .bounce ≤ b .scratch .length
-unfolding openingOf buffersFit
-opened-room s b e = go (settingsFit s) (buffersFit s b) refl e
-  where
-    go : (x y : Bool) → buffersFit s b ≡ y → pick x (pick y Done (Refused Buffer)) (Refused Unfit) ≡ Done → 8 * s .bounce ≤ b .scratch .length
-    go true true q e =
-        let t1 = fits (b .«data» .address + b .«data» .length) in
-        let t2 = fits (b .scratch .address + b .scratch .length) in
-        let t3 = leb (8 * s .bounce) (b .scratch .length) in
-        let t4 = isMultiple (b .scratch .address) (s .align .mem) in
-        leb-true (8 * s .bounce) (b .scratch .length) (and-right (t1 && t2) t3 (and-left (t1 && t2 && t3) t4 q))
-    go true false q e = let z : _≡_ {A = ℕ} 0 1 = cc in absurd (omega arith)
-    go false y q e = let z : _≡_ {A = ℕ} 0 1 = cc in absurd (omega arith)
-
 pub lent-room : (s : Settings) (b : Buffers) (m n : ℕ) (l : Outcome) → l ≡ lentOf s b m n → l ≡ Done → 8 * s .bounce ≤ n
 unfolding lentOf lentFits
 lent-room s b m n l e d = go (openingOf s b) refl (lentFits b m n) refl (sym e ∙ d)
@@ -195,7 +180,7 @@ lent-room s b m n l e d = go (openingOf s b) refl (lentFits b m n) refl (sym e �
     go : (o : Outcome) → openingOf s b ≡ o → (t : Bool) → lentFits b m n ≡ t → lentBy o t ≡ Done → 8 * s .bounce ≤ n
     go Done p true q r =
         let k = eqb-true n (b .scratch .length) (and-right (eqb m (b .«data» .length)) (eqb n (b .scratch .length)) q) in
-        omega (arith, opened-room s b p)
+        omega (arith, opened s b p .room)
     go Done p false q r = let z : _≡_ {A = ℕ} 0 1 = cc in absurd (omega arith)
     go (Refused x) p t q r = let z : _≡_ {A = ℕ} 0 1 = cc in absurd (omega arith)
 

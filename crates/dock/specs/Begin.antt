@@ -135,7 +135,7 @@ placed d p x v memory scratch =
     record { dock = withJob d p (blockersWith (d .blockers) p x .blockers) x v; answer = Placed p; scratch = filled (shareAt d p) x v memory scratch .scratch }
 
 -- A dock of no call's making may have a blocker where the slot is free: the begin is then refused, and changes nothing. Law `made-begin` of
--- crate every_list: no dock that calls made is refused so.
+-- crate histories: no dock that calls made is refused so.
 unfoldable pub placedAt : Dock → ℕ → State → IoVector → List ℕ → List ℕ → Begins
 placedAt d p x v memory scratch =
     onlyIf d scratch (thenDo (blockersWith (d .blockers) p x .outcome) (filled (shareAt d p) x v memory scratch .outcome)) (placed d p x v memory scratch)

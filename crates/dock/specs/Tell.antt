@@ -109,7 +109,7 @@ entered d p x y memory scratch =
     (filled (shareAt d p) y (vectorAt d p) memory scratch .scratch)
 
 -- A dock of no call's making may lack the blocker that leaves, have one where another enters, or a vector of other bytes than the stage's: the
--- tell is then refused, and changes nothing. Law `made-tell` of crate every_list: no dock that calls made is refused so.
+-- tell is then refused, and changes nothing. Law `made-tell` of crate histories: no dock that calls made is refused so.
 unfoldable pub staysOf : Dock → ℕ → State → List ℕ → List ℕ → Told
 staysOf d p y memory scratch =
     tellIf d memory scratch (filled (shareAt d p) y (vectorAt d p) memory scratch .outcome) (stayed d p y memory scratch)

@@ -193,20 +193,20 @@ first-pending g = go (ltb 0 (sizeOf (g .first))) (ltb 0 (sizeOf (g .second)))
     go false false = refl
 
 -- what a plan says of its state, if it starts
-abbrev Starts : (State → Type 0) → Plan → Type 0
+abbrev pub Starts : (State → Type 0) → Plan → Type 0
 Starts P Done = Unit {0}
 Starts P (Started x) = P x
 Starts P (Refused r) = Unit {0}
 
 -- past the test of 206, and past that of an empty job
-starts-within : (P : State → Type 0) (n b : ℕ) (p : Plan) → (n ≤ b → Starts P p) → Starts P (pick (leb n b) p (Refused TooLong))
+pub starts-within : (P : State → Type 0) (n b : ℕ) (p : Plan) → (n ≤ b → Starts P p) → Starts P (pick (leb n b) p (Refused TooLong))
 starts-within P n b p f = go (leb n b) refl
   where
     go : (t : Bool) → leb n b ≡ t → Starts P (pick t p (Refused TooLong))
     go true e = f (leb-true _ _ e)
     go false e = tt
 
-starts-some : (P : State → Type 0) (n : ℕ) (p : Plan) → (0 < n → Starts P p) → Starts P (pick (eqb n 0) Done p)
+pub starts-some : (P : State → Type 0) (n : ℕ) (p : Plan) → (0 < n → Starts P p) → Starts P (pick (eqb n 0) Done p)
 starts-some P n p f = go (eqb n 0) refl
   where
     go : (t : Bool) → eqb n 0 ≡ t → Starts P (pick t Done p)

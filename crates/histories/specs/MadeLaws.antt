@@ -1,0 +1,185 @@
+-- Every dock that calls made has `Held`; and so begin, a request's piece and tell answer on it as document 01 says, and never by a refusal of their inner steps. Assumes nothing.
+use mathlib.Core.Path.{_≡_, refl, sym, ap, _∙_, subst}
+use mathlib.Core.Bool.{Bool, true, false, _&&_}
+use mathlib.Core.List.{List, []}
+use Prim.Native.Nat.{ℕ, _<_, _≤_, _*_}
+use native.Mathlib.Omega.{arith}
+use lib.Dec.{ltb, leb, eqb}
+use lib.ListN.{length}
+use borrow.Author.Tests.{ltb-true, eqb-true, le-leb}
+use Rattle.arithmetic.specs.Rounding.{pick}
+use Rattle.arithmetic.specs.SettingsLaws.{and-left, opened}
+use Rattle.arithmetic.specs.Settings.{openingOf, profileOf, alignments}
+use Rattle.arithmetic.specs.declared.refusals.Refusal.{Refusal}
+use Rattle.arithmetic.specs.declared.refusals.Refusal.the-variants.{Unfit, Segment, Buffer, Slot, NoAnswer}
+use Rattle.arithmetic.specs.declared.refusals.Outcome.{Outcome}
+use Rattle.arithmetic.specs.declared.refusals.Outcome.the-variants.{Done, Refused}
+use Rattle.arithmetic.specs.declared.offsets.StoreOffset.{StoreOffset}
+use Rattle.arithmetic.specs.declared.settings.Settings.{Settings}
+use Rattle.arithmetic.specs.declared.settings.Buffers.{Buffers}
+use Rattle.arithmetic.specs.declared.settings.Profile.{Profile}
+use Rattle.arithmetic.specs.declared.settings.Profile.the-variants.{Of, Refused as NoProfile}
+use Rattle.vectors.specs.Vectors.{isValid, vectorOf, alignmentOf}
+use Rattle.vectors.specs.declared.vector.IoVector.{IoVector}
+use Rattle.blockers.specs.Blockers.{waitsOf}
+use Rattle.stages.specs.Stages.{isPending, isSound, readPlan, writePlan, zeroPlan, discardPlan, toldOf, hasEnded}
+use Rattle.stages.specs.Laws.{Starts}
+use Rattle.stages.specs.declared.state.Job.{Job}
+use Rattle.stages.specs.declared.state.Job.the-variants.{Read, Write, Zeroes, Discard}
+use Rattle.stages.specs.declared.state.State.{State}
+use Rattle.stages.specs.declared.plan.Plan.{Plan}
+use Rattle.stages.specs.declared.plan.Plan.the-variants.{Started}
+use Rattle.dock.specs.Dock.{stateAt, vectorAt, fresh, vacant, openOf, openBy, openProfileOf, lentFits, lentBy, lentOf, isOutBy, isOut, firstFree}
+use Rattle.dock.specs.Begin.{withJob, Begins, onlyIf, vectorThen, begunBy, placed, placedAt, isAligned, refusedBegin, beginReadOf, beginWriteOf, beginZeroesOf, beginDiscardOf}
+use Rattle.dock.specs.Next.{isKeptBy, isKept}
+use Rattle.dock.specs.Tell.{Told, stepped, after, tellAt, tellOf, refusedTell, collectOf}
+use Rattle.dock.specs.declared.dock.Dock.{Dock}
+use Rattle.dock.specs.declared.tell.Collects.{Collects}
+use Rattle.dock.specs.declared.tell.Collected.the-variants.{Final, Refused as NotCollected}
+use Rattle.histories.specs.Courses.{never}
+use Rattle.histories.specs.Held.{Held, Made, opens, opens-profile, begins-read, begins-write, begins-zeroes, begins-discard, tells, collects}
+use Rattle.histories.specs.Keeping.{fresh-held}
+use Rattle.histories.specs.Calls.{Ready, read-ready, write-ready, zero-ready, discard-ready, begun-held, place-done, told-done, told-held, freed-held}
+
+-- ---- what a call is lent
+
+pub lent-fits : (s : Settings) (b : Buffers) (m n : ℕ) → lentOf s b m n ≡ Done → lentFits b m n ≡ true
+unfolding lentOf
+lent-fits s b m n e = go (openingOf s b) (lentFits b m n) e
+  where
+    go : (o : Outcome) (t : Bool) → lentBy o t ≡ Done → t ≡ true
+    go Done true e = refl
+    go Done false e = let z : _≡_ {A = ℕ} 0 1 = cc in absurd (omega arith)
+    go (Refused r) t e = let z : _≡_ {A = ℕ} 0 1 = cc in absurd (omega arith)
+
+data-long : (b : Buffers) (m n : ℕ) → lentFits b m n ≡ true → m ≡ b .«data» .length
+unfolding lentFits
+data-long b m n e = eqb-true m (b .«data» .length) (and-left _ _ e)
+
+-- ---- begin
+
+module _ (d : Dock) (H : Held d) (memory scratch : List ℕ) where
+  only-held : (k : Begins) → (length memory ≡ d .buffers .«data» .length → Held (k .dock)) → Held (onlyIf d scratch (lentOf (d .settings) (d .buffers) (length memory) (length scratch)) k .dock)
+  only-held k f = go (lentOf (d .settings) (d .buffers) (length memory) (length scratch)) refl
+    where
+      go : (o : Outcome) → lentOf (d .settings) (d .buffers) (length memory) (length scratch) ≡ o → Held (onlyIf d scratch o k .dock)
+      go Done e = f (data-long (d .buffers) (length memory) (length scratch) (lent-fits (d .settings) (d .buffers) (length memory) (length scratch) e))
+      go (Refused r) e = H
+
+  vector-held : (v : IoVector) (k : Begins) → (isValid (length memory) v ≡ true → Held (k .dock)) → Held (vectorThen d v memory scratch k .dock)
+  vector-held v k f = go (isValid (length memory) v) refl
+    where
+      go : (t : Bool) → isValid (length memory) v ≡ t → Held (pick t k (refusedBegin d scratch Segment) .dock)
+      go true e = f e
+      go false e = H
+
+  abbrev aligned : IoVector → Bool
+  aligned v = isAligned (alignmentOf (d .settings .align) (d .buffers .«data») v)
+
+  read-held : (o : StoreOffset) (v : IoVector) → Held (beginReadOf d o v memory scratch .dock)
+  unfolding beginReadOf
+  read-held o v =
+      only-held _ (λ l. vector-held v _ (λ e.
+      begun-held d H v memory scratch l Read (readPlan (d .settings) o (v .total) (aligned v)) (read-ready (d .settings) _ o v (rw l at e) (aligned v))))
+
+  write-held : (o : StoreOffset) (v : IoVector) → Held (beginWriteOf d o v memory scratch .dock)
+  unfolding beginWriteOf
+  write-held o v =
+      only-held _ (λ l. vector-held v _ (λ e.
+      begun-held d H v memory scratch l Write (writePlan (d .settings) o (v .total) (aligned v)) (write-ready (d .settings) _ o v (rw l at e) (aligned v))))
+
+  zeroes-held : (t : Bool) (o : StoreOffset) (n : ℕ) → Held (beginZeroesOf d t o n memory scratch .dock)
+  unfolding beginZeroesOf
+  zeroes-held t o n = only-held _ (λ l. begun-held d H (vectorOf []) memory scratch l Zeroes (zeroPlan (d .settings) t o n) (zero-ready (d .settings) _ o (vectorOf []) t n))
+
+  discard-held : (o : StoreOffset) (n : ℕ) → Held (beginDiscardOf d o n memory scratch .dock)
+  unfolding beginDiscardOf
+  discard-held o n = only-held _ (λ l. begun-held d H (vectorOf []) memory scratch l Discard (discardPlan (d .settings) o n) (discard-ready (d .settings) _ o (vectorOf []) n))
+
+-- ---- tell
+
+module _ (d : Dock) (H : Held d) (p : ℕ) where
+  -- the test of the job at hand is passed
+  pub kept-held : p < 8 → isKept d p ≡ true
+  unfolding isKept isKeptBy
+  kept-held h = simp (H .slots p h .sound, le-leb _ _ (opened (d .settings) (d .buffers) (H .opened) .room))
+
+  out-pending : isOutBy (d .blockers) (stateAt d p) p ≡ true → isPending (stateAt d p .phase) ≡ true
+  unfolding isOutBy
+  out-pending e = and-left _ _ e
+
+  -- document 01's order and nothing else: 205, 208, 209
+  abbrev tellRule : ℕ → List ℕ → List ℕ → Told
+  tellRule code memory scratch =
+      pick (lentFits (d .buffers) (length memory) (length scratch))
+      (pick (isOut d p)
+      (pick (ltb code 200) (after d p (stateAt d p) code memory scratch (toldOf (d .settings) (stateAt d p) code)) (refusedTell d memory scratch NoAnswer))
+      (refusedTell d memory scratch Slot))
+      (refusedTell d memory scratch Buffer)
+
+  module _ (code : ℕ) (memory scratch : List ℕ) where
+    abbrev step : Told
+    step = after d p (stateAt d p) code memory scratch (toldOf (d .settings) (stateAt d p) code)
+
+    there : p < 8 → length memory ≡ d .buffers .«data» .length → (t u : Bool) → isOutBy (d .blockers) (stateAt d p) p ≡ t
+        → pick (t && isKeptBy (stateAt d p) (d .settings) (d .buffers)) (pick u (stepped d p (stateAt d p) code memory scratch (toldOf (d .settings) (stateAt d p) code)) (refusedTell d memory scratch NoAnswer)) (refusedTell d memory scratch Slot)
+        ≡ pick t (pick u step (refusedTell d memory scratch NoAnswer)) (refusedTell d memory scratch Slot)
+    unfolding isKept
+    there h l true true e = simp (kept-held h) (told-done d H p h (out-pending e) code memory scratch l)
+    there h l true false e = simp (kept-held h)
+    there h l false u e = refl
+
+    pub tell-held-is : tellOf d p code memory scratch ≡ tellRule code memory scratch
+    unfolding tellOf tellAt isOut
+    tell-held-is = go (lentFits (d .buffers) (length memory) (length scratch)) (ltb p 8) refl refl
+      where
+        go : (a b : Bool) → lentFits (d .buffers) (length memory) (length scratch) ≡ a → ltb p 8 ≡ b
+            → pick a (pick b (tellAt d p code memory scratch) (refusedTell d memory scratch Slot)) (refusedTell d memory scratch Buffer)
+            ≡ pick a (pick (b && isOutBy (d .blockers) (stateAt d p) p) (pick (ltb code 200) step (refusedTell d memory scratch NoAnswer)) (refusedTell d memory scratch Slot)) (refusedTell d memory scratch Buffer)
+        go true true e f = there (ltb-true p 8 f) (data-long (d .buffers) (length memory) (length scratch) e) (isOutBy (d .blockers) (stateAt d p) p) (ltb code 200) refl
+        go true false e f = refl
+        go false b e f = refl
+
+    rule-held : Held (tellRule code memory scratch .dock)
+    unfolding isOut
+    rule-held = go (lentFits (d .buffers) (length memory) (length scratch)) (ltb p 8) (isOutBy (d .blockers) (stateAt d p) p) (ltb code 200) refl refl refl
+      where
+        go : (a b c u : Bool) → lentFits (d .buffers) (length memory) (length scratch) ≡ a → ltb p 8 ≡ b → isOutBy (d .blockers) (stateAt d p) p ≡ c
+            → Held (pick a (pick (b && c) (pick u step (refusedTell d memory scratch NoAnswer)) (refusedTell d memory scratch Slot)) (refusedTell d memory scratch Buffer) .dock)
+        go true true true true e f g = told-held d H p (ltb-true p 8 f) (out-pending g) code memory scratch (data-long (d .buffers) (length memory) (length scratch) e)
+        go true true true false e f g = H
+        go true true false u e f g = H
+        go true false c u e f g = H
+        go false b c u e f g = H
+
+    tell-held : Held (tellOf d p code memory scratch .dock)
+    tell-held = subst (λ (t : Told). Held (t .dock)) (sym tell-held-is) rule-held
+
+  collect-held : (m n : ℕ) → Held (collectOf d p m n .dock)
+  unfolding collectOf
+  collect-held m n = go (lentFits (d .buffers) m n) (ltb p 8) (hasEnded (stateAt d p .phase)) refl refl
+    where
+      go : (a b c : Bool) → ltb p 8 ≡ b → hasEnded (stateAt d p .phase) ≡ c
+          → Held (pick {A = Collects} a (pick (b && c) (record { dock = withJob d p (d .blockers) vacant (vectorOf []); answer = Final (stateAt d p .answer) }) (record { dock = d; answer = NotCollected Slot })) (record { dock = d; answer = NotCollected Buffer }) .dock)
+      go true true true e f = freed-held d H p (ltb-true p 8 e) f
+      go true true false e f = H
+      go true false c e f = H
+      go false b c e f = H
+
+-- ---- every dock that calls made
+
+profile-held : (f : Profile) (n : ℕ) (b : Buffers) → openBy f n b .outcome ≡ Done → Held (openBy f n b .dock)
+unfolding openOf
+profile-held (Of a) n b e = fresh-held (record { align = a; bounce = n }) b e
+profile-held (NoProfile r) n b e = let z : _≡_ {A = ℕ} 0 1 = cc in absurd (omega arith)
+
+pub made-held : {d : Dock} → Made d → Held d
+unfolding openOf openProfileOf
+made-held (opens s b e) = fresh-held s b e
+made-held (opens-profile i n b e) = profile-held (profileOf i) n b e
+made-held (begins-read {d} k o v memory scratch) = read-held d (made-held k) memory scratch o v
+made-held (begins-write {d} k o v memory scratch) = write-held d (made-held k) memory scratch o v
+made-held (begins-zeroes {d} k t o n memory scratch) = zeroes-held d (made-held k) memory scratch t o n
+made-held (begins-discard {d} k o n memory scratch) = discard-held d (made-held k) memory scratch o n
+made-held (tells {d} k p code memory scratch) = tell-held d (made-held k) p code memory scratch
+made-held (collects {d} k p m n) = collect-held d (made-held k) p m n
