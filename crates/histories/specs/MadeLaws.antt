@@ -11,7 +11,7 @@ use Rattle.arithmetic.specs.Rounding.{pick}
 use Rattle.arithmetic.specs.SettingsLaws.{and-left, opened}
 use Rattle.arithmetic.specs.Settings.{openingOf, profileOf, alignments}
 use Rattle.arithmetic.specs.declared.refusals.Refusal.{Refusal}
-use Rattle.arithmetic.specs.declared.refusals.Refusal.the-variants.{Unfit, Segment, Buffer, Slot, NoAnswer}
+use Rattle.arithmetic.specs.declared.refusals.Refusal.the-variants.{Segment, Overlap, Full, Buffer, Slot, NoAnswer}
 use Rattle.arithmetic.specs.declared.refusals.Outcome.{Outcome}
 use Rattle.arithmetic.specs.declared.refusals.Outcome.the-variants.{Done, Refused}
 use Rattle.arithmetic.specs.declared.offsets.StoreOffset.{StoreOffset}
@@ -28,12 +28,13 @@ use Rattle.stages.specs.declared.state.Job.{Job}
 use Rattle.stages.specs.declared.state.Job.the-variants.{Read, Write, Zeroes, Discard}
 use Rattle.stages.specs.declared.state.State.{State}
 use Rattle.stages.specs.declared.plan.Plan.{Plan}
-use Rattle.stages.specs.declared.plan.Plan.the-variants.{Started}
-use Rattle.dock.specs.Dock.{stateAt, vectorAt, fresh, vacant, openOf, openBy, openProfileOf, lentFits, lentBy, lentOf, isOutBy, isOut, firstFree}
+use Rattle.stages.specs.declared.plan.Plan.the-variants.{Done as NothingToDo, Started, Refused as PlanRefused}
+use Rattle.dock.specs.Dock.{stateAt, vectorAt, fresh, vacant, openOf, openBy, openProfileOf, lentFits, lentBy, lentOf, isOutBy, isOut, overlapsOf, firstFree}
 use Rattle.dock.specs.Begin.{withJob, Begins, onlyIf, vectorThen, begunBy, placed, placedAt, isAligned, refusedBegin, beginReadOf, beginWriteOf, beginZeroesOf, beginDiscardOf}
 use Rattle.dock.specs.Next.{isKeptBy, isKept}
 use Rattle.dock.specs.Tell.{Told, stepped, after, tellAt, tellOf, refusedTell, collectOf}
 use Rattle.dock.specs.declared.dock.Dock.{Dock}
+use Rattle.dock.specs.declared.begin.Begun.the-variants.{Done as NoRequest}
 use Rattle.dock.specs.declared.tell.Collects.{Collects}
 use Rattle.dock.specs.declared.tell.Collected.the-variants.{Final, Refused as NotCollected}
 use Rattle.histories.specs.Courses.{never}
@@ -58,7 +59,50 @@ data-long b m n e = eqb-true m (b .«data» .length) (and-left _ _ e)
 
 -- ---- begin
 
+abbrev pub alignedFor : Dock → IoVector → Bool
+alignedFor d v = isAligned (alignmentOf (d .settings .align) (d .buffers .«data») v)
+
+-- "203, 204", then the lowest free slot: what `begunBy` says, without a refusal at the slot
+abbrev pub begunRule : Dock → Job → IoVector → List ℕ → List ℕ → Plan → Begins
+begunRule d j v memory scratch NothingToDo = record { dock = d; answer = NoRequest; scratch = scratch }
+begunRule d j v memory scratch (PlanRefused r) = refusedBegin d scratch r
+begunRule d j v memory scratch (Started x) =
+    pick (overlapsOf (d .states) (d .vectors) j v) (refusedBegin d scratch Overlap)
+    (pick (ltb (firstFree (d .states)) 8) (placed d (firstFree (d .states)) x v memory scratch) (refusedBegin d scratch Full))
+
 module _ (d : Dock) (H : Held d) (memory scratch : List ℕ) where
+  -- a planned job is begun by that rule
+  begun-is : length memory ≡ d .buffers .«data» .length → (j : Job) (v : IoVector) (plan : Plan) → Starts (Ready (d .settings) (d .buffers .«data» .length) v) plan
+      → begunBy d j v memory scratch plan ≡ begunRule d j v memory scratch plan
+  begun-is l j v NothingToDo k = refl
+  begun-is l j v (PlanRefused r) k = refl
+  begun-is l j v (Started x) k = go (overlapsOf (d .states) (d .vectors) j v) (ltb (firstFree (d .states)) 8) refl
+    where
+      p : ℕ
+      p = firstFree (d .states)
+
+      go : (t u : Bool) → ltb p 8 ≡ u
+          → pick t (refusedBegin d scratch Overlap) (pick u (placedAt d p x v memory scratch) (refusedBegin d scratch Full))
+          ≡ pick t (refusedBegin d scratch Overlap) (pick u (placed d p x v memory scratch) (refusedBegin d scratch Full))
+      go true u e = refl
+      go false true e = place-done d H v memory scratch l x k (ltb-true p 8 e)
+      go false false e = refl
+
+  only-is : (k i : Begins) → (length memory ≡ d .buffers .«data» .length → k ≡ i)
+      → onlyIf d scratch (lentOf (d .settings) (d .buffers) (length memory) (length scratch)) k ≡ onlyIf d scratch (lentOf (d .settings) (d .buffers) (length memory) (length scratch)) i
+  only-is k i f = go (lentOf (d .settings) (d .buffers) (length memory) (length scratch)) refl
+    where
+      go : (o : Outcome) → lentOf (d .settings) (d .buffers) (length memory) (length scratch) ≡ o → onlyIf d scratch o k ≡ onlyIf d scratch o i
+      go Done e = f (data-long (d .buffers) (length memory) (length scratch) (lent-fits (d .settings) (d .buffers) (length memory) (length scratch) e))
+      go (Refused r) e = refl
+
+  vector-is : (v : IoVector) (k i : Begins) → (isValid (length memory) v ≡ true → k ≡ i) → vectorThen d v memory scratch k ≡ vectorThen d v memory scratch i
+  vector-is v k i f = go (isValid (length memory) v) refl
+    where
+      go : (t : Bool) → isValid (length memory) v ≡ t → pick t k (refusedBegin d scratch Segment) ≡ pick t i (refusedBegin d scratch Segment)
+      go true e = f e
+      go false e = refl
+
   only-held : (k : Begins) → (length memory ≡ d .buffers .«data» .length → Held (k .dock)) → Held (onlyIf d scratch (lentOf (d .settings) (d .buffers) (length memory) (length scratch)) k .dock)
   only-held k f = go (lentOf (d .settings) (d .buffers) (length memory) (length scratch)) refl
     where
@@ -73,20 +117,17 @@ module _ (d : Dock) (H : Held d) (memory scratch : List ℕ) where
       go true e = f e
       go false e = H
 
-  abbrev aligned : IoVector → Bool
-  aligned v = isAligned (alignmentOf (d .settings .align) (d .buffers .«data») v)
-
   read-held : (o : StoreOffset) (v : IoVector) → Held (beginReadOf d o v memory scratch .dock)
   unfolding beginReadOf
   read-held o v =
       only-held _ (λ l. vector-held v _ (λ e.
-      begun-held d H v memory scratch l Read (readPlan (d .settings) o (v .total) (aligned v)) (read-ready (d .settings) _ o v (rw l at e) (aligned v))))
+      begun-held d H v memory scratch l Read (readPlan (d .settings) o (v .total) (alignedFor d v)) (read-ready (d .settings) _ o v (rw l at e) (alignedFor d v))))
 
   write-held : (o : StoreOffset) (v : IoVector) → Held (beginWriteOf d o v memory scratch .dock)
   unfolding beginWriteOf
   write-held o v =
       only-held _ (λ l. vector-held v _ (λ e.
-      begun-held d H v memory scratch l Write (writePlan (d .settings) o (v .total) (aligned v)) (write-ready (d .settings) _ o v (rw l at e) (aligned v))))
+      begun-held d H v memory scratch l Write (writePlan (d .settings) o (v .total) (alignedFor d v)) (write-ready (d .settings) _ o v (rw l at e) (alignedFor d v))))
 
   zeroes-held : (t : Bool) (o : StoreOffset) (n : ℕ) → Held (beginZeroesOf d t o n memory scratch .dock)
   unfolding beginZeroesOf
@@ -98,24 +139,24 @@ module _ (d : Dock) (H : Held d) (memory scratch : List ℕ) where
 
 -- ---- tell
 
+-- "Tell: 205, 208, 209", and nothing else
+abbrev pub tellRule : Dock → ℕ → ℕ → List ℕ → List ℕ → Told
+tellRule d p code memory scratch =
+    pick (lentFits (d .buffers) (length memory) (length scratch))
+    (pick (isOut d p)
+    (pick (ltb code 200) (after d p (stateAt d p) code memory scratch (toldOf (d .settings) (stateAt d p) code)) (refusedTell d memory scratch NoAnswer))
+    (refusedTell d memory scratch Slot))
+    (refusedTell d memory scratch Buffer)
+
 module _ (d : Dock) (H : Held d) (p : ℕ) where
   -- the test of the job at hand is passed
-  pub kept-held : p < 8 → isKept d p ≡ true
+  kept-held : p < 8 → isKept d p ≡ true
   unfolding isKept isKeptBy
   kept-held h = simp (H .slots p h .sound, le-leb _ _ (opened (d .settings) (d .buffers) (H .opened) .room))
 
   out-pending : isOutBy (d .blockers) (stateAt d p) p ≡ true → isPending (stateAt d p .phase) ≡ true
   unfolding isOutBy
   out-pending e = and-left _ _ e
-
-  -- document 01's order and nothing else: 205, 208, 209
-  abbrev tellRule : ℕ → List ℕ → List ℕ → Told
-  tellRule code memory scratch =
-      pick (lentFits (d .buffers) (length memory) (length scratch))
-      (pick (isOut d p)
-      (pick (ltb code 200) (after d p (stateAt d p) code memory scratch (toldOf (d .settings) (stateAt d p) code)) (refusedTell d memory scratch NoAnswer))
-      (refusedTell d memory scratch Slot))
-      (refusedTell d memory scratch Buffer)
 
   module _ (code : ℕ) (memory scratch : List ℕ) where
     abbrev step : Told
@@ -129,9 +170,9 @@ module _ (d : Dock) (H : Held d) (p : ℕ) where
     there h l true false e = simp (kept-held h)
     there h l false u e = refl
 
-    pub tell-held-is : tellOf d p code memory scratch ≡ tellRule code memory scratch
+    tell-is : tellOf d p code memory scratch ≡ tellRule d p code memory scratch
     unfolding tellOf tellAt isOut
-    tell-held-is = go (lentFits (d .buffers) (length memory) (length scratch)) (ltb p 8) refl refl
+    tell-is = go (lentFits (d .buffers) (length memory) (length scratch)) (ltb p 8) refl refl
       where
         go : (a b : Bool) → lentFits (d .buffers) (length memory) (length scratch) ≡ a → ltb p 8 ≡ b
             → pick a (pick b (tellAt d p code memory scratch) (refusedTell d memory scratch Slot)) (refusedTell d memory scratch Buffer)
@@ -140,7 +181,7 @@ module _ (d : Dock) (H : Held d) (p : ℕ) where
         go true false e f = refl
         go false b e f = refl
 
-    rule-held : Held (tellRule code memory scratch .dock)
+    rule-held : Held (tellRule d p code memory scratch .dock)
     unfolding isOut
     rule-held = go (lentFits (d .buffers) (length memory) (length scratch)) (ltb p 8) (isOutBy (d .blockers) (stateAt d p) p) (ltb code 200) refl refl refl
       where
@@ -153,7 +194,7 @@ module _ (d : Dock) (H : Held d) (p : ℕ) where
         go false b c u e f g = H
 
     tell-held : Held (tellOf d p code memory scratch .dock)
-    tell-held = subst (λ (t : Told). Held (t .dock)) (sym tell-held-is) rule-held
+    tell-held = subst (λ (t : Told). Held (t .dock)) (sym tell-is) rule-held
 
   collect-held : (m n : ℕ) → Held (collectOf d p m n .dock)
   unfolding collectOf
@@ -183,3 +224,43 @@ made-held (begins-zeroes {d} k t o n memory scratch) = zeroes-held d (made-held 
 made-held (begins-discard {d} k o n memory scratch) = discard-held d (made-held k) memory scratch o n
 made-held (tells {d} k p code memory scratch) = tell-held d (made-held k) p code memory scratch
 made-held (collects {d} k p m n) = collect-held d (made-held k) p m n
+
+-- ---- so document 01's rules are all that a call on such a dock meets
+
+module _ {d : Dock} (k : Made d) where
+  -- the test of the job at hand is passed
+  pub made-kept : (p : ℕ) → p < 8 → isKept d p ≡ true
+  made-kept p h = kept-held d (made-held k) p h
+
+  pub made-tell : (p code : ℕ) (memory scratch : List ℕ) → tellOf d p code memory scratch ≡ tellRule d p code memory scratch
+  made-tell p code memory scratch = tell-is d (made-held k) p code memory scratch
+
+  module _ (o : StoreOffset) (memory scratch : List ℕ) where
+    abbrev lent : Begins → Begins
+    lent i = onlyIf d scratch (lentOf (d .settings) (d .buffers) (length memory) (length scratch)) i
+
+    vector-begin : (j : Job) (v : IoVector) (plan : Plan) → (isValid (d .buffers .«data» .length) v ≡ true → Starts (Ready (d .settings) (d .buffers .«data» .length) v) plan)
+        → lent (vectorThen d v memory scratch (begunBy d j v memory scratch plan)) ≡ lent (vectorThen d v memory scratch (begunRule d j v memory scratch plan))
+    vector-begin j v plan r = only-is d (made-held k) memory scratch _ _ (λ l. vector-is d (made-held k) memory scratch v _ _ (λ e. begun-is d (made-held k) memory scratch l j v plan (r (rw l at e))))
+
+    bare-begin : (j : Job) (v : IoVector) (plan : Plan) → Starts (Ready (d .settings) (d .buffers .«data» .length) v) plan
+        → lent (begunBy d j v memory scratch plan) ≡ lent (begunRule d j v memory scratch plan)
+    bare-begin j v plan r = only-is d (made-held k) memory scratch _ _ (λ l. begun-is d (made-held k) memory scratch l j v plan r)
+
+    pub made-read : (v : IoVector) → beginReadOf d o v memory scratch
+        ≡ lent (vectorThen d v memory scratch (begunRule d Read v memory scratch (readPlan (d .settings) o (v .total) (alignedFor d v))))
+    unfolding beginReadOf
+    made-read v = vector-begin Read v (readPlan (d .settings) o (v .total) (alignedFor d v)) (λ e. read-ready (d .settings) _ o v e (alignedFor d v))
+
+    pub made-write : (v : IoVector) → beginWriteOf d o v memory scratch
+        ≡ lent (vectorThen d v memory scratch (begunRule d Write v memory scratch (writePlan (d .settings) o (v .total) (alignedFor d v))))
+    unfolding beginWriteOf
+    made-write v = vector-begin Write v (writePlan (d .settings) o (v .total) (alignedFor d v)) (λ e. write-ready (d .settings) _ o v e (alignedFor d v))
+
+    pub made-zeroes : (t : Bool) (n : ℕ) → beginZeroesOf d t o n memory scratch ≡ lent (begunRule d Zeroes (vectorOf []) memory scratch (zeroPlan (d .settings) t o n))
+    unfolding beginZeroesOf
+    made-zeroes t n = bare-begin Zeroes (vectorOf []) (zeroPlan (d .settings) t o n) (zero-ready (d .settings) _ o (vectorOf []) t n)
+
+    pub made-discard : (n : ℕ) → beginDiscardOf d o n memory scratch ≡ lent (begunRule d Discard (vectorOf []) memory scratch (discardPlan (d .settings) o n))
+    unfolding beginDiscardOf
+    made-discard n = bare-begin Discard (vectorOf []) (discardPlan (d .settings) o n) (discard-ready (d .settings) _ o (vectorOf []) n)
