@@ -1,5 +1,7 @@
--- What the contracts of dock cite, in document 01's order.
+-- What the contracts of dock cite, in document 01's order; then the numbers of its answers, and a law on its refusals.
 pub mod Dock
 pub mod Begin
 pub mod Next
 pub mod Tell
+pub mod Numbers
+pub mod RefusalLaws

@@ -5,3 +5,4 @@ pub mod open; // opening, with alignments or by drive profile
 pub mod begin; // begin of a read, a write, zeroes, a discard
 pub mod next; // what is due, and the pieces of a request
 pub mod tell; // tell and collect
+pub mod numbers; // document 01's number of each answer
