@@ -5,6 +5,7 @@ use lib.Dec.{eqb, ltb, leb}
 use Rattle.arithmetic.specs.Rounding.{pick, fits, isMultiple, roundDown, roundUp}
 use Rattle.arithmetic.specs.Offsets.{storeAt, bufferAt, rangeOf}
 use Rattle.arithmetic.specs.Settings.{alignmentsFit, lengthAlign}
+use Rattle.arithmetic.specs.declared.refusals.Refusal.{Refusal}
 use Rattle.arithmetic.specs.declared.refusals.Refusal.the-variants.{Unfit, Overflow}
 use Rattle.arithmetic.specs.declared.offsets.StoreOffset.{StoreOffset}
 use Rattle.arithmetic.specs.declared.settings.Alignments.{Alignments}
@@ -82,6 +83,10 @@ transferOf a o n vectorAligned =
     (pick (isDirect (a .req) (o .0) n vectorAligned) (Direct (rangeOf (o .0) (o .0 + n))) (bounced (paddedOf (a .req) (lengthAlign a) (o .0) n)))
     (NoTransfer Overflow))
     (NoTransfer Unfit)
+
+-- why a transfer is refused
+abbrev pub paddingRefusal : Alignments → Refusal
+paddingRefusal a = pick (alignmentsFit a) Overflow Unfit
 
 -- "If H + T equals the padded length: one read of all. Otherwise a read of the first H bytes if H > 0, then of the last T if T > 0."
 unfoldable pub readsOf : Span → Reads

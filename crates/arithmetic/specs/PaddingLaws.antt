@@ -1,4 +1,4 @@
--- Laws of padding: the padded range holds the asked one, its length is the least multiple of L that holds h + length, H and T are 0 or L, and the reads cover what is not asked. Assumes nothing.
+-- Laws of padding: the padded range holds the asked one, its length is the least multiple of L that holds h + length, H and T are 0 or L, and the reads cover what is not asked; a transfer is refused for its alignments or for a sum. Assumes nothing.
 use mathlib.Core.Path.{_≡_, refl, sym, ap, _∙_}
 use mathlib.Core.Bool.{Bool, true, false, _&&_, _||_, or-true}
 use mathlib.Core.Logic.{_⊎_, inl, inr, ⊎-elim}
@@ -13,7 +13,8 @@ use lib.Dec.{eqb}
 use Rattle.arithmetic.specs.RoundingLaws.{multiple-add, multiple-sub, multiple-trans, multiple-le, down-le, down-near, down-multiple, up-ge, up-near, up-multiple, up-least, up-same, true-fits}
 use Rattle.arithmetic.specs.Settings.{alignmentsFit, lengthAlign}
 use Rattle.arithmetic.specs.SettingsLaws.{and-left, and-right, Aligned, aligned}
-use Rattle.arithmetic.specs.Padding.{paddedStart, roundedEnd, paddedLength, paddedEnd, paddingFits, headOf, tailOf, spanOf, paddedOf, paddingOf, isDirect, bounced, transferOf, readsOf, within, isRead}
+use Rattle.arithmetic.specs.Padding.{paddedStart, roundedEnd, paddedLength, paddedEnd, paddingFits, headOf, tailOf, spanOf, paddedOf, paddingOf, isDirect, bounced, transferOf, paddingRefusal, readsOf, within, isRead}
+use Rattle.arithmetic.specs.declared.refusals.Refusal.{Refusal}
 use Rattle.arithmetic.specs.declared.refusals.Refusal.the-variants.{Unfit, Overflow}
 use Rattle.arithmetic.specs.declared.offsets.StoreOffset.{StoreOffset}
 use Rattle.arithmetic.specs.declared.settings.Alignments.{Alignments}
@@ -260,3 +261,24 @@ transfers a o n t = go (alignmentsFit a) (fits (o .0 + n)) (t && eqb (o .0 % a .
     go true true false p q d = transfers-by a (o .0) n (aligned a p) (paddedOf (a .req) (lengthAlign a) (o .0) n) refl
     go true false z p q d = tt
     go false y z p q d = tt
+
+refused-by : (r l o n : ℕ) (x : Refusal) → bounced (paddedOf r l o n) ≡ NoTransfer x → x ≡ Overflow
+unfolding paddedOf
+refused-by r l o n x e = go (paddingFits r l o n) e
+  where
+    go : (y : Bool) → bounced (pick y (Padded (spanOf r l o n)) (Refused Overflow)) ≡ NoTransfer x → x ≡ Overflow
+    go true e = let z : _≡_ {A = ℕ} 0 1 = cc in absurd (omega arith)
+    go false e = cc
+
+-- refused: 201 for its alignments, else 207 for a sum
+pub transfer-refused : (a : Alignments) (o : StoreOffset) (n : ℕ) (t : Bool) (x : Refusal) → transferOf a o n t ≡ NoTransfer x → x ≡ paddingRefusal a
+unfolding transferOf
+transfer-refused a o n t x e = go (alignmentsFit a) (fits (o .0 + n)) (isDirect (a .req) (o .0) n t) e
+  where
+    go : (u v w : Bool)
+        → pick u (pick v (pick w (Direct (rangeOf (o .0) (o .0 + n))) (bounced (paddedOf (a .req) (lengthAlign a) (o .0) n))) (NoTransfer Overflow)) (NoTransfer Unfit) ≡ NoTransfer x
+        → x ≡ pick u Overflow Unfit
+    go true true true e = let z : _≡_ {A = ℕ} 0 1 = cc in absurd (omega arith)
+    go true true false e = refused-by (a .req) (lengthAlign a) (o .0) n x e
+    go true false w e = cc
+    go false v w e = cc
