@@ -1,21 +1,30 @@
--- What each arm of the plans shows of the definition: a transfer or cut in hand, its plan is the definition's case. Assumes nothing.
-use mathlib.Core.Path.{_≡_, sym, ap, _∙_}
+-- What each answer of the plans shows of the definition: a transfer or cut in hand, its plan is the definition's case. Assumes nothing.
+use mathlib.Core.Path.{_≡_, refl, sym, ap, _∙_}
 use mathlib.Core.Bool.{Bool}
+use mathlib.Core.List.{[], _∷_}
+use mathlib.Core.Logic.{⊎-elim}
 use Prim.Native.Nat.{ℕ, _<_, _≤_}
+use native.Mathlib.Omega.{arith}
+use types.Run.{OneOf}
+use denote.Enum.Declared.{declared, tagOf}
 use borrow.Author.Tests.{eq-eqb, ne-eqb, le-leb, lt-leb}
 use Rattle.arithmetic.specs.Rounding.{isMultiple}
 use Rattle.arithmetic.specs.Settings.{lengthAlign}
-use Rattle.arithmetic.specs.Padding.{transferOf}
+use Rattle.arithmetic.specs.Padding.{transferOf, paddingRefusal}
+use Rattle.arithmetic.specs.PaddingLaws.{transfer-refused}
 use Rattle.arithmetic.specs.Zeroes.{zeroCutOf}
+use Rattle.arithmetic.specs.declared.refusals.Refusal.{Refusal}
 use Rattle.arithmetic.specs.declared.refusals.Refusal.the-variants.{TooLong}
 use Rattle.arithmetic.specs.declared.offsets.StoreOffset.{StoreOffset}
 use Rattle.arithmetic.specs.declared.offsets.Range.{Range}
+use Rattle.arithmetic.specs.declared.settings.Alignments.{Alignments}
 use Rattle.arithmetic.specs.declared.settings.Settings.{Settings}
 use Rattle.arithmetic.specs.declared.padding.Span.{Span}
 use Rattle.arithmetic.specs.declared.padding.Transfer.{Transfer}
-use Rattle.arithmetic.specs.declared.padding.Transfer.the-variants.{Direct}
+use Rattle.arithmetic.specs.declared.padding.Transfer.the-variants.{Direct, Bounced, Refused as NoTransfer}
 use Rattle.arithmetic.specs.declared.zeroes.ZeroCut.{ZeroCut}
-use Rattle.stages.specs.Stages.{sizeOf, directStage, paddedStage, firstPhase, stateOf, inBounce, readBy, readPlan, writeBy, writePlan, zeroesBy, zeroesPlan, zeroJob, zeroBy, zeroPlan}
+use Rattle.arithmetic.proofs.padding.Transfer.{enum}
+use Rattle.stages.specs.Stages.{sizeOf, directStage, paddedStage, stateOf, inBounce, readBy, readPlan, writeBy, writePlan, zeroesBy, zeroesPlan, zeroJob, zeroBy, zeroPlan}
 use Rattle.stages.specs.declared.state.Job.{Job}
 use Rattle.stages.specs.declared.state.Phase.{Phase}
 use Rattle.stages.specs.declared.state.Phase.the-variants.{BouncedWrite}
@@ -36,6 +45,26 @@ too-long s x p h = simp (lt-leb (x .length) (s .bounce) h)
 
 pub in-bounce : (s : Settings) (x : Span) {q : Plan} (p : Plan) → x .length ≤ s .bounce → q ≡ p → q ≡ inBounce s x p
 in-bounce s x p h e = simp (le-leb (x .length) (s .bounce) h) e
+
+-- a padded stage, in the first phase that f gives it
+pub padded-parts : (f : Stage → Phase) (j : Job) (w w′ m m′ : Range) (c : Course) (x : Span) (r r′ : Range) (g : Stage) (ph : Phase) {p : Plan}
+    → p ≡ Started (stateOf j w m c g ph) → w ≡ w′ → m ≡ m′ → g ≡ paddedStage x r → r ≡ r′ → ph ≡ f g
+    → p ≡ Started (stateOf j w′ m′ c (paddedStage x r′) (f (paddedStage x r′)))
+padded-parts f j w w′ m m′ c x r r′ g ph e ew em eg er ep =
+    let k : g ≡ paddedStage x r′ = eg ∙ ap (paddedStage x) er in
+    from-parts j w w′ m m′ c g (paddedStage x r′) ph (f (paddedStage x r′)) e ew em k (ep ∙ ap f k)
+
+-- a transfer that is neither direct nor bounced
+refusing : (x : Transfer) → OneOf (1 ∷ 2 ∷ []) (tagOf (declared enum) x) → OneOf (0 ∷ 2 ∷ []) (tagOf (declared enum) x) → (r : Refusal) × (x ≡ NoTransfer r)
+refusing (Direct r) k l = absurd (⊎-elim (λ e. omega arith) (λ e. omega arith) k)
+refusing (Bounced s) k l = absurd (⊎-elim (λ e. omega arith) (λ e. omega arith) l)
+refusing (NoTransfer r) k l = (r, refl)
+
+pub refused-is : (a : Alignments) (o : StoreOffset) (n : ℕ) (t : Bool) {x : Transfer} → x ≡ transferOf a o n t
+    → OneOf (1 ∷ 2 ∷ []) (tagOf (declared enum) x) → OneOf (0 ∷ 2 ∷ []) (tagOf (declared enum) x) → x ≡ NoTransfer (paddingRefusal a)
+refused-is a o n t {x} e k l =
+    let q = refusing x k l in
+    q .1 ∙ ap NoTransfer (transfer-refused a o n t (q .0) (sym e ∙ q .1))
 
 module _ (s : Settings) (o : StoreOffset) (n : ℕ) (t : Bool) where
   pub nothing-read : n ≡ 0 → Done ≡ readPlan s o n t
@@ -75,14 +104,6 @@ module _ (s : Settings) (j : Job) (w m : Range) (c : Course) (r : Range) where
   pub zeroes-direct : (x : Range) (g : Stage) {p : Plan} → sizeOf r ≤ s .bounce → p ≡ Started (stateOf j w m c g BouncedWrite) → g ≡ directStage r
       → p ≡ zeroesBy s j w m c r (Direct x)
   zeroes-direct x g h e eg = simp (le-leb (sizeOf r) (s .bounce) h) (e ∙ rw eg)
-
--- a padded write in its first phase
-pub padded-parts : (j : Job) (w w′ m m′ : Range) (c : Course) (x : Span) (r r′ : Range) (g : Stage) (ph : Phase) {p : Plan}
-    → p ≡ Started (stateOf j w m c g ph) → w ≡ w′ → m ≡ m′ → g ≡ paddedStage x r → r ≡ r′ → ph ≡ firstPhase g
-    → p ≡ Started (stateOf j w′ m′ c (paddedStage x r′) (firstPhase (paddedStage x r′)))
-padded-parts j w w′ m m′ c x r r′ g ph e ew em eg er ep =
-    let k : g ≡ paddedStage x r′ = eg ∙ ap (paddedStage x) er in
-    from-parts j w w′ m m′ c g (paddedStage x r′) ph (firstPhase (paddedStage x r′)) e ew em k (ep ∙ ap firstPhase k)
 
 -- a zero job's first stage
 

@@ -15,6 +15,7 @@ use arithmetic::padding::Span;
 use arithmetic::padding::Transfer;
 use arithmetic::padding::direct_or_padded;
 use arithmetic::refusals::Refusal;
+use arithmetic::settings::Alignments;
 use arithmetic::settings::Settings;
 use arithmetic::zeroes::DiscardCut;
 use arithmetic::zeroes::ZeroCut;
@@ -24,7 +25,7 @@ ghost use mathlib.Core.Path.{_≡_};
 ghost use Prim.Native.Nat.{_+_, _-_, _<_, _≤_, _^_};
 ghost use Rattle.arithmetic.specs.Offsets.{rangeOf};
 ghost use Rattle.stages.specs.Stages.{Holds, directStage, firstOf, secondOf, paddedStage, firstPhase, stateOf, asked, readPlan, writePlan, zeroesPlan, zeroJob, zeroPlan, discardPlan};
-ghost use Rattle.arithmetic.specs.Padding.{readsOf};
+ghost use Rattle.arithmetic.specs.Padding.{paddingRefusal, readsOf};
 
 // What a job begins with: nothing to do, its first stage, or a refusal.
 pub enum Plan {
@@ -168,6 +169,17 @@ fn asked_range(offset: StoreOffset, n: u64) -> Range
     }
 }
 
+// Why a transfer is refused: 201 for alignments that do not fit, else 207 (law transfer-refused).
+fn padding_refusal(align: Alignments) -> Refusal
+    ensures { λ r. ⌜ r ≡ paddingRefusal align ⌝ }
+{
+    if align.fit() {
+        Refusal::Overflow
+    } else {
+        Refusal::Unfit
+    }
+}
+
 // A read of n bytes at `offset` into a vector that is or is not aligned.
 pub fn read_plan(settings: Settings, offset: StoreOffset, n: u64, aligned: bool) -> Plan
     ensures { λ p. ⌜ p ≡ readPlan settings offset n aligned ⌝ }
@@ -251,29 +263,28 @@ pub fn zeroes_plan(
 {
     let align = settings.align;
     let n = size(part);
-    match direct_or_padded(part.start, n, is_multiple(n, align.length_align()), align) {
-        Transfer::Direct(_) => {
-            if settings.bounce < n {
-                return Plan::Refused(Refusal::TooLong);
-            }
-            started(
-                job,
-                range,
-                middle,
-                course,
-                direct_stage(part),
-                Phase::BouncedWrite,
-            )
+    let transfer = direct_or_padded(part.start, n, is_multiple(n, align.length_align()), align);
+    if let Transfer::Direct(_) = transfer {
+        if settings.bounce < n {
+            return Plan::Refused(Refusal::TooLong);
         }
-        Transfer::Bounced(s) => {
-            if settings.bounce < s.length {
-                return Plan::Refused(Refusal::TooLong);
-            }
-            let stage = padded_stage(s, part);
-            started(job, range, middle, course, stage, first_phase(stage))
-        }
-        Transfer::Refused(r) => Plan::Refused(r),
+        return started(
+            job,
+            range,
+            middle,
+            course,
+            direct_stage(part),
+            Phase::BouncedWrite,
+        );
     }
+    let Transfer::Bounced(s) = transfer else {
+        return Plan::Refused(padding_refusal(align));
+    };
+    if settings.bounce < s.length {
+        return Plan::Refused(Refusal::TooLong);
+    }
+    let stage = padded_stage(s, part);
+    started(job, range, middle, course, stage, first_phase(stage))
 }
 
 fn zero_job(allocate: bool) -> Job

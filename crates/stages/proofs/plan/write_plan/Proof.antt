@@ -4,6 +4,7 @@ use Rattle.arithmetic.specs.Padding.{transferOf}
 use Rattle.arithmetic.specs.PaddingLaws.{Spans}
 use Rattle.arithmetic.specs.declared.padding.Span.{Span}
 use Rattle.arithmetic.specs.declared.padding.Transfer.the-variants.{Direct, Bounced, Refused}
+use Rattle.stages.specs.Stages.{firstPhase}
 use Rattle.stages.specs.Transfers.{bounced, holds, asked-fits}
 use Rattle.stages.proofs.Plans.{from-parts, padded-parts, too-long, in-bounce, nothing-written, write-by}
 use Rattle.stages.proofs.plan.write_plan.Statement.{statement}
@@ -79,7 +80,7 @@ returns-4 c =
     let r = c .before .before .before .before .asked-range .ensures in
     write-by (a .settings) (a .offset) (a .n) (a .aligned) (Bounced x) (c .before .before .before .before .before .before .before .before .before .before .before .before .if1 .left) (padded-is (c .before .before .before .before .before .before .before .before .before))
     (in-bounce (a .settings) x _ (c .before .before .before .before .before .if2 .left)
-    (padded-parts _ _ _ _ _ _ x _ _ _ _ (c .started2 .ensures) r (c .before .before .nowhere2 .ensures) (c .before .before .before .padded-stage .ensures) r (c .before .first-phase .ensures)))
+    (padded-parts firstPhase _ _ _ _ _ _ x _ _ _ _ (c .started2 .ensures) r (c .before .before .nowhere2 .ensures) (c .before .before .before .padded-stage .ensures) r (c .before .first-phase .ensures)))
 
 returns-5 : tie.Need-returns-5
 returns-5 c =

@@ -1,11 +1,14 @@
--- `stages::plan::zeroes_plan` meets its contract: each arm's transfer is its case of the definition. Assumes nothing.
-use mathlib.Core.Path.{_≡_, refl, sym, _∙_}
+-- `stages::plan::zeroes_plan` meets its contract: each answer of the padding is its case of the definition. Assumes nothing.
+use mathlib.Core.Path.{_≡_, refl, sym, ap, _∙_}
 use Prim.Native.Nat.{_<_, _≤_}
 use Rattle.arithmetic.specs.declared.padding.Span.{Span}
-use Rattle.arithmetic.specs.declared.padding.Transfer.the-variants.{Direct, Bounced, Refused}
-use Rattle.stages.specs.Stages.{sizeOf}
+use Rattle.arithmetic.specs.declared.padding.Transfer.{Transfer}
+use Rattle.arithmetic.specs.declared.padding.Transfer.the-variants.{Direct, Bounced, Refused as NoTransfer}
+use Rattle.stages.specs.Stages.{sizeOf, firstPhase, zeroesBy, zeroesPlan}
 use Rattle.stages.specs.Transfers.{bounced, holds}
-use Rattle.stages.proofs.Plans.{padded-parts, too-long, in-bounce, transfer, zeroes-transfer, zeroes-by, zeroes-too-long, zeroes-direct}
+use Rattle.stages.specs.declared.plan.Plan.{Plan}
+use Rattle.stages.specs.declared.plan.Plan.the-variants.{Refused}
+use Rattle.stages.proofs.Plans.{padded-parts, too-long, in-bounce, refused-is, transfer, zeroes-transfer, zeroes-by, zeroes-too-long, zeroes-direct}
 use Rattle.stages.proofs.plan.zeroes_plan.Statement.{statement}
 use Rattle.stages.proofs.plan.zeroes_plan.Tie as tie
 
@@ -15,8 +18,12 @@ transfer-is c =
     let a = c .before .before .before .before .before .args in
     zeroes-transfer (a .settings) (a .part) _ _ _ (c .before .before .before .size .ensures) (c .before .before .length-align .ensures) (c .before .is-multiple .ensures) (c .direct-or-padded .ensures)
 
-abbrev span : tie.After-s → Span
-span c = c .s .given .0 .0
+-- the plan by that transfer
+by : (c : tie.After-direct-or-padded) (x : Transfer) {p : Plan} → let a = c .before .before .before .before .before .args in c .direct-or-padded .result ≡ x → p ≡ zeroesBy (a .settings) (a .job) (a .range) (a .middle) (a .course) (a .part) x → p ≡ zeroesPlan (a .settings) (a .job) (a .range) (a .middle) (a .course) (a .part)
+by c x e q = let a = c .before .before .before .before .before .args in zeroes-by (a .settings) (a .job) (a .range) (a .middle) (a .course) (a .part) x (transfer-is c) e q
+
+abbrev span : tie.After-transfer → Span
+span c = c .transfer .given .0 .0
 
 size-requires : tie.Need-size-requires
 size-requires c κs = tt
@@ -36,9 +43,9 @@ enum-told c = c .match .keys1
 returns : tie.Need-returns
 returns c =
     let a = c .before .before .before .before .before .before .before .before .before .args in
+    let t = c .before .before .enum-told .given in
     let h : a .settings .bounce < sizeOf (a .part) = rw (c .before .before .before .before .before .before .before .size .ensures) at (c .if1 .taken) in
-    zeroes-by (a .settings) (a .job) (a .range) (a .middle) (a .course) (a .part) (Direct _) (transfer-is (c .before .before .before .before)) (c .before .before .enum-told .given .1)
-    (zeroes-too-long (a .settings) (a .job) (a .range) (a .middle) (a .course) (a .part) (c .before .before .enum-told .given .0 .0) h)
+    by (c .before .before .before .before) (Direct (t .0 .0)) (t .1) (zeroes-too-long (a .settings) (a .job) (a .range) (a .middle) (a .course) (a .part) (t .0 .0) h)
 
 direct-stage-requires : tie.Need-direct-stage-requires
 direct-stage-requires c κs = tt
@@ -46,19 +53,35 @@ direct-stage-requires c κs = tt
 started-requires : tie.Need-started-requires
 started-requires c κs = tt
 
-enum-known-s : tie.Need-enum-known-s
-enum-known-s c = c .match .keys2
-
 returns-2 : tie.Need-returns-2
 returns-2 c =
     let a = c .before .before .before .before .before .before .before .before .before .before .before .args in
-    let x = span (c .before .before .before .before) in
-    zeroes-by (a .settings) (a .job) (a .range) (a .middle) (a .course) (a .part) (Bounced x) (transfer-is (c .before .before .before .before .before .before)) (c .before .before .before .before .s .given .1) (too-long (a .settings) x _ (c .if2 .taken))
+    let t = c .before .before .before .before .enum-told .given in
+    let h : sizeOf (a .part) ≤ a .settings .bounce = rw (c .before .before .before .before .before .before .before .before .before .size .ensures) at (c .before .before .if1 .left) in
+    by (c .before .before .before .before .before .before) (Direct (t .0 .0)) (t .1) (zeroes-direct (a .settings) (a .job) (a .range) (a .middle) (a .course) (a .part) (t .0 .0) _ h (c .started .ensures) (c .before .direct-stage .ensures))
+
+enum-known-transfer : tie.Need-enum-known-transfer
+enum-known-transfer c = c .match2 .keys1
+
+padding-refusal-requires : tie.Need-padding-refusal-requires
+padding-refusal-requires c κs = tt
+
+returns-3 : tie.Need-returns-3
+returns-3 c =
+    let a = c .before .before .before .before .before .before .before .before .args in
+    let d = c .before .before .before in
+    by d (NoTransfer _) (refused-is (a .settings .align) (a .part .start) (sizeOf (a .part)) _ (transfer-is d) (c .before .before .match .keys2) (c .before .match2 .keys2)) (ap Refused (c .padding-refusal .ensures))
+
+returns-4 : tie.Need-returns-4
+returns-4 c =
+    let t = c .before .before .before .before in
+    by (c .before .before .before .before .before .before .before) (Bounced (span t)) (t .transfer .given .1) (too-long (c .before .before .before .before .before .before .before .before .before .before .before .before .args .settings) (span t) _ (c .if2 .taken))
 
 padded-stage-requires : tie.Need-padded-stage-requires
 padded-stage-requires c κs =
-    let a = c .before .before .before .before .before .before .before .before .before .before .before .args in
-    holds (bounced (a .settings .align) (a .part .start) (sizeOf (a .part)) _ (span (c .before .before .before .before)) (sym (transfer-is (c .before .before .before .before .before .before)) ∙ c .before .before .before .before .s .given .1))
+    let a = c .before .before .before .before .before .before .before .before .before .before .before .before .args in
+    let t = c .before .before .before .before in
+    holds (bounced (a .settings .align) (a .part .start) (sizeOf (a .part)) _ (span t) (sym (transfer-is (c .before .before .before .before .before .before .before)) ∙ t .transfer .given .1))
 
 first-phase-requires : tie.Need-first-phase-requires
 first-phase-requires c κs = tt
@@ -66,28 +89,12 @@ first-phase-requires c κs = tt
 started-requires-2 : tie.Need-started-requires-2
 started-requires-2 c κs = tt
 
-enum-known-r : tie.Need-enum-known-r
-enum-known-r c = c .match .keys3
-
-returns-3 : tie.Need-returns-3
-returns-3 c =
-    let a = c .before .before .before .before .before .before .before .before .before .before .before .args in
-    let h : sizeOf (a .part) ≤ a .settings .bounce = rw (c .before .before .before .before .before .before .before .before .before .size .ensures) at (c .before .before .if1 .left) in
-    zeroes-by (a .settings) (a .job) (a .range) (a .middle) (a .course) (a .part) (Direct _) (transfer-is (c .before .before .before .before .before .before)) (c .before .before .before .before .enum-told .given .1)
-    (zeroes-direct (a .settings) (a .job) (a .range) (a .middle) (a .course) (a .part) (c .before .before .before .before .enum-told .given .0 .0) _ h (c .started .ensures) (c .before .direct-stage .ensures))
-
-returns-4 : tie.Need-returns-4
-returns-4 c =
-    let a = c .before .before .before .before .before .before .before .before .before .before .before .before .before .before .args in
-    let x = span (c .before .before .before .before .before .before .before) in
-    zeroes-by (a .settings) (a .job) (a .range) (a .middle) (a .course) (a .part) (Bounced x) (transfer-is (c .before .before .before .before .before .before .before .before .before)) (c .before .before .before .before .before .before .before .s .given .1)
-    (in-bounce (a .settings) x _ (c .before .before .before .if2 .left)
-    (padded-parts _ _ _ _ _ _ x _ _ _ _ (c .started2 .ensures) refl refl (c .before .before .padded-stage .ensures) refl (c .before .first-phase .ensures)))
-
 returns-5 : tie.Need-returns-5
 returns-5 c =
-    let a = c .before .before .before .before .before .before .before .before .args in
-    zeroes-by (a .settings) (a .job) (a .range) (a .middle) (a .course) (a .part) (Refused _) (transfer-is (c .before .before .before)) (c .before .r .given .1) refl
+    let t = c .before .before .before .before .before .before .before in
+    by (c .before .before .before .before .before .before .before .before .before .before) (Bounced (span t)) (t .transfer .given .1)
+    (in-bounce (c .before .before .before .before .before .before .before .before .before .before .before .before .before .before .before .args .settings) (span t) _ (c .before .before .before .if2 .left)
+    (padded-parts firstPhase _ _ _ _ _ _ (span t) _ _ _ _ (c .started2 .ensures) refl refl (c .before .before .padded-stage .ensures) refl (c .before .first-phase .ensures)))
 
 pub zeroes-plan-spec : {M : Type 1} → statement M
 zeroes-plan-spec =
@@ -101,12 +108,12 @@ zeroes-plan-spec =
     returns
     direct-stage-requires
     started-requires
-    enum-known-s
     returns-2
+    enum-known-transfer
+    padding-refusal-requires
+    returns-3
+    returns-4
     padded-stage-requires
     first-phase-requires
     started-requires-2
-    enum-known-r
-    returns-3
-    returns-4
     returns-5)
