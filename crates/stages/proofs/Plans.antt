@@ -24,7 +24,7 @@ use Rattle.arithmetic.specs.declared.padding.Transfer.{Transfer}
 use Rattle.arithmetic.specs.declared.padding.Transfer.the-variants.{Direct, Bounced, Refused as NoTransfer}
 use Rattle.arithmetic.specs.declared.zeroes.ZeroCut.{ZeroCut}
 use Rattle.arithmetic.proofs.padding.Transfer.{enum}
-use Rattle.stages.specs.Stages.{sizeOf, directStage, paddedStage, stateOf, inBounce, readBy, readPlan, writeBy, writePlan, zeroesBy, zeroesPlan, zeroJob, zeroBy, zeroPlan}
+use Rattle.stages.specs.Stages.{sizeOf, directStage, paddedStage, stateOf, inBounce, vectorBy, vectorPlan, zeroesBy, zeroesPlan, zeroJob, zeroBy, zeroPlan}
 use Rattle.stages.specs.declared.state.Job.{Job}
 use Rattle.stages.specs.declared.state.Phase.{Phase}
 use Rattle.stages.specs.declared.state.Phase.the-variants.{BouncedWrite}
@@ -66,22 +66,14 @@ refused-is a o n t {x} e k l =
     let q = refusing x k l in
     q .1 ∙ ap NoTransfer (transfer-refused a o n t (q .0) (sym e ∙ q .1))
 
-module _ (s : Settings) (o : StoreOffset) (n : ℕ) (t : Bool) where
-  pub nothing-read : n ≡ 0 → Done ≡ readPlan s o n t
-  unfolding readPlan
-  nothing-read z = simp (eq-eqb n 0 z)
+-- a job over a vector
 
-  pub read-by : (x : Transfer) {p : Plan} → (n ≡ 0 → ⊥) → transferOf (s .align) o n t ≡ x → p ≡ readBy s o n x → p ≡ readPlan s o n t
-  unfolding readPlan
-  read-by x z e q = simp (ne-eqb n 0 z) (q ∙ sym (ap (readBy s o n) e))
+module _ (s : Settings) (j : Job) (d : Phase) (o : StoreOffset) (n : ℕ) (t : Bool) where
+  pub nothing-moved : n ≡ 0 → Done ≡ vectorPlan s j d o n t
+  nothing-moved z = simp (eq-eqb n 0 z)
 
-  pub nothing-written : n ≡ 0 → Done ≡ writePlan s o n t
-  unfolding writePlan
-  nothing-written z = simp (eq-eqb n 0 z)
-
-  pub write-by : (x : Transfer) {p : Plan} → (n ≡ 0 → ⊥) → transferOf (s .align) o n t ≡ x → p ≡ writeBy s o n x → p ≡ writePlan s o n t
-  unfolding writePlan
-  write-by x z e q = simp (ne-eqb n 0 z) (q ∙ sym (ap (writeBy s o n) e))
+  pub vector-by : (x : Transfer) {p : Plan} → (n ≡ 0 → ⊥) → transferOf (s .align) o n t ≡ x → p ≡ vectorBy s j d o n x → p ≡ vectorPlan s j d o n t
+  vector-by x z e q = simp (ne-eqb n 0 z) (q ∙ sym (ap (vectorBy s j d o n) e))
 
 -- a write of zeroes over r
 

@@ -1,5 +1,5 @@
 -- Laws of stages: a stage that a job begins with or enters is sound, pending and placed, and keeps the job and its range; a told code keeps what it must; reads never enter a stage; a zero job never meets 206. Assumes nothing.
-use mathlib.Core.Path.{_≡_, refl, ap, subst}
+use mathlib.Core.Path.{_≡_, refl, sym, ap, subst, _∙_}
 use mathlib.Core.Bool.{Bool, true, false, _||_, not}
 use mathlib.Core.Logic.{_⊎_, inl, inr, ⊎-elim}
 use Prim.Native.Nat.{ℕ, _+_, _-_, _^_, _<_, _≤_}
@@ -33,10 +33,10 @@ use Rattle.arithmetic.specs.declared.zeroes.ZeroCut.the-variants.{Nothing as No
 use Rattle.arithmetic.specs.declared.zeroes.DiscardCut.{DiscardCut}
 use Rattle.arithmetic.specs.declared.zeroes.DiscardCut.the-variants.{Nothing as NoDiscard, Middle as DiscardMiddle, Refused as DiscardRefused}
 use Rattle.arithmetic.specs.declared.zeroes.Chunk.the-variants.{Nothing as NoChunk, Next, Refused as ChunkRefused}
-use Rattle.stages.specs.Stages.{sizeOf, directStage, firstOf, secondOf, paddedStage, firstPhase, stateOf, asked, readBy, readPlan, writeBy, writePlan, zeroesBy, zeroesPlan, zeroBy, zeroJob, zeroPlan, discardBy, discardPlan, inPhase, endedWith, laterStage, zeroesNext, chunkBy, chunkNext, tailNext, headNext, stageDone, doneNext, unsupportedNext, toldOf, isPending, usesBounce, secondAt, liesIn, isSound}
+use Rattle.stages.specs.Stages.{sizeOf, directStage, firstOf, secondOf, paddedStage, firstPhase, stateOf, asked, bouncedPhase, vectorBy, vectorPlan, readPlan, writePlan, zeroesBy, zeroesPlan, zeroBy, zeroJob, zeroPlan, discardBy, discardPlan, inPhase, endedWith, laterStage, zeroesNext, chunkBy, chunkNext, tailNext, headNext, stageDone, doneNext, unsupportedNext, toldOf, isPending, usesBounce, secondAt, liesIn, isSound}
 use Rattle.stages.specs.Transfers.{splits, wholes, discards}
 use Rattle.stages.specs.declared.state.Job.{Job}
-use Rattle.stages.specs.declared.state.Job.the-variants.{Read, Write, Discard}
+use Rattle.stages.specs.declared.state.Job.the-variants.{Read, Write, Zeroes, AllocatedZeroes, Discard}
 use Rattle.stages.specs.declared.state.Phase.{Phase}
 use Rattle.stages.specs.declared.state.Phase.the-variants.{Free, Ended, DirectRead, BouncedRead, FirstRead, SecondRead, BouncedWrite, DirectWrite, ZeroRequest, DiscardRequest}
 use Rattle.stages.specs.declared.state.Course.{Course}
@@ -216,25 +216,35 @@ starts-some P n p f = go (eqb n 0) refl
 size-asked : (o : StoreOffset) (n : ℕ) → sizeOf (asked o n) ≡ n
 size-asked o n = omega arith
 
+bounced-pending : (j : Job) (g : Stage) → isPending (bouncedPhase j g) ≡ true
+bounced-pending Read g = refl
+bounced-pending Write g = first-pending g
+bounced-pending Zeroes g = first-pending g
+bounced-pending AllocatedZeroes g = first-pending g
+bounced-pending Discard g = first-pending g
+
+-- a plan over a vector, in a direct phase d or padded
+module _ (s : Settings) (j : Job) (d : Phase) (o : StoreOffset) (n : ℕ) where
+  vector-by : isPending d ≡ true → usesBounce d ≡ false → 0 < n → (x : Transfer) → Transfers (s .align) (o .0) n x
+      → Starts (Opens s j (asked o n)) (vectorBy s j d o n x)
+  unfolding Transfers
+  vector-by e u p (Direct r) k = rw (k .is) (opens-direct s j (asked o n) _ _ (asked o n) d e (λ v. never (sym u ∙ v)) (omega arith) (k .fits))
+  vector-by e u p (Bounced x) k =
+      starts-within (Opens s j (asked o n)) (x .length) (s .bounce) _
+      (λ h. opens-padded s j (asked o n) _ _ x (asked o n) _ k (size-asked o n) (bounced-pending j (paddedStage x (asked o n))) h p)
+  vector-by e u p (NoTransfer r) k = tt
+
+  vector-opens : isPending d ≡ true → usesBounce d ≡ false → (t : Bool) (x : State) → vectorPlan s j d o n t ≡ Started x → Opens s j (asked o n) x
+  vector-opens e u t x q =
+      rw q at (starts-some (Opens s j (asked o n)) n (vectorBy s j d o n (transferOf (s .align) o n t)) (λ p. vector-by e u p (transferOf (s .align) o n t) (transfers (s .align) o n t)))
+
 module _ (s : Settings) (o : StoreOffset) (n : ℕ) where
-  read-by : 0 < n → (x : Transfer) → Transfers (s .align) (o .0) n x → Starts (Opens s Read (asked o n)) (readBy s o n x)
-  unfolding Transfers
-  read-by p (Direct r) k = rw (k .is) (opens-direct s Read (asked o n) _ _ (asked o n) DirectRead refl never (omega arith) (k .fits))
-  read-by p (Bounced x) k = starts-within (Opens s Read (asked o n)) (x .length) (s .bounce) _ (λ h. opens-padded s Read (asked o n) _ _ x (asked o n) BouncedRead k (size-asked o n) refl h p)
-  read-by p (NoTransfer r) k = tt
-
-  write-by : 0 < n → (x : Transfer) → Transfers (s .align) (o .0) n x → Starts (Opens s Write (asked o n)) (writeBy s o n x)
-  unfolding Transfers
-  write-by p (Direct r) k = rw (k .is) (opens-direct s Write (asked o n) _ _ (asked o n) DirectWrite refl never (omega arith) (k .fits))
-  write-by p (Bounced x) k = starts-within (Opens s Write (asked o n)) (x .length) (s .bounce) _ (λ h. opens-padded s Write (asked o n) _ _ x (asked o n) _ k (size-asked o n) (first-pending (paddedStage x (asked o n))) h p)
-  write-by p (NoTransfer r) k = tt
-
   pub read-opens : (t : Bool) (x : State) → readPlan s o n t ≡ Started x → Opens s Read (asked o n) x
   unfolding readPlan
-  read-opens t x e = rw e at (starts-some (Opens s Read (asked o n)) n (readBy s o n (transferOf (s .align) o n t)) (λ p. read-by p (transferOf (s .align) o n t) (transfers (s .align) o n t)))
+  read-opens = vector-opens s Read DirectRead o n refl refl
 
   -- a read starts in one of the phases that `read-ends` speaks of
-  phase-by : (x : Transfer) → Starts (λ y. (y .phase ≡ DirectRead) ⊎ (y .phase ≡ BouncedRead)) (readBy s o n x)
+  phase-by : (x : Transfer) → Starts (λ y. (y .phase ≡ DirectRead) ⊎ (y .phase ≡ BouncedRead)) (vectorBy s Read DirectRead o n x)
   phase-by (Direct r) = inl refl
   phase-by (Bounced x) = starts-within (λ y. (y .phase ≡ DirectRead) ⊎ (y .phase ≡ BouncedRead)) (x .length) (s .bounce) _ (λ h. inr refl)
   phase-by (NoTransfer r) = tt
@@ -242,11 +252,11 @@ module _ (s : Settings) (o : StoreOffset) (n : ℕ) where
   pub read-phase : (t : Bool) (x : State) → readPlan s o n t ≡ Started x → (x .phase ≡ DirectRead) ⊎ (x .phase ≡ BouncedRead)
   unfolding readPlan
   read-phase t x e =
-      rw e at (starts-some (λ y. (y .phase ≡ DirectRead) ⊎ (y .phase ≡ BouncedRead)) n (readBy s o n (transferOf (s .align) o n t)) (λ p. phase-by (transferOf (s .align) o n t)))
+      rw e at (starts-some (λ y. (y .phase ≡ DirectRead) ⊎ (y .phase ≡ BouncedRead)) n (vectorBy s Read DirectRead o n (transferOf (s .align) o n t)) (λ p. phase-by (transferOf (s .align) o n t)))
 
   pub write-opens : (t : Bool) (x : State) → writePlan s o n t ≡ Started x → Opens s Write (asked o n) x
   unfolding writePlan
-  write-opens t x e = rw e at (starts-some (Opens s Write (asked o n)) n (writeBy s o n (transferOf (s .align) o n t)) (λ p. write-by p (transferOf (s .align) o n t) (transfers (s .align) o n t)))
+  write-opens = vector-opens s Write DirectWrite o n refl refl
 
 -- a write of zeroes over r, as a stage of the job j over w
 module _ (s : Settings) (j : Job) (w m : Range) (c : Course) (r : Range) where

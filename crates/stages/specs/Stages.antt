@@ -96,23 +96,30 @@ inBounce s x p = pick (leb (x .length) (s .bounce)) p (Refused TooLong)
 abbrev pub asked : StoreOffset → ℕ → Range
 asked o n = rangeOf (o .0) (o .0 + n)
 
-abbrev pub readBy : Settings → StoreOffset → ℕ → Transfer → Plan
-readBy s o n (Direct r) = Started (stateOf Read r (rangeOf 0 0) Last (directStage r) DirectRead)
-readBy s o n (Bounced x) = inBounce s x (Started (stateOf Read (asked o n) (rangeOf 0 0) Last (paddedStage x (asked o n)) BouncedRead))
-readBy s o n (NoTransfer r) = Refused r
+-- the first phase of a padded request: a read is one request, a write has its reads first
+abbrev pub bouncedPhase : Job → Stage → Phase
+bouncedPhase Read g = BouncedRead
+bouncedPhase Write g = firstPhase g
+bouncedPhase Zeroes g = firstPhase g
+bouncedPhase AllocatedZeroes g = firstPhase g
+bouncedPhase Discard g = firstPhase g
+
+-- a job over a vector of n bytes at o: direct in phase d, or padded
+abbrev pub vectorBy : Settings → Job → Phase → StoreOffset → ℕ → Transfer → Plan
+vectorBy s j d o n (Direct r) = Started (stateOf j r (rangeOf 0 0) Last (directStage r) d)
+vectorBy s j d o n (Bounced x) =
+    inBounce s x (Started (stateOf j (asked o n) (rangeOf 0 0) Last (paddedStage x (asked o n)) (bouncedPhase j (paddedStage x (asked o n)))))
+vectorBy s j d o n (NoTransfer r) = Refused r
+
+abbrev pub vectorPlan : Settings → Job → Phase → StoreOffset → ℕ → Bool → Plan
+vectorPlan s j d o n aligned = pick (eqb n 0) Done (vectorBy s j d o n (transferOf (s .align) o n aligned))
 
 -- "Reads. Direct: one request into the pieces. Padded: one read of the padded range into the share"
 unfoldable pub readPlan : Settings → StoreOffset → ℕ → Bool → Plan
-readPlan s o n aligned = pick (eqb n 0) Done (readBy s o n (transferOf (s .align) o n aligned))
-
-abbrev pub writeBy : Settings → StoreOffset → ℕ → Transfer → Plan
-writeBy s o n (Direct r) = Started (stateOf Write r (rangeOf 0 0) Last (directStage r) DirectWrite)
-writeBy s o n (Bounced x) =
-    inBounce s x (Started (stateOf Write (asked o n) (rangeOf 0 0) Last (paddedStage x (asked o n)) (firstPhase (paddedStage x (asked o n)))))
-writeBy s o n (NoTransfer r) = Refused r
+readPlan s o n aligned = vectorPlan s Read DirectRead o n aligned
 
 unfoldable pub writePlan : Settings → StoreOffset → ℕ → Bool → Plan
-writePlan s o n aligned = pick (eqb n 0) Done (writeBy s o n (transferOf (s .align) o n aligned))
+writePlan s o n aligned = vectorPlan s Write DirectWrite o n aligned
 
 -- a write of zeroes over r, from the bounce buffer: it starts at a multiple of M, so it is aligned where its length is a multiple of L
 abbrev pub zeroesBy : Settings → Job → Range → Range → Course → Range → Transfer → Plan

@@ -24,7 +24,7 @@ use arithmetic::zeroes::zero_cut;
 ghost use mathlib.Core.Path.{_≡_};
 ghost use Prim.Native.Nat.{_+_, _-_, _<_, _≤_, _^_};
 ghost use Rattle.arithmetic.specs.Offsets.{rangeOf};
-ghost use Rattle.stages.specs.Stages.{Holds, directStage, firstOf, secondOf, paddedStage, firstPhase, stateOf, asked, readPlan, writePlan, zeroesPlan, zeroJob, zeroPlan, discardPlan};
+ghost use Rattle.stages.specs.Stages.{Holds, directStage, firstOf, secondOf, paddedStage, firstPhase, stateOf, asked, bouncedPhase, vectorPlan, readPlan, writePlan, zeroesPlan, zeroJob, zeroPlan, discardPlan};
 ghost use Rattle.arithmetic.specs.Padding.{paddingRefusal, readsOf};
 
 // What a job begins with: nothing to do, its first stage, or a refusal.
@@ -180,73 +180,58 @@ fn padding_refusal(align: Alignments) -> Refusal
     }
 }
 
-// A read of n bytes at `offset` into a vector that is or is not aligned.
-pub fn read_plan(settings: Settings, offset: StoreOffset, n: u64, aligned: bool) -> Plan
-    ensures { λ p. ⌜ p ≡ readPlan settings offset n aligned ⌝ }
+// The first phase of a padded request: a read is one request, a write has its reads first.
+fn bounced_phase(job: Job, g: Stage) -> Phase
+    ensures { λ p. ⌜ p ≡ bouncedPhase job g ⌝ }
+{
+    if let Job::Read = job {
+        return Phase::BouncedRead;
+    }
+    first_phase(g)
+}
+
+// A job over a vector of n bytes at `offset`, aligned or not: direct in the phase `direct`, or padded.
+fn vector_plan(
+    settings: Settings,
+    job: Job,
+    direct: Phase,
+    offset: StoreOffset,
+    n: u64,
+    aligned: bool,
+) -> Plan
+    ensures { λ p. ⌜ p ≡ vectorPlan settings job direct offset n aligned ⌝ }
 {
     if n == 0 {
         return Plan::Done;
     }
-    match direct_or_padded(offset, n, aligned, settings.align) {
-        Transfer::Direct(r) => started(
-            Job::Read,
-            r,
-            nowhere(),
-            Course::Last,
-            direct_stage(r),
-            Phase::DirectRead,
-        ),
-        Transfer::Bounced(span) => {
-            if settings.bounce < span.length {
-                return Plan::Refused(Refusal::TooLong);
-            }
-            let range = asked_range(offset, n);
-            started(
-                Job::Read,
-                range,
-                nowhere(),
-                Course::Last,
-                padded_stage(span, range),
-                Phase::BouncedRead,
-            )
-        }
-        Transfer::Refused(r) => Plan::Refused(r),
+    let transfer = direct_or_padded(offset, n, aligned, settings.align);
+    if let Transfer::Direct(r) = transfer {
+        return started(job, r, nowhere(), Course::Last, direct_stage(r), direct);
     }
+    let Transfer::Bounced(span) = transfer else {
+        return Plan::Refused(padding_refusal(settings.align));
+    };
+    if settings.bounce < span.length {
+        return Plan::Refused(Refusal::TooLong);
+    }
+    let range = asked_range(offset, n);
+    let stage = padded_stage(span, range);
+    let phase = bounced_phase(job, stage);
+    started(job, range, nowhere(), Course::Last, stage, phase)
+}
+
+// A read of n bytes at `offset` into a vector that is or is not aligned.
+pub fn read_plan(settings: Settings, offset: StoreOffset, n: u64, aligned: bool) -> Plan
+    ensures { λ p. ⌜ p ≡ readPlan settings offset n aligned ⌝ }
+{
+    vector_plan(settings, Job::Read, Phase::DirectRead, offset, n, aligned)
 }
 
 // A write of n bytes at `offset` from a vector that is or is not aligned.
 pub fn write_plan(settings: Settings, offset: StoreOffset, n: u64, aligned: bool) -> Plan
     ensures { λ p. ⌜ p ≡ writePlan settings offset n aligned ⌝ }
 {
-    if n == 0 {
-        return Plan::Done;
-    }
-    match direct_or_padded(offset, n, aligned, settings.align) {
-        Transfer::Direct(r) => started(
-            Job::Write,
-            r,
-            nowhere(),
-            Course::Last,
-            direct_stage(r),
-            Phase::DirectWrite,
-        ),
-        Transfer::Bounced(s) => {
-            if settings.bounce < s.length {
-                return Plan::Refused(Refusal::TooLong);
-            }
-            let range = asked_range(offset, n);
-            let stage = padded_stage(s, range);
-            started(
-                Job::Write,
-                range,
-                nowhere(),
-                Course::Last,
-                stage,
-                first_phase(stage),
-            )
-        }
-        Transfer::Refused(r) => Plan::Refused(r),
-    }
+    vector_plan(settings, Job::Write, Phase::DirectWrite, offset, n, aligned)
 }
 
 // A write of zeroes over `part` as a stage of a zero job over `range`. The bounce buffer starts at a multiple of M, so the write is
