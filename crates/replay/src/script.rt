@@ -1,4 +1,5 @@
 // A line of the script, taken apart.
+use vectors::vector::Segment;
 
 // The word that a line starts with.
 pub enum Verb {
@@ -20,26 +21,31 @@ pub enum Verb {
 // What is wrong with a line.
 pub enum Flaw {
     Word, // no such event
-    Number, // not a number of 64 bits, or not after a single blank
-    Count, // too few numbers, or too many
-    Byte, // a byte, or a code, too large
+    Number(usize), // after so many numbers: neither the line's end nor one blank and a number of 64 bits
+    Count(Verb), // too few numbers for that event, or too many
+    Byte, // a byte above 255
+    Carried, // a carried code above 199
+    Code, // a code above 255
     Long, // more than 64 bytes to show
+}
+
+// Whether a line is an event.
+pub enum Verdict {
+    Good,
+    Bad(Flaw),
 }
 
 // An event: its word, and the numbers after it; 0 for those that are not there.
 pub struct Event {
     pub verb: Verb,
     pub count: usize,
-    pub a: u64,
-    pub b: u64,
-    pub c: u64,
-    pub d: u64,
-    pub e: u64,
+    pub values: [u64; 35],
 }
 
-pub enum Parsed {
-    Event(Event),
-    Flaw(Flaw),
+// What a line says, which counts only where the verdict is good.
+pub struct Parsed {
+    pub event: Event,
+    pub verdict: Verdict,
 }
 
 // A number, and where it ends.
@@ -48,16 +54,44 @@ pub enum Number {
     Bad,
 }
 
-// The numbers of a line.
-pub struct Numbers {
-    pub values: [u64; 5],
-    pub count: usize,
-    pub good: bool,
+// The numbers of a line up to the first that is none: good where the line ends there.
+struct Numbers {
+    values: [u64; 35],
+    count: usize,
+    good: bool,
 }
 
-const MOST: usize = 5;
+// One more than a vector takes, so that a script can see it refused.
+const MOST_SEGMENTS: usize = 17;
+
+// An offset, and two numbers for each segment.
+const MOST: usize = 35;
 
 const MOST_SHOWN: u64 = 64;
+
+impl Event {
+    // Number i, from 0 on; 0 where there is none.
+    pub fn number(self, i: usize) -> u64 {
+        if MOST <= i {
+            return 0;
+        }
+        self.values[i]
+    }
+
+    // Segment k, from 0 on, whose start and length stand after the offset; an empty one where there is none.
+    pub fn segment(self, k: usize) -> Segment {
+        if MOST_SEGMENTS <= k {
+            return Segment {
+                start: 0,
+                length: 0,
+            };
+        }
+        Segment {
+            start: self.number(2 * k + 1) as usize,
+            length: self.number(2 * k + 2) as usize,
+        }
+    }
+}
 
 // Where the line that starts at `at` ends: at its newline, or the text's end.
 pub fn line_end(text: &[u8], at: usize) -> usize {
@@ -101,6 +135,7 @@ fn is_word(line: &[u8], n: usize, word: &[u8]) -> bool {
     true
 }
 
+// A word that begins a job.
 fn begin_verb(line: &[u8], n: usize) -> Verb {
     if is_word(line, n, b"read") {
         return Verb::Read;
@@ -120,7 +155,8 @@ fn begin_verb(line: &[u8], n: usize) -> Verb {
     Verb::Unknown
 }
 
-fn other_verb(line: &[u8], n: usize) -> Verb {
+// The event that the first n bytes of the line name.
+fn verb_of(line: &[u8], n: usize) -> Verb {
     if is_word(line, n, b"carry") {
         return Verb::Carry;
     }
@@ -189,28 +225,25 @@ fn number_at(line: &[u8], from: usize) -> Number {
     Number::Is(x, i)
 }
 
-fn bad(values: [u64; 5]) -> Numbers {
-    Numbers {
-        values,
-        count: 0,
-        good: false,
+// The number after one blank at `at`; Bad where there is none.
+fn number_after(line: &[u8], at: usize) -> Number {
+    if line.len() <= at {
+        return Number::Bad;
     }
+    if line[at] != b' ' {
+        return Number::Bad;
+    }
+    number_at(line, at + 1)
 }
 
 // The numbers from `from` on, each after one blank.
 fn numbers_at(line: &[u8], from: usize) -> Numbers {
-    let mut values = [0u64; 5];
+    let mut values = [0u64; 35];
     let mut count = 0usize;
     let mut at = from;
     while count < MOST {
-        if line.len() <= at {
+        let Number::Is(x, next) = number_after(line, at) else {
             break;
-        }
-        if line[at] != b' ' {
-            return bad(values);
-        }
-        let Number::Is(x, next) = number_at(line, at + 1) else {
-            return bad(values);
         };
         values[count] = x;
         count += 1;
@@ -226,37 +259,31 @@ fn numbers_at(line: &[u8], from: usize) -> Numbers {
 // Whether an event takes that many numbers.
 fn takes(verb: Verb, count: usize) -> bool {
     match verb {
-        Verb::Open => count == 2,
-        Verb::Store => count == 3,
-        Verb::Data => count == 3,
-        Verb::Read => (count == 1) | (count == 3) | (count == 5),
-        Verb::Write => (count == 1) | (count == 3) | (count == 5),
-        Verb::Zero => count == 2,
-        Verb::Alloc => count == 2,
-        Verb::Discard => count == 2,
-        Verb::Carry => count == 2,
-        Verb::Tell => count == 2,
+        Verb::Read | Verb::Write => count % 2 == 1,
+        Verb::Store | Verb::Data => count == 3,
         Verb::Collect => count == 1,
-        Verb::Show => count == 2,
         Verb::Unknown => false,
+        _ => count == 2,
     }
 }
 
-// Whether the numbers that are bytes or codes are at most 255.
-fn bytes_fit(verb: Verb, b: u64, c: u64) -> bool {
-    match verb {
-        Verb::Store => c < 256,
-        Verb::Data => c < 256,
-        Verb::Carry => b < 200,
-        Verb::Tell => b < 256,
-        _ => true,
+// Whether a number is below a bound, and the flaw that it has where it is not.
+fn below(x: u64, bound: u64, flaw: Flaw) -> Verdict {
+    if x < bound {
+        return Verdict::Good;
     }
+    Verdict::Bad(flaw)
 }
 
-fn shown_fits(verb: Verb, b: u64) -> bool {
+// Whether bytes and codes are at most 255, and no more is to be shown than fits a line.
+fn bounds(e: Event) -> Verdict {
+    let verb = e.verb;
     match verb {
-        Verb::Show => b <= MOST_SHOWN,
-        _ => true,
+        Verb::Store | Verb::Data => below(e.number(2), 256, Flaw::Byte),
+        Verb::Carry => below(e.number(1), 200, Flaw::Carried),
+        Verb::Tell => below(e.number(1), 256, Flaw::Code),
+        Verb::Show => below(e.number(1), MOST_SHOWN + 1, Flaw::Long),
+        _ => Verdict::Good,
     }
 }
 
@@ -267,35 +294,36 @@ fn is_known(verb: Verb) -> bool {
     }
 }
 
-// The event of a line, or what is wrong with it.
+// What is wrong with an event: its word, then its numbers from the first to the last, then how many they are.
+fn judge(e: Event, good: bool) -> Verdict {
+    let verb = e.verb;
+    let count = e.count;
+    if !is_known(verb) {
+        return Verdict::Bad(Flaw::Word);
+    }
+    if !good {
+        if count < MOST {
+            return Verdict::Bad(Flaw::Number(count));
+        }
+        return Verdict::Bad(Flaw::Count(verb));
+    }
+    if !takes(verb, count) {
+        return Verdict::Bad(Flaw::Count(verb));
+    }
+    bounds(e)
+}
+
+// The event of a line, and what is wrong with it.
 pub fn parse(line: &[u8]) -> Parsed {
     let n = word_end(line);
-    let verb = other_verb(line, n);
-    if !is_known(verb) {
-        return Parsed::Flaw(Flaw::Word);
-    }
+    let verb = verb_of(line, n);
     let found = numbers_at(line, n);
-    if !found.good {
-        return Parsed::Flaw(Flaw::Number);
-    }
-    let count = found.count;
-    if !takes(verb, count) {
-        return Parsed::Flaw(Flaw::Count);
-    }
-    let v = found.values;
-    if !bytes_fit(verb, v[1], v[2]) {
-        return Parsed::Flaw(Flaw::Byte);
-    }
-    if !shown_fits(verb, v[1]) {
-        return Parsed::Flaw(Flaw::Long);
-    }
-    Parsed::Event(Event {
+    let values = found.values;
+    let event = Event {
         verb,
-        count,
-        a: v[0],
-        b: v[1],
-        c: v[2],
-        d: v[3],
-        e: v[4],
-    })
+        count: found.count,
+        values,
+    };
+    let verdict = judge(event, found.good);
+    Parsed { event, verdict }
 }

@@ -1,7 +1,13 @@
 // What is printed.
 use crate::script::Flaw;
+use crate::script::Verb;
+use arithmetic::refusals::Outcome;
+use arithmetic::refusals::Refusal;
+use dock::begin::Begun;
 use dock::dock::Dock;
+use dock::dock::SLOTS;
 use dock::next::Due;
+use dock::tell::Collected;
 use libc::STDOUT_FILENO;
 use stages::state::Kind;
 use stages::state::Request;
@@ -15,59 +21,92 @@ pub fn number(n: u64) {
     io::print_decimal(STDOUT_FILENO, n);
 }
 
-fn kind(k: Kind) {
-    match k {
-        Kind::Read => text(b"read "),
-        Kind::Write => text(b"write "),
-        Kind::Zero => text(b"zero "),
-        Kind::AllocatedZero => text(b"alloc "),
-        Kind::Discard => text(b"discard "),
+// A word and a number after a blank each.
+fn pair(word: &[u8], n: u64) {
+    text(b" ");
+    text(word);
+    text(b" ");
+    number(n);
+}
+
+pub fn refused(r: Refusal) {
+    pair(b"refused", r.number() as u64);
+}
+
+pub fn outcome(o: Outcome) {
+    match o {
+        Outcome::Done => text(b" done"),
+        Outcome::Refused(r) => refused(r),
     }
 }
 
-// read 0+512 in 1: offset, length, number of pieces
+pub fn begun(b: Begun) {
+    match b {
+        Begun::Done => text(b" done"),
+        Begun::Placed(slot) => pair(b"slot", slot as u64),
+        Begun::Refused(r) => refused(r),
+    }
+}
+
+pub fn collected(c: Collected) {
+    match c {
+        Collected::Final(code) => pair(b"code", code as u64),
+        Collected::Refused(r) => refused(r),
+    }
+}
+
+// Where a run of bytes starts, and how many they are: 0+512.
+fn extent(start: u64, n: u64) {
+    number(start);
+    text(b"+");
+    number(n);
+}
+
+fn kind(k: Kind) {
+    match k {
+        Kind::Read => text(b" read "),
+        Kind::Write => text(b" write "),
+        Kind::Zero => text(b" zero "),
+        Kind::AllocatedZero => text(b" alloc "),
+        Kind::Discard => text(b" discard "),
+    }
+}
+
+// read 0+512 in 1: what, where on the store, and in how many pieces
 fn request(q: Request) {
     let offset = q.offset;
     let what = q.kind;
     kind(what);
-    number(offset.0);
-    text(b"+");
-    number(q.length);
-    text(b" in ");
-    number(q.segments as u64);
+    extent(offset.0, q.length);
+    pair(b"in", q.segments as u64);
 }
 
-fn slot_is(slot: usize) {
-    text(b"  slot ");
-    number(slot as u64);
-    text(b": ");
+// What next answers.
+fn due(d: Due) {
+    match d {
+        Due::Waiting => text(b" waiting"),
+        Due::Make(q) => request(q),
+        Due::Answer(code) => pair(b"answer", code as u64),
+        Due::Refused(r) => refused(r),
+    }
 }
 
 // What the job in `slot` needs now; nothing for a free slot.
 fn slot(dock: Dock, slot: usize, data: &[u8], scratch: &[u8]) {
-    match dock.next(slot, data, scratch) {
-        Due::Refused(_) => {}
-        Due::Waiting => {
-            slot_is(slot);
-            text(b"waiting\n");
-        }
-        Due::Make(q) => {
-            slot_is(slot);
-            request(q);
-            text(b"\n");
-        }
-        Due::Answer(code) => {
-            slot_is(slot);
-            text(b"answer ");
-            number(code as u64);
-            text(b"\n");
-        }
+    let d = dock.next(slot, data, scratch);
+    if let Due::Refused(_) = d {
+        return;
     }
+    text(b" ");
+    pair(b"slot", slot as u64);
+    text(b":");
+    due(d);
+    text(b"\n");
 }
 
 fn slots(dock: Dock, data: &[u8], scratch: &[u8]) {
     let mut i = 0usize;
-    while i < 8 {
+    while i < SLOTS {
         slot(dock, i, data, scratch);
         i += 1;
     }
@@ -93,10 +132,9 @@ fn checksum(bytes: &[u8]) -> u64 {
 // Every slot that has a job, and the checksums.
 pub fn state(dock: Dock, store: &[u8], data: &[u8], scratch: &[u8]) {
     slots(dock, data, scratch);
-    text(b"  store ");
-    number(checksum(store));
-    text(b" data ");
-    number(checksum(data));
+    text(b" ");
+    pair(b"store", checksum(store));
+    pair(b"data", checksum(data));
     text(b"\n");
 }
 
@@ -115,18 +153,59 @@ pub fn bytes(store: &[u8], at: u64, n: u64) {
     }
 }
 
-pub fn flaw(line: u64, f: Flaw) {
-    text(b"line ");
-    number(line);
-    text(b": cannot read this event: ");
-    match f {
-        Flaw::Word => text(b"no such event"),
-        Flaw::Number => text(
-            b"after a word and after each number comes one blank and a number below 2^64",
+// The numbers that an event takes.
+fn usage(verb: Verb) {
+    match verb {
+        Verb::Open => text(b"open takes ROW BOUNCE"),
+        Verb::Store => text(b"store takes OFFSET LENGTH BYTE"),
+        Verb::Data => text(b"data takes OFFSET LENGTH BYTE"),
+        Verb::Read => text(b"read takes OFFSET, and START LENGTH for each of at most 17 segments"),
+        Verb::Write => text(
+            b"write takes OFFSET, and START LENGTH for each of at most 17 segments",
         ),
-        Flaw::Count => text(b"too few numbers, or too many"),
-        Flaw::Byte => text(b"a byte and a told code are at most 255, a carried code at most 199"),
-        Flaw::Long => text(b"at most 64 bytes are shown"),
+        Verb::Zero => text(b"zero takes OFFSET LENGTH"),
+        Verb::Alloc => text(b"alloc takes OFFSET LENGTH"),
+        Verb::Discard => text(b"discard takes OFFSET LENGTH"),
+        Verb::Carry => text(b"carry takes SLOT CODE"),
+        Verb::Tell => text(b"tell takes SLOT CODE"),
+        Verb::Collect => text(b"collect takes SLOT"),
+        Verb::Show => text(b"show takes OFFSET LENGTH"),
+        Verb::Unknown => {}
     }
+}
+
+fn after_numbers(n: usize) {
+    if n == 0 {
+        text(b"after the word");
+        return;
+    }
+    text(b"after number ");
+    number(n as u64);
+}
+
+// What is wrong with a line.
+fn flaw(f: Flaw) {
+    match f {
+        Flaw::Word => text(b"no event has this name"),
+        Flaw::Number(good) => {
+            after_numbers(good);
+            text(b" comes neither the line's end nor one blank and a decimal number below 2^64");
+        }
+        Flaw::Count(verb) => usage(verb),
+        Flaw::Byte => text(b"BYTE is at most 255"),
+        Flaw::Carried => text(b"CODE of a carry is at most 199"),
+        Flaw::Code => text(b"CODE is at most 255"),
+        Flaw::Long => text(b"LENGTH is at most 64 to show"),
+    }
+}
+
+// The line that ends a run, with its flaw.
+pub fn malformed(line_number: u64, line: &[u8], f: Flaw) {
+    text(b"error: line ");
+    number(line_number);
+    text(b": ");
+    flaw(f);
+    text(b": ");
+    text(line);
     text(b"\n");
 }

@@ -1,22 +1,34 @@
 -- `replay::run` is safe and ends: each turn passes one line of the script, and there are at most as many as it has bytes. Assumes nothing.
 use borrow.Author.Needs.{needs}
-use Prim.Native.Nat.{_≤_, _-_}
+use Prim.Native.Nat.{_≤_, _<_, _-_}
 use mathlib.Core.Path.{_≡_}
 use lib.ListN.{length}
 use Rattle.replay.proofs.run.Statement.{statement}
 use Rattle.replay.proofs.run.Tie as tie
 
 abbrev Inv-loop : tie.InvT-loop
-Inv-loop script codes₀ store₀ data₀ scratch₀ n t₀ i₀ codes store «data» scratch t i = (i ≤ n) × (length codes ≡ length codes₀) × (length store ≡ length store₀) × (length «data» ≡ length data₀) × (length scratch ≡ length scratch₀)
+Inv-loop script codes₀ store₀ data₀ scratch₀ t₀ n i₀ codes store «data» scratch t i = (i ≤ n) × (n < 18446744073709551616) × (length codes ≡ length codes₀) × (length store ≡ length store₀) × (length «data» ≡ length data₀) × (length scratch ≡ length scratch₀)
 
 abbrev μ-loop : tie.MeasureT-loop
-μ-loop script codes₀ store₀ data₀ scratch₀ n t₀ i₀ codes store «data» scratch t i = n - i
+μ-loop script codes₀ store₀ data₀ scratch₀ t₀ n i₀ codes store «data» scratch t i = n - i
 
 start-requires : tie.Need-start-requires Inv-loop μ-loop
 start-requires c κs = search needs
 
 loop-holds : tie.Need-loop-holds Inv-loop μ-loop
 loop-holds c = search needs
+
+add-i : tie.Need-add-i Inv-loop μ-loop
+add-i c = search needs
+
+step-requires : tie.Need-step-requires Inv-loop μ-loop
+step-requires c κs = search needs
+
+loop-less : tie.Need-loop-less Inv-loop μ-loop
+loop-less c = search needs
+
+loop-again : tie.Need-loop-again Inv-loop μ-loop
+loop-again c = search needs
 
 same-length : tie.Need-same-length Inv-loop μ-loop
 same-length c = search needs
@@ -32,18 +44,6 @@ same-length-4 c = search needs
 
 returns : tie.Need-returns Inv-loop μ-loop
 returns c = search needs
-
-add-i : tie.Need-add-i Inv-loop μ-loop
-add-i c = search needs
-
-step-requires : tie.Need-step-requires Inv-loop μ-loop
-step-requires c κs = search needs
-
-loop-less : tie.Need-loop-less Inv-loop μ-loop
-loop-less c = search needs
-
-loop-again : tie.Need-loop-again Inv-loop μ-loop
-loop-again c = search needs
 
 same-length-5 : tie.Need-same-length-5 Inv-loop μ-loop
 same-length-5 c = search needs
@@ -68,15 +68,15 @@ run-spec =
     μ-loop
     start-requires
     loop-holds
+    add-i
+    step-requires
+    loop-less
+    loop-again
     same-length
     same-length-2
     same-length-3
     same-length-4
     returns
-    add-i
-    step-requires
-    loop-less
-    loop-again
     same-length-5
     same-length-6
     same-length-7

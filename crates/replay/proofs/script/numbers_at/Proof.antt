@@ -1,4 +1,4 @@
--- `replay::script::numbers_at` is safe and ends: each turn takes one number of at most five. Assumes nothing.
+-- `replay::script::numbers_at` is safe and ends: each turn takes one number of at most 35. Assumes nothing.
 use borrow.Author.Needs.{needs}
 use Prim.Native.Nat.{_≤_, _-_}
 use mathlib.Core.Path.{_≡_}
@@ -7,40 +7,22 @@ use Rattle.replay.proofs.script.numbers_at.Statement.{statement}
 use Rattle.replay.proofs.script.numbers_at.Tie as tie
 
 abbrev Inv-loop : tie.InvT-loop
-Inv-loop line from values₀ count₀ at₀ values count at = (count ≤ 5) × (length values ≡ 5)
+Inv-loop line from values₀ count₀ at₀ values count at = (count ≤ 35) × (length values ≡ 35)
 
 abbrev μ-loop : tie.MeasureT-loop
-μ-loop line from values₀ count₀ at₀ values count at = 5 - count
+μ-loop line from values₀ count₀ at₀ values count at = 35 - count
 
 loop-holds : tie.Need-loop-holds Inv-loop μ-loop
 loop-holds c = search needs
 
-shared-slice-read-if2 : tie.Need-shared-slice-read-if2 Inv-loop μ-loop
-shared-slice-read-if2 c = search needs
-
-bad-requires : tie.Need-bad-requires Inv-loop μ-loop
-bad-requires c κs = search needs
-
-returns : tie.Need-returns Inv-loop μ-loop
-returns c = search needs
-
-add-number-at : tie.Need-add-number-at Inv-loop μ-loop
-add-number-at c = search needs
-
-number-at-requires : tie.Need-number-at-requires Inv-loop μ-loop
-number-at-requires c κs = search needs
+number-after-requires : tie.Need-number-after-requires Inv-loop μ-loop
+number-after-requires c κs = search needs
 
 enum-known-x : tie.Need-enum-known-x Inv-loop μ-loop
 enum-known-x c = search needs
 
 enum-told : tie.Need-enum-told Inv-loop μ-loop
 enum-told c = search needs
-
-bad-requires-2 : tie.Need-bad-requires-2 Inv-loop μ-loop
-bad-requires-2 c κs = search needs
-
-returns-2 : tie.Need-returns-2 Inv-loop μ-loop
-returns-2 c = search needs
 
 mul-values : tie.Need-mul-values Inv-loop μ-loop
 mul-values c = search needs
@@ -57,8 +39,8 @@ loop-less c = search needs
 loop-again : tie.Need-loop-again Inv-loop μ-loop
 loop-again c = search needs
 
-returns-3 : tie.Need-returns-3 Inv-loop μ-loop
-returns-3 c = search needs
+returns : tie.Need-returns Inv-loop μ-loop
+returns c = search needs
 
 pub numbers-at-spec : {M : Type 1} → statement M
 numbers-at-spec =
@@ -67,18 +49,12 @@ numbers-at-spec =
     Inv-loop
     μ-loop
     loop-holds
-    shared-slice-read-if2
-    bad-requires
-    returns
-    add-number-at
-    number-at-requires
+    number-after-requires
     enum-known-x
     enum-told
-    bad-requires-2
-    returns-2
     mul-values
     array-write-values
     add-count
     loop-less
     loop-again
-    returns-3)
+    returns)
