@@ -5,15 +5,20 @@
 //   data OFFSET LENGTH BYTE    likewise the data's; those of a job in flight are to stay as they are, which nothing checks
 //   read OFFSET, write OFFSET  begin, each with up to 17 segments of the data after it, as START LENGTH
 //   zero OFFSET LENGTH, alloc OFFSET LENGTH, discard OFFSET LENGTH   begin
-//   carry SLOT CODE            the store carries out the request that is out in SLOT, with a code below 200
+//   carry SLOT CODE            the store carries out the request that is out in SLOT, once, with that code, any up to 255
+//   carry SLOT CODE CHOICE     likewise, and CHOICE, a number below 2^64, decides what the code leaves open
 //   tell SLOT CODE             an answer to a request that is out is made only with the code of its carry
 //   collect SLOT
 //   show OFFSET LENGTH         at most 64 bytes of the store, as hex
-// The store has 8192 bytes. With code 0 it does what is asked: past its end reads give zeroes, and writes are dropped.
-// With another code a read leaves zeroes in its pieces, a write or zero request the store as it was; a discard always does.
+// The store has 8192 bytes: past its end reads give zeroes, and writes are dropped. With code 0 a read, a write and a zero
+// request are done whole. What is left open is decided for each byte by its offset o on the store:
+//   write or zero request with another code: new where bit o mod 64 of CHOICE is set, else old; without CHOICE all old
+//   discard with any code: byte o mod 8 of CHOICE, the lowest first; without CHOICE as it was
+//   read with another code: its piece gets byte o mod 8 of CHOICE; without CHOICE 0
 // The trace has each event with its answer, then each slot that has a job, with what it needs (a request as offset+length
 // in so many pieces), then the sums of the store's and the data's bytes modulo 65536.
 // At most 65536 bytes of script are read. A line that is neither event nor comment ends the run, with its number.
+mod marks; // the code of the carry in each slot
 mod script; // a line of the script, taken apart
 mod store; // the stand-in store
 mod trace; // what is printed
@@ -21,6 +26,7 @@ mod trace; // what is printed
 use crate::script::Event;
 use crate::script::Verb;
 use crate::script::Verdict;
+use crate::store::Act;
 use crate::store::Carried;
 use crate::trace::text;
 use arithmetic::offsets::StoreOffset;
@@ -44,27 +50,6 @@ struct Turn {
     malformed: bool,
 }
 
-// One more than the code that the store carried the request in `slot` out with; 0 before that.
-fn code_of(codes: &[u64], slot: usize) -> u64 {
-    if slot < codes.len() { codes[slot] } else { 0 }
-}
-
-fn set_code(codes: &mut [u64], slot: usize, code: u64) {
-    if slot < codes.len() {
-        codes[slot] = code;
-    }
-}
-
-// A new dock has no request that was carried out.
-fn forget(codes: &mut [u64]) {
-    let n = codes.len();
-    let mut i = 0usize;
-    while i < n {
-        set_code(codes, i, 0);
-        i += 1;
-    }
-}
-
 // Opens by drive profile. The data lies at address 0, the scratch at 65536: multiples of every memory alignment.
 fn open(row: u64, bounce: u64, data: &[u8], scratch: &[u8]) -> Opened {
     let data_lent = Lent {
@@ -82,8 +67,8 @@ fn open(row: u64, bounce: u64, data: &[u8], scratch: &[u8]) -> Opened {
     dock::open::open_profile(row as usize, bounce, buffers)
 }
 
-fn opened(o: Opened, codes: &mut [u64]) -> Dock {
-    forget(codes);
+fn opened(o: Opened, marks: &mut [u64]) -> Dock {
+    marks::forget_all(marks);
     let answer = o.outcome;
     trace::outcome(answer);
     o.dock
@@ -153,24 +138,24 @@ fn is_out(dock: Dock, slot: usize, data: &[u8], scratch: &[u8]) -> bool {
 }
 
 // Whether a code may be told: an answer to a request that is out is the code that the store carried it out with.
-fn may_tell(dock: Dock, slot: usize, code: u8, codes: &[u64], data: &[u8], scratch: &[u8]) -> bool {
+fn may_tell(dock: Dock, slot: usize, code: u8, marks: &[u64], data: &[u8], scratch: &[u8]) -> bool {
     if 199 < code {
         return true;
     }
     if is_out(dock, slot, data, scratch) {
-        return code_of(codes, slot) == code as u64 + 1;
+        return marks::is_carried_with(marks, slot, code);
     }
     true
 }
 
 // An accepted tell ends the request: the next one of its slot is new.
-fn told(t: Telling, slot: usize, codes: &mut [u64]) -> Dock {
+fn told(t: Telling, slot: usize, marks: &mut [u64]) -> Dock {
     let answer = t.outcome;
     trace::outcome(answer);
     if let Outcome::Refused(_) = answer {
         return t.dock;
     }
-    set_code(codes, slot, 0);
+    marks::forget(marks, slot);
     t.dock
 }
 
@@ -178,15 +163,15 @@ fn tell(
     dock: Dock,
     slot: usize,
     code: u8,
-    codes: &mut [u64],
+    marks: &mut [u64],
     data: &mut [u8],
     scratch: &mut [u8],
 ) -> Dock {
-    if !may_tell(dock, slot, code, codes, data, scratch) {
+    if !may_tell(dock, slot, code, marks, data, scratch) {
         text(b" not the code of its carry");
         return dock;
     }
-    told(dock.tell(slot, code, data, scratch), slot, codes)
+    told(dock.tell(slot, code, data, scratch), slot, marks)
 }
 
 fn collect(dock: Dock, slot: usize, data: &[u8], scratch: &[u8]) -> Dock {
@@ -200,19 +185,19 @@ fn collect(dock: Dock, slot: usize, data: &[u8], scratch: &[u8]) -> Dock {
 fn carry(
     dock: Dock,
     slot: usize,
-    code: u8,
-    codes: &mut [u64],
+    act: Act,
+    marks: &mut [u64],
     store: &mut [u8],
     data: &mut [u8],
     scratch: &mut [u8],
 ) {
-    if 0 < code_of(codes, slot) {
+    if marks::is_carried(marks, slot) {
         text(b" carried out already");
         return;
     }
-    match store::carry(dock, slot, code, store, data, scratch) {
+    match store::carry(dock, slot, act, store, data, scratch) {
         Carried::Done => {
-            set_code(codes, slot, code as u64 + 1);
+            marks::carry(marks, slot, act.code);
             text(b" done");
         }
         Carried::NoRequest => text(b" no request is out"),
@@ -224,6 +209,15 @@ fn byte(n: u64) -> u8 {
     (n % 256) as u8
 }
 
+// What a carry asks of the store.
+fn act_of(e: Event) -> Act {
+    Act {
+        code: byte(e.number(1)),
+        choice: e.number(2),
+        chooses: e.count == 3,
+    }
+}
+
 fn fill(bytes: &mut [u8], e: Event) {
     store::fill(bytes, e.number(0), e.number(1), byte(e.number(2)));
     text(b" done");
@@ -233,7 +227,7 @@ fn fill(bytes: &mut [u8], e: Event) {
 fn aside(
     dock: Dock,
     e: Event,
-    codes: &mut [u64],
+    marks: &mut [u64],
     store: &mut [u8],
     data: &mut [u8],
     scratch: &mut [u8],
@@ -244,7 +238,7 @@ fn aside(
         Verb::Store => fill(store, e),
         Verb::Data => fill(data, e),
         Verb::Show => trace::bytes(store, e.number(0), e.number(1)),
-        Verb::Carry => carry(dock, slot, byte(e.number(1)), codes, store, data, scratch),
+        Verb::Carry => carry(dock, slot, act_of(e), marks, store, data, scratch),
         _ => {}
     }
 }
@@ -253,7 +247,7 @@ fn aside(
 fn event(
     dock: Dock,
     e: Event,
-    codes: &mut [u64],
+    marks: &mut [u64],
     store: &mut [u8],
     data: &mut [u8],
     scratch: &mut [u8],
@@ -261,8 +255,8 @@ fn event(
     let verb = e.verb;
     let slot = e.number(0) as usize;
     match verb {
-        Verb::Open => opened(open(e.number(0), e.number(1), data, scratch), codes),
-        Verb::Tell => tell(dock, slot, byte(e.number(1)), codes, data, scratch),
+        Verb::Open => opened(open(e.number(0), e.number(1), data, scratch), marks),
+        Verb::Tell => tell(dock, slot, byte(e.number(1)), marks, data, scratch),
         Verb::Collect => collect(dock, slot, data, scratch),
         Verb::Read | Verb::Write | Verb::Zero | Verb::Alloc | Verb::Discard => begin(
             dock,
@@ -271,7 +265,7 @@ fn event(
             scratch,
         ),
         _ => {
-            aside(dock, e, codes, store, data, scratch);
+            aside(dock, e, marks, store, data, scratch);
             dock
         }
     }
@@ -299,14 +293,14 @@ fn perform(
     dock: Dock,
     e: Event,
     line: &[u8],
-    codes: &mut [u64],
+    marks: &mut [u64],
     store: &mut [u8],
     data: &mut [u8],
     scratch: &mut [u8],
 ) -> Dock {
     text(line);
     text(b":");
-    let after = event(dock, e, codes, store, data, scratch);
+    let after = event(dock, e, marks, store, data, scratch);
     text(b"\n");
     trace::state(after, store, data, scratch);
     after
@@ -316,7 +310,7 @@ fn perform(
 fn play(
     t: Turn,
     line: &[u8],
-    codes: &mut [u64],
+    marks: &mut [u64],
     store: &mut [u8],
     data: &mut [u8],
     scratch: &mut [u8],
@@ -333,7 +327,7 @@ fn play(
         trace::malformed(t.line, line, f);
         return stopped(t);
     }
-    let dock = perform(t.dock, e, line, codes, store, data, scratch);
+    let dock = perform(t.dock, e, line, marks, store, data, scratch);
     with_dock(t, dock)
 }
 
@@ -349,7 +343,7 @@ fn passed(mut t: Turn, end: usize, n: usize) -> Turn {
 fn step(
     t: Turn,
     script: &[u8],
-    codes: &mut [u64],
+    marks: &mut [u64],
     store: &mut [u8],
     data: &mut [u8],
     scratch: &mut [u8],
@@ -363,7 +357,7 @@ fn step(
     if script.len() < end {
         return next;
     }
-    play(next, &script[at..end], codes, store, data, scratch)
+    play(next, &script[at..end], marks, store, data, scratch)
 }
 
 // No dock is open at the start: every begin is refused.
@@ -379,7 +373,7 @@ fn start(data: &[u8], scratch: &[u8]) -> Turn {
 }
 
 // The lines, in order, up to the first that is no event: at most as many as there are bytes.
-fn run(script: &[u8], codes: &mut [u64], store: &mut [u8], data: &mut [u8], scratch: &mut [u8]) {
+fn run(script: &[u8], marks: &mut [u64], store: &mut [u8], data: &mut [u8], scratch: &mut [u8]) {
     let mut t = start(data, scratch);
     let n = script.len();
     let mut i = 0usize;
@@ -388,7 +382,7 @@ fn run(script: &[u8], codes: &mut [u64], store: &mut [u8], data: &mut [u8], scra
             break;
         }
         i += 1;
-        t = step(t, script, codes, store, data, scratch);
+        t = step(t, script, marks, store, data, scratch);
     }
 }
 
@@ -411,10 +405,10 @@ fn main() {
     let mut store = store_bytes();
     let mut data = data_bytes();
     let mut scratch = scratch_bytes();
-    let mut codes = [0u64; 8];
+    let mut marks = [0u64; 8];
     run(
         &script[..n],
-        &mut codes,
+        &mut marks,
         &mut store,
         &mut data,
         &mut scratch,

@@ -24,7 +24,6 @@ pub enum Flaw {
     Number(usize), // after so many numbers: neither the line's end nor one blank and a number of 64 bits
     Count(Verb), // too few numbers for that event, or too many
     Byte, // a byte above 255
-    Carried, // a carried code above 199
     Code, // a code above 255
     Long, // more than 64 bytes to show
 }
@@ -261,6 +260,7 @@ fn takes(verb: Verb, count: usize) -> bool {
     match verb {
         Verb::Read | Verb::Write => count % 2 == 1,
         Verb::Store | Verb::Data => count == 3,
+        Verb::Carry => (count == 2) | (count == 3),
         Verb::Collect => count == 1,
         Verb::Unknown => false,
         _ => count == 2,
@@ -280,8 +280,7 @@ fn bounds(e: Event) -> Verdict {
     let verb = e.verb;
     match verb {
         Verb::Store | Verb::Data => below(e.number(2), 256, Flaw::Byte),
-        Verb::Carry => below(e.number(1), 200, Flaw::Carried),
-        Verb::Tell => below(e.number(1), 256, Flaw::Code),
+        Verb::Carry | Verb::Tell => below(e.number(1), 256, Flaw::Code),
         Verb::Show => below(e.number(1), MOST_SHOWN + 1, Flaw::Long),
         _ => Verdict::Good,
     }

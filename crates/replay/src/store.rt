@@ -1,4 +1,7 @@
 // The stand-in store, an array of bytes: past its end reads give zeroes, and writes are dropped.
+// What a code leaves open, the choice of its carry decides by the offset o on the store: bit o mod 64 says whether the byte
+// there is new, byte o mod 8, the lowest first, what it is where it may be anything.
+use arithmetic::offsets::LARGEST;
 use arithmetic::offsets::Sum;
 use dock::dock::Dock;
 use dock::next::Due;
@@ -11,142 +14,168 @@ pub enum Carried {
     NoRequest,
 }
 
-// The byte at `at` + i; 0 past the end.
-fn byte_at(store: &[u8], at: u64, i: u64) -> u8 {
-    let Sum::Fits(place) = arithmetic::offsets::add(at, i) else {
-        return 0;
-    };
-    let k = place as usize;
+// How the store carries a request out: with a code, and a choice, which is 0 where the script makes none.
+pub struct Act {
+    pub code: u8,
+    pub choice: u64,
+    pub chooses: bool,
+}
+
+// What bytes become: all the same, or those of a choice.
+enum Content {
+    Same(u8),
+    Chosen(u64),
+}
+
+// The choice by which every byte is new.
+const ALL: u64 = 0xffff_ffff_ffff_ffff;
+
+// The offset i bytes past `at`. A request ends below 2^64, so its bytes never meet the other case.
+fn after(at: u64, i: u64) -> u64 {
+    match arithmetic::offsets::add(at, i) {
+        Sum::Fits(o) => o,
+        Sum::Over => LARGEST,
+    }
+}
+
+// Whether a choice makes the byte at offset o new.
+fn is_new(choice: u64, o: u64) -> bool {
+    (choice >> (o % 64)) % 2 == 1
+}
+
+// The byte of a choice at offset o.
+fn chosen(choice: u64, o: u64) -> u8 {
+    ((choice >> (o % 8 * 8)) % 256) as u8
+}
+
+fn content_at(c: Content, o: u64) -> u8 {
+    match c {
+        Content::Same(b) => b,
+        Content::Chosen(choice) => chosen(choice, o),
+    }
+}
+
+// The byte at offset o; 0 past the end.
+fn byte_at(store: &[u8], o: u64) -> u8 {
+    let k = o as usize;
     if k < store.len() { store[k] } else { 0 }
 }
 
-// The byte at `at` + i becomes b; past the end it is dropped.
-fn set_byte(store: &mut [u8], at: u64, i: u64, b: u8) {
-    let Sum::Fits(place) = arithmetic::offsets::add(at, i) else {
-        return;
-    };
-    let k = place as usize;
-    if k < store.len() {
-        store[k] = b;
+// The byte at offset o becomes b, where it is new; past the end it is dropped.
+fn put(bytes: &mut [u8], o: u64, new: u64, b: u8) {
+    let k = o as usize;
+    if k < bytes.len() {
+        if is_new(new, o) {
+            bytes[k] = b;
+        }
     }
 }
 
-// n bytes from `at` on become b; those past the end are dropped.
-pub fn fill(bytes: &mut [u8], at: u64, n: u64, b: u8) {
+// Of n bytes from `at` on, those that are new take their content. More than there are bytes need not be tried.
+fn fill_where(bytes: &mut [u8], at: u64, n: u64, new: u64, content: Content) {
     let most = arithmetic::offsets::lesser(n, bytes.len() as u64);
     let mut i = 0u64;
     while i < most {
-        set_byte(bytes, at, i, b);
+        let o = after(at, i);
+        put(bytes, o, new, content_at(content, o));
         i += 1;
     }
 }
 
-// The store's bytes from `at` on come into a piece; zeroes where the read fails.
-fn fetch(store: &[u8], at: u64, good: bool, piece: &mut [u8]) {
+// n bytes from `at` on become b.
+pub fn fill(bytes: &mut [u8], at: u64, n: u64, b: u8) {
+    fill_where(bytes, at, n, ALL, Content::Same(b));
+}
+
+impl Act {
+    // Where a write or zero request makes bytes new: all with code 0, those of the choice with another.
+    fn new_bytes(self) -> u64 {
+        if self.code == 0 { ALL } else { self.choice }
+    }
+
+    // Where a discard changes bytes: all, or none where the script makes no choice.
+    fn discarded(self) -> u64 {
+        if self.chooses { ALL } else { 0 }
+    }
+
+    // What a read leaves for offset o: with code 0 the store's byte, with another that of the choice.
+    fn yields(self, store: &[u8], o: u64) -> u8 {
+        if self.code == 0 {
+            return byte_at(store, o);
+        }
+        chosen(self.choice, o)
+    }
+}
+
+// A read of the store from `at` on into a piece.
+fn fetch(store: &[u8], at: u64, act: Act, piece: &mut [u8]) {
     let n = piece.len();
     let mut i = 0usize;
     while i < n {
-        let b = if good {
-            byte_at(store, at, i as u64)
-        } else {
-            0
-        };
-        set_byte(piece, 0, i as u64, b);
+        let b = act.yields(store, after(at, i as u64));
+        put(piece, i as u64, ALL, b);
         i += 1;
     }
 }
 
-// The piece's bytes come to the store from `at` on.
-fn keep(store: &mut [u8], at: u64, piece: &[u8]) {
+// A write of a piece to the store from `at` on.
+fn keep(store: &mut [u8], at: u64, new: u64, piece: &[u8]) {
     let mut i = 0usize;
     while i < piece.len() {
-        set_byte(store, at, i as u64, piece[i]);
+        put(store, after(at, i as u64), new, piece[i]);
         i += 1;
     }
 }
 
-// Where the next piece goes.
-fn after(at: u64, n: usize) -> u64 {
-    match arithmetic::offsets::add(at, n as u64) {
-        Sum::Fits(x) => x,
-        Sum::Over => 0xffff_ffff_ffff_ffff,
-    }
-}
-
-fn read_piece<'a>(
+// Reads or writes piece i of the request in `slot`, from `at` on; gives where the next piece goes.
+fn move_piece<'a>(
     dock: Dock,
     slot: usize,
     i: usize,
     at: u64,
-    good: bool,
-    store: &[u8],
+    reads: bool,
+    act: Act,
+    store: &mut [u8],
     data: &'a mut [u8],
     scratch: &'a mut [u8],
 ) -> u64 {
-    let piece = dock.piece_mut(slot, i, data, scratch);
-    let n = piece.len();
-    fetch(store, at, good, piece);
-    after(at, n)
-}
-
-fn write_piece<'a>(
-    dock: Dock,
-    slot: usize,
-    i: usize,
-    at: u64,
-    store: &mut [u8],
-    data: &'a [u8],
-    scratch: &'a [u8],
-) -> u64 {
+    if reads {
+        let piece = dock.piece_mut(slot, i, data, scratch);
+        let n = piece.len();
+        fetch(store, at, act, piece);
+        return after(at, n as u64);
+    }
     let piece = dock.piece(slot, i, data, scratch);
-    let n = piece.len();
-    keep(store, at, piece);
-    after(at, n)
+    keep(store, at, act.new_bytes(), piece);
+    after(at, piece.len() as u64)
 }
 
-// A read of that many pieces.
-fn read<'a>(
+// Reads or writes that many pieces of a request, in order, from an offset on.
+fn move_pieces<'a>(
     dock: Dock,
     slot: usize,
     pieces: usize,
     from: u64,
-    good: bool,
-    store: &[u8],
+    reads: bool,
+    act: Act,
+    store: &mut [u8],
     data: &'a mut [u8],
     scratch: &'a mut [u8],
 ) {
     let mut at = from;
     let mut i = 0usize;
     while i < pieces {
-        at = read_piece(dock, slot, i, at, good, store, data, scratch);
+        at = move_piece(dock, slot, i, at, reads, act, store, data, scratch);
         i += 1;
     }
 }
 
-// A write of that many pieces.
-fn write<'a>(
-    dock: Dock,
-    slot: usize,
-    pieces: usize,
-    from: u64,
-    store: &mut [u8],
-    data: &'a [u8],
-    scratch: &'a [u8],
-) {
-    let mut at = from;
-    let mut i = 0usize;
-    while i < pieces {
-        at = write_piece(dock, slot, i, at, store, data, scratch);
-        i += 1;
-    }
-}
-
-// The store's act for a request: a failing write or zero leaves the store as it was, and so does every discard.
-fn act(
+// The store's act for a request.
+fn act_on(
     dock: Dock,
     slot: usize,
     q: Request,
-    good: bool,
+    act: Act,
     store: &mut [u8],
     data: &mut [u8],
     scratch: &mut [u8],
@@ -157,26 +186,24 @@ fn act(
     let n = q.length;
     let pieces = q.segments;
     match kind {
-        Kind::Read => read(dock, slot, pieces, at, good, store, data, scratch),
-        Kind::Write => {
-            if good {
-                write(dock, slot, pieces, at, store, data, scratch);
-            }
-        }
-        Kind::Zero | Kind::AllocatedZero => {
-            if good {
-                fill(store, at, n, 0);
-            }
-        }
-        Kind::Discard => {}
+        Kind::Read => move_pieces(dock, slot, pieces, at, true, act, store, data, scratch),
+        Kind::Write => move_pieces(dock, slot, pieces, at, false, act, store, data, scratch),
+        Kind::Zero | Kind::AllocatedZero => fill_where(
+            store,
+            at,
+            n,
+            act.new_bytes(),
+            Content::Same(0),
+        ),
+        Kind::Discard => fill_where(store, at, n, act.discarded(), Content::Chosen(act.choice)),
     }
 }
 
-// Carries out the request that is out in `slot`, with that code.
+// Carries out the request that is out in `slot`.
 pub fn carry(
     dock: Dock,
     slot: usize,
-    code: u8,
+    act: Act,
     store: &mut [u8],
     data: &mut [u8],
     scratch: &mut [u8],
@@ -184,6 +211,6 @@ pub fn carry(
     let Due::Make(q) = dock.next(slot, data, scratch) else {
         return Carried::NoRequest;
     };
-    act(dock, slot, q, code == 0, store, data, scratch);
+    act_on(dock, slot, q, act, store, data, scratch);
     Carried::Done
 }

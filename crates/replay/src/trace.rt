@@ -166,7 +166,7 @@ fn usage(verb: Verb) {
         Verb::Zero => text(b"zero takes OFFSET LENGTH"),
         Verb::Alloc => text(b"alloc takes OFFSET LENGTH"),
         Verb::Discard => text(b"discard takes OFFSET LENGTH"),
-        Verb::Carry => text(b"carry takes SLOT CODE"),
+        Verb::Carry => text(b"carry takes SLOT CODE, and CHOICE or not"),
         Verb::Tell => text(b"tell takes SLOT CODE"),
         Verb::Collect => text(b"collect takes SLOT"),
         Verb::Show => text(b"show takes OFFSET LENGTH"),
@@ -193,7 +193,6 @@ fn flaw(f: Flaw) {
         }
         Flaw::Count(verb) => usage(verb),
         Flaw::Byte => text(b"BYTE is at most 255"),
-        Flaw::Carried => text(b"CODE of a carry is at most 199"),
         Flaw::Code => text(b"CODE is at most 255"),
         Flaw::Long => text(b"LENGTH is at most 64 to show"),
     }

@@ -7,10 +7,10 @@ use Rattle.replay.proofs.run.Statement.{statement}
 use Rattle.replay.proofs.run.Tie as tie
 
 abbrev Inv-loop : tie.InvT-loop
-Inv-loop script codes₀ store₀ data₀ scratch₀ t₀ n i₀ codes store «data» scratch t i = (i ≤ n) × (n < 18446744073709551616) × (length codes ≡ length codes₀) × (length store ≡ length store₀) × (length «data» ≡ length data₀) × (length scratch ≡ length scratch₀)
+Inv-loop script marks₀ store₀ data₀ scratch₀ t₀ n i₀ marks store «data» scratch t i = (i ≤ n) × (n < 18446744073709551616) × (length marks ≡ length marks₀) × (length store ≡ length store₀) × (length «data» ≡ length data₀) × (length scratch ≡ length scratch₀)
 
 abbrev μ-loop : tie.MeasureT-loop
-μ-loop script codes₀ store₀ data₀ scratch₀ t₀ n i₀ codes store «data» scratch t i = n - i
+μ-loop script marks₀ store₀ data₀ scratch₀ t₀ n i₀ marks store «data» scratch t i = n - i
 
 start-requires : tie.Need-start-requires Inv-loop μ-loop
 start-requires c κs = search needs

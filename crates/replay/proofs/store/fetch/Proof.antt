@@ -7,19 +7,22 @@ use Rattle.replay.proofs.store.fetch.Statement.{statement}
 use Rattle.replay.proofs.store.fetch.Tie as tie
 
 abbrev Inv-loop : tie.InvT-loop
-Inv-loop store at good piece₀ n i₀ piece i = (i ≤ n) × (length piece ≡ length piece₀)
+Inv-loop store at act piece₀ n i₀ piece i = (i ≤ n) × (length piece ≡ length piece₀)
 
 abbrev μ-loop : tie.MeasureT-loop
-μ-loop store at good piece₀ n i₀ piece i = n - i
+μ-loop store at act piece₀ n i₀ piece i = n - i
 
 loop-holds : tie.Need-loop-holds Inv-loop μ-loop
 loop-holds c = search needs
 
-byte-at-requires : tie.Need-byte-at-requires Inv-loop μ-loop
-byte-at-requires c κs = search needs
+after-requires : tie.Need-after-requires Inv-loop μ-loop
+after-requires c κs = search needs
 
-set-byte-requires : tie.Need-set-byte-requires Inv-loop μ-loop
-set-byte-requires c κs = search needs
+yields-requires : tie.Need-yields-requires Inv-loop μ-loop
+yields-requires c κs = search needs
+
+put-requires : tie.Need-put-requires Inv-loop μ-loop
+put-requires c κs = search needs
 
 add-i : tie.Need-add-i Inv-loop μ-loop
 add-i c = search needs
@@ -43,8 +46,9 @@ fetch-spec =
     Inv-loop
     μ-loop
     loop-holds
-    byte-at-requires
-    set-byte-requires
+    after-requires
+    yields-requires
+    put-requires
     add-i
     loop-less
     loop-again

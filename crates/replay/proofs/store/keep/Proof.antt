@@ -1,4 +1,4 @@
--- `replay::store::keep` is safe and ends: each turn takes one byte of the piece. Assumes nothing.
+-- `replay::store::keep` is safe and ends: each turn puts one byte of the piece. Assumes nothing.
 use borrow.Author.Needs.{needs}
 use Prim.Native.Nat.{_≤_, _-_}
 use mathlib.Core.Path.{_≡_}
@@ -7,19 +7,22 @@ use Rattle.replay.proofs.store.keep.Statement.{statement}
 use Rattle.replay.proofs.store.keep.Tie as tie
 
 abbrev Inv-loop : tie.InvT-loop
-Inv-loop store₀ at piece i₀ store i = (i ≤ length piece) × (length store ≡ length store₀)
+Inv-loop store₀ at new piece i₀ store i = (i ≤ length piece) × (length store ≡ length store₀)
 
 abbrev μ-loop : tie.MeasureT-loop
-μ-loop store₀ at piece i₀ store i = length piece - i
+μ-loop store₀ at new piece i₀ store i = length piece - i
 
 loop-holds : tie.Need-loop-holds Inv-loop μ-loop
 loop-holds c = search needs
 
-shared-slice-read-set-byte : tie.Need-shared-slice-read-set-byte Inv-loop μ-loop
-shared-slice-read-set-byte c = search needs
+after-requires : tie.Need-after-requires Inv-loop μ-loop
+after-requires c κs = search needs
 
-set-byte-requires : tie.Need-set-byte-requires Inv-loop μ-loop
-set-byte-requires c κs = search needs
+shared-slice-read-put : tie.Need-shared-slice-read-put Inv-loop μ-loop
+shared-slice-read-put c = search needs
+
+put-requires : tie.Need-put-requires Inv-loop μ-loop
+put-requires c κs = search needs
 
 add-i : tie.Need-add-i Inv-loop μ-loop
 add-i c = search needs
@@ -43,8 +46,9 @@ keep-spec =
     Inv-loop
     μ-loop
     loop-holds
-    shared-slice-read-set-byte
-    set-byte-requires
+    after-requires
+    shared-slice-read-put
+    put-requires
     add-i
     loop-less
     loop-again

@@ -1,25 +1,22 @@
--- `replay::store::fill` is safe and ends: each turn sets one byte of at most as many as there are. Assumes nothing.
+-- `replay::marks::forget_all` is safe and ends: each turn forgets one slot. Assumes nothing.
 use borrow.Author.Needs.{needs}
 use Prim.Native.Nat.{_≤_, _-_}
 use mathlib.Core.Path.{_≡_}
 use lib.ListN.{length}
-use Rattle.replay.proofs.store.fill.Statement.{statement}
-use Rattle.replay.proofs.store.fill.Tie as tie
+use Rattle.replay.proofs.marks.forget_all.Statement.{statement}
+use Rattle.replay.proofs.marks.forget_all.Tie as tie
 
 abbrev Inv-loop : tie.InvT-loop
-Inv-loop bytes₀ at n b most i₀ bytes i = (i ≤ most) × (length bytes ≡ length bytes₀)
+Inv-loop marks₀ n i₀ marks i = (i ≤ n) × (length marks ≡ length marks₀)
 
 abbrev μ-loop : tie.MeasureT-loop
-μ-loop bytes₀ at n b most i₀ bytes i = most - i
-
-lesser-requires : tie.Need-lesser-requires Inv-loop μ-loop
-lesser-requires c κs = search needs
+μ-loop marks₀ n i₀ marks i = n - i
 
 loop-holds : tie.Need-loop-holds Inv-loop μ-loop
 loop-holds c = search needs
 
-set-byte-requires : tie.Need-set-byte-requires Inv-loop μ-loop
-set-byte-requires c κs = search needs
+forget-requires : tie.Need-forget-requires Inv-loop μ-loop
+forget-requires c κs = search needs
 
 add-i : tie.Need-add-i Inv-loop μ-loop
 add-i c = search needs
@@ -36,15 +33,14 @@ same-length c = search needs
 returns : tie.Need-returns Inv-loop μ-loop
 returns c = search needs
 
-pub fill-spec : {M : Type 1} → statement M
-fill-spec =
+pub forget-all-spec : {M : Type 1} → statement M
+forget-all-spec =
     tie.close
     (tie.spec
     Inv-loop
     μ-loop
-    lesser-requires
     loop-holds
-    set-byte-requires
+    forget-requires
     add-i
     loop-less
     loop-again
