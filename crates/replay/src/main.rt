@@ -15,8 +15,9 @@
 //   write or zero request with another code: new where bit o mod 64 of CHOICE is set, else old; without CHOICE all old
 //   discard with any code: byte o mod 8 of CHOICE, the lowest first; without CHOICE as it was
 //   read with another code: its piece gets byte o mod 8 of CHOICE; without CHOICE 0
-// The trace has each event with its answer, then each slot that has a job, with what it needs (a request as offset+length
-// in so many pieces), then the sums of the store's and the data's bytes modulo 65536.
+// The trace has each event with its answer, then each slot that has a job, with what it needs. A request is its kind,
+// offset+length on the store and where its pieces lie, as start+length of the data or the scratch. Last come the sums of the
+// store's and the data's bytes modulo 65536.
 // At most 65536 bytes of script are read. A line that is neither event nor comment ends the run, with its number.
 mod marks; // the code of the carry in each slot
 mod script; // a line of the script, taken apart

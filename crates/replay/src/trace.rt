@@ -7,10 +7,12 @@ use dock::begin::Begun;
 use dock::dock::Dock;
 use dock::dock::SLOTS;
 use dock::next::Due;
+use dock::next::Piece;
 use dock::tell::Collected;
 use libc::STDOUT_FILENO;
 use stages::state::Kind;
 use stages::state::Request;
+use vectors::vector::Segment;
 ghost use Prim.Native.Nat.{_<_};
 
 pub fn text(bytes: &[u8]) {
@@ -72,20 +74,57 @@ fn kind(k: Kind) {
     }
 }
 
-// read 0+512 in 1: what, where on the store, and in how many pieces
-fn request(q: Request) {
+// Which way the bytes of a request's pieces go; zero and discard requests have none.
+fn direction(k: Kind) {
+    match k {
+        Kind::Read => text(b" into"),
+        Kind::Write => text(b" from"),
+        _ => {}
+    }
+}
+
+fn segment(s: Segment) {
+    extent(s.start as u64, s.length as u64);
+}
+
+fn piece(p: Piece) {
+    match p {
+        Piece::InData(s) => {
+            text(b" data ");
+            segment(s);
+        }
+        Piece::InScratch(s) => {
+            text(b" scratch ");
+            segment(s);
+        }
+        Piece::Refused(r) => refused(r),
+    }
+}
+
+// Where the n pieces of the request in `slot` lie, in order.
+fn pieces(dock: Dock, slot: usize, n: usize, data_len: usize, scratch_len: usize) {
+    let mut i = 0usize;
+    while i < n {
+        piece(dock.piece_place(slot, i, data_len, scratch_len));
+        i += 1;
+    }
+}
+
+// read 0+512 into scratch 0+512: what, where on the store, and where its pieces lie
+fn request(dock: Dock, slot: usize, q: Request, data_len: usize, scratch_len: usize) {
     let offset = q.offset;
     let what = q.kind;
     kind(what);
     extent(offset.0, q.length);
-    pair(b"in", q.segments as u64);
+    direction(what);
+    pieces(dock, slot, q.segments, data_len, scratch_len);
 }
 
-// What next answers.
-fn due(d: Due) {
+// What next answers for `slot`.
+fn due(dock: Dock, slot: usize, d: Due, data_len: usize, scratch_len: usize) {
     match d {
         Due::Waiting => text(b" waiting"),
-        Due::Make(q) => request(q),
+        Due::Make(q) => request(dock, slot, q, data_len, scratch_len),
         Due::Answer(code) => pair(b"answer", code as u64),
         Due::Refused(r) => refused(r),
     }
@@ -100,7 +139,7 @@ fn slot(dock: Dock, slot: usize, data: &[u8], scratch: &[u8]) {
     text(b" ");
     pair(b"slot", slot as u64);
     text(b":");
-    due(d);
+    due(dock, slot, d, data.len(), scratch.len());
     text(b"\n");
 }
 
