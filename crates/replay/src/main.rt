@@ -15,11 +15,12 @@
 //   write or zero request with another code: new where bit o mod 64 of CHOICE is set, else old; without CHOICE all old
 //   discard with any code: byte o mod 8 of CHOICE, the lowest first; without CHOICE as it was
 //   read with another code: its piece gets byte o mod 8 of CHOICE; without CHOICE 0
-// The trace has each event with its answer, then each slot that has a job, with what it needs. A request is its kind,
-// offset+length on the store and where its pieces lie, as start+length of the data or the scratch. Last come the sums of the
-// store's and the data's bytes modulo 65536.
+// The trace has each event with its answer. Then comes each slot that has a job: `due` and a request that is newly due, `out`
+// and one that was out before, `waiting`, or `answer` and the final answer. A request is its kind, offset+length on the store
+// and where its pieces lie, as start+length of the data or the scratch. Last come the sums of the store's and the data's
+// bytes modulo 65536.
 // At most 65536 bytes of script are read. A line that is neither event nor comment ends the run, with its number.
-mod marks; // the code of the carry in each slot
+mod marks; // what became of the request in each slot
 mod script; // a line of the script, taken apart
 mod store; // the stand-in store
 mod trace; // what is printed
@@ -303,7 +304,7 @@ fn perform(
     text(b":");
     let after = event(dock, e, marks, store, data, scratch);
     text(b"\n");
-    trace::state(after, store, data, scratch);
+    trace::state(after, marks, store, data, scratch);
     after
 }
 

@@ -1,4 +1,5 @@
 // What is printed.
+use crate::marks;
 use crate::script::Flaw;
 use crate::script::Verb;
 use arithmetic::refusals::Outcome;
@@ -130,8 +131,21 @@ fn due(dock: Dock, slot: usize, d: Due, data_len: usize, scratch_len: usize) {
     }
 }
 
+// Whether a request is newly due, or was out before. From here on it is shown.
+fn due_or_out(d: Due, slot: usize, marks: &mut [u64]) {
+    let Due::Make(_) = d else {
+        return;
+    };
+    if marks::is_new(marks, slot) {
+        text(b" due");
+    } else {
+        text(b" out");
+    }
+    marks::show(marks, slot);
+}
+
 // What the job in `slot` needs now; nothing for a free slot.
-fn slot(dock: Dock, slot: usize, data: &[u8], scratch: &[u8]) {
+fn slot(dock: Dock, slot: usize, marks: &mut [u64], data: &[u8], scratch: &[u8]) {
     let d = dock.next(slot, data, scratch);
     if let Due::Refused(_) = d {
         return;
@@ -139,14 +153,15 @@ fn slot(dock: Dock, slot: usize, data: &[u8], scratch: &[u8]) {
     text(b" ");
     pair(b"slot", slot as u64);
     text(b":");
+    due_or_out(d, slot, marks);
     due(dock, slot, d, data.len(), scratch.len());
     text(b"\n");
 }
 
-fn slots(dock: Dock, data: &[u8], scratch: &[u8]) {
+fn slots(dock: Dock, marks: &mut [u64], data: &[u8], scratch: &[u8]) {
     let mut i = 0usize;
     while i < SLOTS {
-        slot(dock, i, data, scratch);
+        slot(dock, i, marks, data, scratch);
         i += 1;
     }
 }
@@ -169,8 +184,8 @@ fn checksum(bytes: &[u8]) -> u64 {
 }
 
 // Every slot that has a job, and the checksums.
-pub fn state(dock: Dock, store: &[u8], data: &[u8], scratch: &[u8]) {
-    slots(dock, data, scratch);
+pub fn state(dock: Dock, marks: &mut [u64], store: &[u8], data: &[u8], scratch: &[u8]) {
+    slots(dock, marks, data, scratch);
     text(b" ");
     pair(b"store", checksum(store));
     pair(b"data", checksum(data));
