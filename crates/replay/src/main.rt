@@ -5,6 +5,7 @@
 //   data OFFSET LENGTH BYTE    likewise the data's; those of a job in flight are to stay as they are, which nothing checks
 //   read OFFSET, write OFFSET  begin, each with up to 17 segments of the data after it, as START LENGTH
 //   zero OFFSET LENGTH, alloc OFFSET LENGTH, discard OFFSET LENGTH   begin
+//   next SLOT                  what the job in SLOT needs
 //   carry SLOT CODE            the store carries out the request that is out in SLOT, once, with that code, any up to 255
 //   carry SLOT CODE CHOICE     likewise, and CHOICE, a number below 2^64, decides what the code leaves open
 //   tell SLOT CODE             an answer to a request that is out is made only with the code of its carry
@@ -131,6 +132,16 @@ fn begin(dock: Dock, e: Event, data: &[u8], scratch: &mut [u8]) -> Dock {
     }
 }
 
+fn next(dock: Dock, slot: usize, data: &[u8], scratch: &[u8]) {
+    trace::due(
+        dock,
+        slot,
+        dock.next(slot, data, scratch),
+        data.len(),
+        scratch.len(),
+    );
+}
+
 // Whether a request is out in `slot`.
 fn is_out(dock: Dock, slot: usize, data: &[u8], scratch: &[u8]) -> bool {
     match dock.next(slot, data, scratch) {
@@ -240,6 +251,7 @@ fn aside(
         Verb::Store => fill(store, e),
         Verb::Data => fill(data, e),
         Verb::Show => trace::bytes(store, e.number(0), e.number(1)),
+        Verb::Next => next(dock, slot, data, scratch),
         Verb::Carry => carry(dock, slot, act_of(e), marks, store, data, scratch),
         _ => {}
     }

@@ -11,6 +11,7 @@ pub enum Verb {
     Zero,
     Alloc,
     Discard,
+    Next,
     Carry,
     Tell,
     Collect,
@@ -156,6 +157,9 @@ fn begin_verb(line: &[u8], n: usize) -> Verb {
 
 // The event that the first n bytes of the line name.
 fn verb_of(line: &[u8], n: usize) -> Verb {
+    if is_word(line, n, b"next") {
+        return Verb::Next;
+    }
     if is_word(line, n, b"carry") {
         return Verb::Carry;
     }
@@ -261,7 +265,7 @@ fn takes(verb: Verb, count: usize) -> bool {
         Verb::Read | Verb::Write => count % 2 == 1,
         Verb::Store | Verb::Data => count == 3,
         Verb::Carry => (count == 2) | (count == 3),
-        Verb::Collect => count == 1,
+        Verb::Next | Verb::Collect => count == 1,
         Verb::Unknown => false,
         _ => count == 2,
     }

@@ -122,7 +122,7 @@ fn request(dock: Dock, slot: usize, q: Request, data_len: usize, scratch_len: us
 }
 
 // What next answers for `slot`.
-fn due(dock: Dock, slot: usize, d: Due, data_len: usize, scratch_len: usize) {
+pub fn due(dock: Dock, slot: usize, d: Due, data_len: usize, scratch_len: usize) {
     match d {
         Due::Waiting => text(b" waiting"),
         Due::Make(q) => request(dock, slot, q, data_len, scratch_len),
@@ -220,6 +220,7 @@ fn usage(verb: Verb) {
         Verb::Zero => text(b"zero takes OFFSET LENGTH"),
         Verb::Alloc => text(b"alloc takes OFFSET LENGTH"),
         Verb::Discard => text(b"discard takes OFFSET LENGTH"),
+        Verb::Next => text(b"next takes SLOT"),
         Verb::Carry => text(b"carry takes SLOT CODE, and CHOICE or not"),
         Verb::Tell => text(b"tell takes SLOT CODE"),
         Verb::Collect => text(b"collect takes SLOT"),
