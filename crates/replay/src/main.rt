@@ -20,7 +20,8 @@
 // and one that was out before, `waiting`, or `answer` and the final answer. A request is its kind, offset+length on the store
 // and where its pieces lie, as start+length of the data or the scratch. Last come the sums of the store's and the data's
 // bytes modulo 65536.
-// At most 65536 bytes of script are read. A line that is neither event nor comment ends the run, with its number.
+// A program has no exit status, so the last line tells: `ok` where the script ran to its end; `error: line N: ..` where line
+// N is neither event nor comment, and the run stops there; `error: ..` for a script of more than 65535 bytes, which is not run.
 mod marks; // what became of the request in each slot
 mod script; // a line of the script, taken apart
 mod store; // the stand-in store
@@ -386,8 +387,14 @@ fn start(data: &[u8], scratch: &[u8]) -> Turn {
     }
 }
 
-// The lines, in order, up to the first that is no event: at most as many as there are bytes.
-fn run(script: &[u8], marks: &mut [u64], store: &mut [u8], data: &mut [u8], scratch: &mut [u8]) {
+// The lines, in order, up to the first that is no event: at most as many as there are bytes. Whether there was one.
+fn run(
+    script: &[u8],
+    marks: &mut [u64],
+    store: &mut [u8],
+    data: &mut [u8],
+    scratch: &mut [u8],
+) -> bool {
     let mut t = start(data, scratch);
     let n = script.len();
     let mut i = 0usize;
@@ -398,6 +405,7 @@ fn run(script: &[u8], marks: &mut [u64], store: &mut [u8], data: &mut [u8], scra
         i += 1;
         t = step(t, script, marks, store, data, scratch);
     }
+    t.malformed
 }
 
 fn store_bytes() -> [u8; 8192] {
@@ -413,18 +421,24 @@ fn scratch_bytes() -> [u8; 131072] {
     [0u8; 131072]
 }
 
-fn main() {
-    let mut script = io::large_buffer();
-    let n = io::read_full(STDIN_FILENO, &mut script);
+// Runs a whole script, and says at the end that it was whole.
+fn replay(script: &[u8]) {
     let mut store = store_bytes();
     let mut data = data_bytes();
     let mut scratch = scratch_bytes();
     let mut marks = [0u64; 8];
-    run(
-        &script[..n],
-        &mut marks,
-        &mut store,
-        &mut data,
-        &mut scratch,
-    );
+    if run(script, &mut marks, &mut store, &mut data, &mut scratch) {
+        return;
+    }
+    text(b"ok\n");
+}
+
+fn main() {
+    let mut script = io::large_buffer();
+    let n = io::read_full(STDIN_FILENO, &mut script);
+    if n == script.len() {
+        trace::too_long();
+        return;
+    }
+    replay(&script[..n]);
 }

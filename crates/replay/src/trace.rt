@@ -253,7 +253,7 @@ fn flaw(f: Flaw) {
     }
 }
 
-// The line that ends a run, with its flaw.
+// The last line of a run that stopped at a line with a flaw.
 pub fn malformed(line_number: u64, line: &[u8], f: Flaw) {
     text(b"error: line ");
     number(line_number);
@@ -262,4 +262,9 @@ pub fn malformed(line_number: u64, line: &[u8], f: Flaw) {
     text(b": ");
     text(line);
     text(b"\n");
+}
+
+// The last line of a run whose script is too long to be read.
+pub fn too_long() {
+    text(b"error: the script has more than 65535 bytes\n");
 }
