@@ -45,6 +45,8 @@ use dock::tell::Telling;
 use libc::STDIN_FILENO;
 use vectors::vector::Changed;
 use vectors::vector::IoVector;
+ghost use Prim.Native.Nat.{_<_};
+ghost use lib.ListN.{length};
 
 // The dock between two events, where the next line starts, the number of the last one, and whether that was malformed.
 struct Turn {
@@ -353,8 +355,7 @@ fn passed(mut t: Turn, end: usize, n: usize) -> Turn {
     t
 }
 
-// One turn: the line that starts where the turn says. `line_end` gives an end in the script and not before the start, but
-// promises neither, so both are tested.
+// One turn: the line that starts where the turn says.
 fn step(
     t: Turn,
     script: &[u8],
@@ -362,16 +363,12 @@ fn step(
     store: &mut [u8],
     data: &mut [u8],
     scratch: &mut [u8],
-) -> Turn {
+) -> Turn
+    requires { ⌜ t .at < length (now script) ⌝ }
+{
     let at = t.at;
     let end = script::line_end(script, at);
     let next = passed(t, end, script.len());
-    if end < at {
-        return next;
-    }
-    if script.len() < end {
-        return next;
-    }
     play(next, &script[at..end], marks, store, data, scratch)
 }
 
@@ -399,7 +396,10 @@ fn run(
     let n = script.len();
     let mut i = 0usize;
     while i < n {
-        if t.malformed | (n <= t.at) {
+        if t.malformed {
+            break;
+        }
+        if n <= t.at {
             break;
         }
         i += 1;

@@ -1,5 +1,7 @@
 // A line of the script, taken apart.
 use vectors::vector::Segment;
+ghost use Prim.Native.Nat.{_≤_};
+ghost use lib.ListN.{length};
 
 // The word that a line starts with.
 pub enum Verb {
@@ -94,7 +96,10 @@ impl Event {
 }
 
 // Where the line that starts at `at` ends: at its newline, or the text's end.
-pub fn line_end(text: &[u8], at: usize) -> usize {
+pub(crate) fn line_end(text: &[u8], at: usize) -> usize
+    requires { ⌜ at ≤ length (now text) ⌝ }
+    ensures { λ r. ⌜ (at ≤ r) × (r ≤ length (now (text .entry))) ⌝ }
+{
     let mut i = at;
     while i < text.len() {
         if text[i] == b'\n' {
