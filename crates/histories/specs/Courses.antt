@@ -20,7 +20,7 @@ use Rattle.arithmetic.specs.declared.zeroes.DiscardCut.{DiscardCut}
 use Rattle.arithmetic.specs.declared.zeroes.DiscardCut.the-variants.{Nothing as NoDiscard, Middle as DiscardMiddle, Refused as DiscardRefused}
 use Rattle.arithmetic.specs.declared.zeroes.Chunk.{Chunk}
 use Rattle.arithmetic.specs.declared.zeroes.Chunk.the-variants.{Nothing as NoChunk, Next, Refused as ChunkRefused}
-use Rattle.stages.specs.Stages.{sizeOf, directStage, paddedStage, firstPhase, stateOf, asked, readBy, readPlan, writeBy, writePlan, zeroesBy, zeroesPlan, zeroJob, zeroBy, zeroPlan, discardBy, discardPlan, inPhase, endedWith, laterStage, zeroesNext, chunkBy, chunkNext, tailNext, headNext, stageDone, doneNext, unsupportedNext, toldOf, isBlocking}
+use Rattle.stages.specs.Stages.{sizeOf, directStage, paddedStage, firstPhase, stateOf, asked, vectorBy, readPlan, writePlan, zeroesBy, zeroesPlan, zeroJob, zeroBy, zeroPlan, discardBy, discardPlan, inPhase, endedWith, laterStage, zeroesNext, chunkBy, chunkNext, tailNext, headNext, stageDone, doneNext, unsupportedNext, toldOf, isBlocking}
 use Rattle.stages.specs.Laws.{Starts, starts-within, starts-some}
 use Rattle.stages.specs.declared.state.Job.{Job}
 use Rattle.stages.specs.declared.state.Job.the-variants.{Read, Write, Zeroes, AllocatedZeroes, Discard}
@@ -131,7 +131,7 @@ abbrev Regular : State → Type 0
 Regular x = isRegular x ≡ true
 
 module _ (s : Settings) (o : StoreOffset) (n : ℕ) where
-  read-by : (t : Transfer) → Starts Sole (readBy s o n t)
+  read-by : (t : Transfer) → Starts Sole (vectorBy s Read DirectRead o n t)
   unfolding isRegular directStage paddedStage
   read-by (Direct r) = (refl, refl)
   read-by (Bounced x) = starts-within Sole (x .length) (s .bounce) _ (λ h. (refl, refl))
@@ -141,7 +141,7 @@ module _ (s : Settings) (o : StoreOffset) (n : ℕ) where
   unfolding readPlan
   read-regular t = starts-some Sole n _ (λ h. read-by (transferOf (s .align) o n t))
 
-  write-by : (t : Transfer) → Starts Sole (writeBy s o n t)
+  write-by : (t : Transfer) → Starts Sole (vectorBy s Write DirectWrite o n t)
   unfolding isRegular directStage paddedStage
   write-by (Direct r) = (refl, refl)
   write-by (Bounced x) = starts-within Sole (x .length) (s .bounce) _ (λ h. (first-regular Write Last (paddedStage x (asked o n)) refl, refl))
