@@ -1,30 +1,23 @@
 -- Begin, tell and collect keep `Held`, and on a dock that has it none of their inner steps is refused. Assumes nothing.
 use mathlib.Core.Path.{_≡_, refl, sym, ap, _∙_, subst}
-use mathlib.Core.Bool.{Bool, true, false, _&&_, _||_, not}
-use mathlib.Core.Logic.{_≢_}
+use mathlib.Core.Bool.{Bool, true, false, _&&_}
 use mathlib.Core.List.{List, [], _∷_}
-use Prim.Native.Nat.{ℕ, suc, zero, _+_, _-_, _*_, _<_, _≤_}
+use Prim.Native.Nat.{ℕ, suc, _+_, _-_, _<_}
 use native.Mathlib.Omega.{arith}
 use lib.Dec.{ltb, eqb}
 use lib.ListN.{length, getD, set, length-set}
 use lib.Seq.{getD-set-same, getD-set-other}
-use borrow.Author.Tests.{ltb-true, eqb-true, eq-eqb}
+use borrow.Author.Tests.{ltb-true, eq-eqb}
 use Rattle.arithmetic.specs.Rounding.{pick}
-use Rattle.arithmetic.specs.SettingsLaws.{and-left, and-right}
-use Rattle.arithmetic.specs.Settings.{openingOf}
-use Rattle.arithmetic.specs.declared.refusals.Refusal.{Refusal}
-use Rattle.arithmetic.specs.declared.refusals.Refusal.the-variants.{Segment, Overlap, Full, Buffer}
-use Rattle.arithmetic.specs.declared.refusals.Outcome.{Outcome}
-use Rattle.arithmetic.specs.declared.refusals.Outcome.the-variants.{Done, Refused}
+use Rattle.arithmetic.specs.SettingsLaws.{and-right}
+use Rattle.arithmetic.specs.declared.refusals.Refusal.the-variants.{Overlap, Full}
+use Rattle.arithmetic.specs.declared.refusals.Outcome.the-variants.{Done}
 use Rattle.arithmetic.specs.declared.offsets.StoreOffset.{StoreOffset}
 use Rattle.arithmetic.specs.declared.offsets.Range.{Range}
 use Rattle.arithmetic.specs.declared.settings.Settings.{Settings}
-use Rattle.arithmetic.specs.declared.settings.Buffers.{Buffers}
-use Rattle.vectors.specs.Vectors.{isValid, copies, vectorOf, segmentsOf, bytesOf}
+use Rattle.vectors.specs.Vectors.{isValid, copies, vectorOf}
 use Rattle.vectors.specs.declared.vector.IoVector.{IoVector}
 use Rattle.blockers.specs.Blockers.{isEntered, blockerAt}
-use Rattle.blockers.specs.declared.Blockers.{Blockers}
-use Rattle.blockers.specs.declared.Changed.{Changed}
 use Rattle.stages.specs.Stages.{sizeOf, isFree, hasEnded, isPending, isBlocking, isSound, asked, readPlan, writePlan, zeroJob, zeroPlan, discardPlan, toldOf}
 use Rattle.stages.specs.Laws.{Placed, Opens, Starts, read-opens, write-opens, zero-opens, discard-opens, Continues, Finishes, told-stays, told-ends, told-enters}
 use Rattle.stages.specs.declared.state.Job.{Job}
@@ -36,13 +29,13 @@ use Rattle.stages.specs.declared.plan.Plan.{Plan}
 use Rattle.stages.specs.declared.plan.Plan.the-variants.{Done as NothingToDo, Started, Refused as PlanRefused}
 use Rattle.stages.specs.declared.told.Step.{Step}
 use Rattle.stages.specs.declared.told.Step.the-variants.{Stays, Ends, Enters}
-use Rattle.dock.specs.Dock.{noState, noVector, vacant, stateAt, vectorAt, lentFits, lentBy, lentOf, shareAt, isReadJob, overlapsOf, firstFree}
-use Rattle.dock.specs.Begin.{Filled, isWriteJob, isBouncedWrite, sourceFits, mergedAt, filled, blockersWith, withJob, Begins, thenDo, placed, placedAt, refusedBegin, onlyIf, begunBy, vectorThen}
-use Rattle.dock.specs.Tell.{Told, blockersWithout, Handed, copiedAt, isBouncedRead, handed, stayed, ended, entered, staysOf, endsOf, entersOf, stepped, after}
+use Rattle.dock.specs.Dock.{noState, noVector, vacant, stateAt, vectorAt, shareAt, isReadJob, overlapsOf, firstFree}
+use Rattle.dock.specs.Begin.{isWriteJob, isBouncedWrite, sourceFits, mergedAt, filled, blockersWith, withJob, Begins, placed, placedAt, refusedBegin, begunBy}
+use Rattle.dock.specs.Tell.{blockersWithout, copiedAt, isBouncedRead, handed, stayed, ended, entered, staysOf, endsOf, entersOf, stepped, after}
 use Rattle.dock.specs.declared.dock.Dock.{Dock}
 use Rattle.histories.specs.Courses.{isZeroJob, hasVector, isLast, isRegular, suited, never, Sole, read-regular, write-regular, zero-regular, discard-regular, Goes, stays-regular, enters-regular}
-use Rattle.histories.specs.Held.{SlotHeld, SlotOf, Held}
-use Rattle.histories.specs.Keeping.{Changes, none-changes, enter-changes, leave-changes, stay-changes, renewed, slot-anew, none-held}
+use Rattle.histories.specs.Held.{SlotOf, Held}
+use Rattle.histories.specs.Keeping.{Changes, none-changes, enter-changes, leave-changes, stay-changes, slot-anew, none-held}
 
 -- ---- phases and jobs
 

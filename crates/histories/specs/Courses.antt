@@ -20,7 +20,7 @@ use Rattle.arithmetic.specs.declared.zeroes.DiscardCut.{DiscardCut}
 use Rattle.arithmetic.specs.declared.zeroes.DiscardCut.the-variants.{Nothing as NoDiscard, Middle as DiscardMiddle, Refused as DiscardRefused}
 use Rattle.arithmetic.specs.declared.zeroes.Chunk.{Chunk}
 use Rattle.arithmetic.specs.declared.zeroes.Chunk.the-variants.{Nothing as NoChunk, Next, Refused as ChunkRefused}
-use Rattle.stages.specs.Stages.{sizeOf, directStage, paddedStage, firstPhase, stateOf, asked, vectorBy, readPlan, writePlan, zeroesBy, zeroesPlan, zeroJob, zeroBy, zeroPlan, discardBy, discardPlan, inPhase, endedWith, laterStage, zeroesNext, chunkBy, chunkNext, tailNext, headNext, stageDone, doneNext, unsupportedNext, toldOf, isBlocking}
+use Rattle.stages.specs.Stages.{sizeOf, directStage, paddedStage, firstPhase, asked, vectorBy, readPlan, writePlan, zeroesBy, zeroesPlan, zeroJob, zeroBy, zeroPlan, discardBy, discardPlan, endedWith, laterStage, zeroesNext, chunkBy, chunkNext, tailNext, headNext, stageDone, doneNext, unsupportedNext, toldOf, isBlocking}
 use Rattle.stages.specs.Laws.{Starts, starts-within, starts-some}
 use Rattle.stages.specs.declared.state.Job.{Job}
 use Rattle.stages.specs.declared.state.Job.the-variants.{Read, Write, Zeroes, AllocatedZeroes, Discard}

@@ -5,7 +5,7 @@ use mathlib.Core.Logic.{_≢_}
 use mathlib.Core.List.{List, []}
 use Prim.Native.Nat.{ℕ, _+_, _<_}
 use native.Mathlib.Decide.{ℕ-discrete}
-use lib.ListN.{length, getD, set, replicate, length-set, getD-replicate, length-replicate}
+use lib.ListN.{length, getD, set, length-set, getD-replicate, length-replicate}
 use lib.Seq.{getD-set-same, getD-set-other}
 use Rattle.arithmetic.specs.Rounding.{pick}
 use Rattle.arithmetic.specs.Settings.{openingOf}
@@ -25,7 +25,7 @@ use Rattle.blockers.specs.declared.Blockers.{Blockers}
 use Rattle.blockers.specs.declared.Changed.{Changed}
 use Rattle.stages.specs.Stages.{isBlocking, isSound}
 use Rattle.stages.specs.declared.state.State.{State}
-use Rattle.dock.specs.Dock.{noState, noVector, vacant, fresh, stateAt, vectorAt}
+use Rattle.dock.specs.Dock.{noState, noVector, vacant, fresh, vectorAt}
 use Rattle.dock.specs.Begin.{strength, blockersWith}
 use Rattle.dock.specs.Tell.{blockersWithout}
 use Rattle.dock.specs.declared.dock.Dock.{Dock}

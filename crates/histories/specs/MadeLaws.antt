@@ -1,16 +1,15 @@
 -- Every dock that calls made has `Held`; and so begin, a request's piece and tell answer on it as document 01 says, and never by a refusal of their inner steps. Assumes nothing.
-use mathlib.Core.Path.{_≡_, refl, sym, ap, _∙_, subst}
+use mathlib.Core.Path.{_≡_, refl, sym, subst}
 use mathlib.Core.Bool.{Bool, true, false, _&&_}
 use mathlib.Core.List.{List, []}
-use Prim.Native.Nat.{ℕ, _<_, _≤_, _*_}
+use Prim.Native.Nat.{ℕ, _<_}
 use native.Mathlib.Omega.{arith}
-use lib.Dec.{ltb, leb, eqb}
+use lib.Dec.{ltb}
 use lib.ListN.{length}
 use borrow.Author.Tests.{ltb-true, eqb-true, le-leb}
 use Rattle.arithmetic.specs.Rounding.{pick}
 use Rattle.arithmetic.specs.SettingsLaws.{and-left, opened}
-use Rattle.arithmetic.specs.Settings.{openingOf, profileOf, alignments}
-use Rattle.arithmetic.specs.declared.refusals.Refusal.{Refusal}
+use Rattle.arithmetic.specs.Settings.{openingOf, profileOf}
 use Rattle.arithmetic.specs.declared.refusals.Refusal.the-variants.{Segment, Overlap, Full, Buffer, Slot, NoAnswer}
 use Rattle.arithmetic.specs.declared.refusals.Outcome.{Outcome}
 use Rattle.arithmetic.specs.declared.refusals.Outcome.the-variants.{Done, Refused}
@@ -21,15 +20,13 @@ use Rattle.arithmetic.specs.declared.settings.Profile.{Profile}
 use Rattle.arithmetic.specs.declared.settings.Profile.the-variants.{Of, Refused as NoProfile}
 use Rattle.vectors.specs.Vectors.{isValid, vectorOf, alignmentOf}
 use Rattle.vectors.specs.declared.vector.IoVector.{IoVector}
-use Rattle.blockers.specs.Blockers.{waitsOf}
-use Rattle.stages.specs.Stages.{isPending, isSound, readPlan, writePlan, zeroPlan, discardPlan, toldOf, hasEnded}
+use Rattle.stages.specs.Stages.{isPending, readPlan, writePlan, zeroPlan, discardPlan, toldOf, hasEnded}
 use Rattle.stages.specs.Laws.{Starts}
 use Rattle.stages.specs.declared.state.Job.{Job}
 use Rattle.stages.specs.declared.state.Job.the-variants.{Read, Write, Zeroes, Discard}
-use Rattle.stages.specs.declared.state.State.{State}
 use Rattle.stages.specs.declared.plan.Plan.{Plan}
 use Rattle.stages.specs.declared.plan.Plan.the-variants.{Done as NothingToDo, Started, Refused as PlanRefused}
-use Rattle.dock.specs.Dock.{stateAt, vectorAt, fresh, vacant, openOf, openBy, openProfileOf, lentFits, lentBy, lentOf, isOutBy, isOut, overlapsOf, firstFree}
+use Rattle.dock.specs.Dock.{stateAt, vacant, openOf, openBy, openProfileOf, lentFits, lentBy, lentOf, isOutBy, isOut, overlapsOf, firstFree}
 use Rattle.dock.specs.Begin.{withJob, Begins, onlyIf, vectorThen, begunBy, placed, placedAt, isAligned, refusedBegin, beginReadOf, beginWriteOf, beginZeroesOf, beginDiscardOf}
 use Rattle.dock.specs.Next.{isKeptBy, isKept}
 use Rattle.dock.specs.Tell.{Told, stepped, after, tellAt, tellOf, refusedTell, collectOf}
@@ -37,7 +34,6 @@ use Rattle.dock.specs.declared.dock.Dock.{Dock}
 use Rattle.dock.specs.declared.begin.Begun.the-variants.{Done as NoRequest}
 use Rattle.dock.specs.declared.tell.Collects.{Collects}
 use Rattle.dock.specs.declared.tell.Collected.the-variants.{Final, Refused as NotCollected}
-use Rattle.histories.specs.Courses.{never}
 use Rattle.histories.specs.Held.{Held, Made, opens, opens-profile, begins-read, begins-write, begins-zeroes, begins-discard, tells, collects}
 use Rattle.histories.specs.Keeping.{fresh-held}
 use Rattle.histories.specs.Calls.{Ready, read-ready, write-ready, zero-ready, discard-ready, begun-held, place-done, told-done, told-held, freed-held}
