@@ -1,0 +1,105 @@
+-- Lists of events in which every call is lent the buffers as they are: each such list is lawful where its tells hand in the codes of their carries. Assumes nothing.
+use mathlib.Core.Path.{_≡_, refl, sym, _∙_}
+use mathlib.Core.Bool.{Bool, true, false, _&&_, false≢true}
+use mathlib.Core.List.{List, [], _∷_}
+use mathlib.Core.Option.{Option, none, some}
+use Prim.Native.Nat.{ℕ}
+use native.Mathlib.Omega.{arith}
+use lib.Dec.{eqb}
+use borrow.Author.Tests.{eqb-true}
+use Rattle.arithmetic.specs.SettingsLaws.{and-left, and-right}
+use Rattle.arithmetic.specs.declared.offsets.StoreOffset.{StoreOffset}
+use Rattle.arithmetic.specs.declared.refusals.Outcome.{Outcome}
+use Rattle.arithmetic.specs.declared.refusals.Outcome.the-variants.{Done, Refused}
+use Rattle.vectors.specs.declared.vector.IoVector.{IoVector}
+use Rattle.dock.specs.Tell.{tellOf}
+use Rattle.histories.specs.Store.{Choice}
+use Rattle.histories.specs.PlainStore.{Plain, plainStep}
+use Rattle.histories.specs.Histories.{Lends, Event, begins-read, begins-write, begins-zeroes, begins-discard, carries, tells, collects, World, step, fed, LentOf, HandsIn, Allowed, Lawful}
+
+-- an event without its buffers
+pub data Act : Type 0 where
+  reads : StoreOffset → IoVector → Act
+  writes : StoreOffset → IoVector → Act
+  zeroes : Bool → StoreOffset → ℕ → Act
+  discards : StoreOffset → ℕ → Act
+  carry : ℕ → ℕ → Choice → Act
+  tell : ℕ → ℕ → Act
+  collect : ℕ → Act
+
+abbrev pub own : World → Lends
+own w = record { memory = w .memory; scratch = w .scratch }
+
+abbrev pub eventOf : World → Act → Event
+eventOf w (reads o v) = begins-read o v (own w)
+eventOf w (writes o v) = begins-write o v (own w)
+eventOf w (zeroes t o n) = begins-zeroes t o n (own w)
+eventOf w (discards o n) = begins-discard o n (own w)
+eventOf w (carry p code c) = carries p code c
+eventOf w (tell p code) = tells p code (own w)
+eventOf w (collect p) = collects p (own w)
+
+abbrev pub eventsOf : World → List Act → List Event
+eventsOf w [] = []
+eventsOf w (a ∷ rest) = eventOf w a ∷ eventsOf (step w (eventOf w a)) rest
+
+-- the two sides after the acts
+pub record Sides : Type 0 where
+  pub real : World
+  pub plain : Plain
+
+abbrev pub run : World → Plain → List Act → Sides
+run w m [] = record { real = w; plain = m }
+run w m (a ∷ rest) = run (step w (eventOf w a)) (plainStep m (fed w (eventOf w a))) rest
+
+-- ---- which acts a state allows
+
+abbrev pub isDone : Outcome → Bool
+isDone Done = true
+isDone (Refused r) = false
+
+abbrev pub isCode : Option ℕ → ℕ → Bool
+isCode none code = false
+isCode (some c) code = eqb c code
+
+-- a tell that is accepted hands in the code of its carry
+abbrev pub matches : Bool → Bool → Bool
+matches true c = c
+matches false c = true
+
+abbrev pub isAllowed : World → Act → Bool
+isAllowed w (reads o v) = true
+isAllowed w (writes o v) = true
+isAllowed w (zeroes t o n) = true
+isAllowed w (discards o n) = true
+isAllowed w (carry p code c) = true
+isAllowed w (tell p code) = matches (isDone (tellOf (w .dock) p code (w .memory) (w .scratch) .outcome)) (isCode (w .carried p) code)
+isAllowed w (collect p) = true
+
+abbrev pub allAllowed : World → List Act → Bool
+allAllowed w [] = true
+allAllowed w (a ∷ rest) = isAllowed w a && allAllowed (step w (eventOf w a)) rest
+
+lent-own : (w : World) → LentOf w (own w)
+lent-own w e = (refl, λ p k h f c. refl)
+
+code-of : (o : Option ℕ) (code : ℕ) → isCode o code ≡ true → o ≡ some code
+code-of none code e = absurd (false≢true e)
+code-of (some c) code e = let i = eqb-true c code e in rw i
+
+hands-in : (w : World) (p code : ℕ) → isAllowed w (tell p code) ≡ true → HandsIn w p code (own w)
+hands-in w p code e d = code-of (w .carried p) code (rw d at e)
+
+-- a lawful list extends by each kind of event: a tell that is accepted by the code of its carry, every other in any state
+pub allowed : (w : World) (a : Act) → isAllowed w a ≡ true → Allowed w (eventOf w a)
+allowed w (reads o v) e = lent-own w
+allowed w (writes o v) e = lent-own w
+allowed w (zeroes t o n) e = lent-own w
+allowed w (discards o n) e = lent-own w
+allowed w (carry p code c) e = tt
+allowed w (tell p code) e = (lent-own w, hands-in w p code e)
+allowed w (collect p) e = lent-own w
+
+pub lawful : (w : World) (rest : List Act) → allAllowed w rest ≡ true → Lawful w (eventsOf w rest)
+lawful w [] e = tt
+lawful w (a ∷ rest) e = (allowed w a (and-left _ _ e), lawful (step w (eventOf w a)) rest (and-right (isAllowed w a) _ e))

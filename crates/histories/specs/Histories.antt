@@ -1,0 +1,218 @@
+-- Lists of events on an opened dock over a store: the real side runs the dock's own definitions; what a list may assume; what is claimed of every list.
+use mathlib.Core.Path.{_≡_}
+use mathlib.Core.Bool.{Bool, true, false, _&&_}
+use mathlib.Core.List.{List, [], _∷_}
+use mathlib.Core.Option.{Option, none, some}
+use Prim.Native.Nat.{ℕ, _-_, _<_}
+use lib.Dec.{ltb, eqb}
+use lib.ListN.{length, getD}
+use Rattle.arithmetic.specs.Rounding.{pick}
+use Rattle.arithmetic.specs.declared.offsets.StoreOffset.{StoreOffset}
+use Rattle.arithmetic.specs.declared.offsets.Range.{Range}
+use Rattle.arithmetic.specs.declared.settings.Settings.{Settings}
+use Rattle.arithmetic.specs.declared.settings.Buffers.{Buffers}
+use Rattle.arithmetic.specs.declared.refusals.Outcome.{Outcome}
+use Rattle.arithmetic.specs.declared.refusals.Outcome.the-variants.{Done, Refused as NotDone}
+use Rattle.vectors.specs.Vectors.{segmentsOf, bytesOf}
+use Rattle.vectors.specs.Places.{covered}
+use Rattle.vectors.specs.declared.vector.IoVector.{IoVector}
+use Rattle.stages.specs.Stages.{sizeOf, isFree}
+use Rattle.stages.specs.declared.state.Job.{Job}
+use Rattle.stages.specs.declared.state.Job.the-variants.{Read, Write, Zeroes, AllocatedZeroes, Discard}
+use Rattle.stages.specs.declared.state.Request.{Request}
+use Rattle.dock.specs.Dock.{fresh, stateAt, vectorAt, lentFits}
+use Rattle.dock.specs.Begin.{Begins, beginReadOf, beginWriteOf, beginZeroesOf, beginDiscardOf}
+use Rattle.dock.specs.Next.{nextOf}
+use Rattle.dock.specs.Tell.{Told, tellOf, collectOf}
+use Rattle.dock.specs.declared.dock.Dock.{Dock}
+use Rattle.dock.specs.declared.begin.Begun.{Begun}
+use Rattle.dock.specs.declared.begin.Begun.the-variants.{Done as NoRequest, Placed, Refused as BeginRefused}
+use Rattle.dock.specs.declared.next.Due.{Due}
+use Rattle.dock.specs.declared.next.Due.the-variants.{Waiting, Make, Answer, Refused as NotDue}
+use Rattle.dock.specs.declared.tell.Collects.{Collects}
+use Rattle.dock.specs.declared.tell.Collected.{Collected}
+use Rattle.dock.specs.declared.tell.Collected.the-variants.{Final, Refused as NotCollected}
+use Rattle.histories.specs.Store.{Bytes, Choice, Buffered, piecesFrom, gathered, rangeAsked, stored, fetched, inRange}
+use Rattle.histories.specs.PlainStore.{Item, read, write, zeroes, discard, carry, tell, collect, nothing, Did, yielded, wrote, zeroed, discarded, Tracked, Plain, plainOpened, plainStep, setAt}
+
+-- ---- events
+
+-- the buffers that a call is lent
+pub record Lends : Type 0 where
+  pub memory : List ℕ
+  pub scratch : List ℕ
+
+pub data Event : Type 0 where
+  begins-read : StoreOffset → IoVector → Lends → Event
+  begins-write : StoreOffset → IoVector → Lends → Event
+  begins-zeroes : Bool → StoreOffset → ℕ → Lends → Event
+  begins-discard : StoreOffset → ℕ → Lends → Event
+  carries : ℕ → ℕ → Choice → Event
+  tells : ℕ → ℕ → Lends → Event
+  collects : ℕ → Lends → Event
+
+-- ---- the real side
+
+-- the dock last returned, the store, the buffers as the last event left them, and with which code each request that is out was carried out
+pub record World : Type 0 where
+  pub dock : Dock
+  pub store : Bytes
+  pub memory : List ℕ
+  pub scratch : List ℕ
+  pub carried : ℕ → Option ℕ
+
+abbrev pub opened : Settings → Buffers → Bytes → List ℕ → List ℕ → World
+opened s b content memory scratch = record { dock = fresh s b; store = content; memory = memory; scratch = scratch; carried = λ p. none }
+
+-- a call that is lent buffers of other lengths is refused (205), and touches none of these
+abbrev pub fitsLent : World → Lends → Bool
+fitsLent w l = lentFits (w .dock .buffers) (length (l .memory)) (length (l .scratch))
+
+abbrev pub afterBegin : World → Lends → Begins → World
+afterBegin w l b =
+    pick (fitsLent w l) (record { dock = b .dock; store = w .store; memory = l .memory; scratch = b .scratch; carried = w .carried }) w
+
+-- an accepted tell: its request is out no more
+abbrev pub told : Outcome → World → ℕ → Told → World
+told Done w p t = record { dock = t .dock; store = w .store; memory = t .memory; scratch = t .scratch; carried = setAt (w .carried) p none }
+told (NotDone r) w p t = record { dock = t .dock; store = w .store; memory = t .memory; scratch = t .scratch; carried = w .carried }
+
+abbrev pub afterTell : World → ℕ → Lends → Told → World
+afterTell w p l t = pick (fitsLent w l) (told (t .outcome) w p t) w
+
+abbrev pub afterCollect : World → Lends → Collects → World
+afterCollect w l c = pick (fitsLent w l) (record { dock = c .dock; store = w .store; memory = l .memory; scratch = w .scratch; carried = w .carried }) w
+
+-- "it carries out one request that is out, once, and fixes its code"
+abbrev pub carriesOut : World → ℕ → ℕ → Choice → Request → World
+carriesOut w p code c q =
+    let ps = piecesFrom (w .dock) p (length (w .memory)) (length (w .scratch)) 0 (q .segments) in
+    let b = fetched (q .kind) q ps code c (w .store) (w .memory) (w .scratch) in
+    record {
+      dock = w .dock;
+      store = stored (q .kind) (rangeAsked q) code c (gathered ps (w .memory) (w .scratch)) (w .store);
+      memory = b .memory;
+      scratch = b .scratch;
+      carried = setAt (w .carried) p (some code);
+    }
+
+-- the request that is out in a slot and was not carried out yet
+abbrev pub unless : Option ℕ → Option Request → Option Request
+unless none q = q
+unless (some code) q = none
+
+abbrev pub made : Due → Option Request
+made Waiting = none
+made (Make q) = some q
+made (Answer a) = none
+made (NotDue r) = none
+
+abbrev pub outIn : World → ℕ → Option Request
+outIn w p = unless (w .carried p) (made (nextOf (w .dock) p (length (w .memory)) (length (w .scratch))))
+
+abbrev pub afterCarry : Option Request → World → ℕ → ℕ → Choice → World
+afterCarry none w p code c = w
+afterCarry (some q) w p code c = carriesOut w p code c q
+
+unfoldable pub step : World → Event → World
+step w (begins-read o v l) = afterBegin w l (beginReadOf (w .dock) o v (l .memory) (l .scratch))
+step w (begins-write o v l) = afterBegin w l (beginWriteOf (w .dock) o v (l .memory) (l .scratch))
+step w (begins-zeroes t o n l) = afterBegin w l (beginZeroesOf (w .dock) t o n (l .memory) (l .scratch))
+step w (begins-discard o n l) = afterBegin w l (beginDiscardOf (w .dock) o n (l .memory) (l .scratch))
+step w (carries p code c) = afterCarry (outIn w p) w p code c
+step w (tells p code l) = afterTell w p l (tellOf (w .dock) p code (l .memory) (l .scratch))
+step w (collects p l) = afterCollect w l (collectOf (w .dock) p (length (l .memory)) (length (l .scratch)))
+
+-- ---- what the plain byte store is fed of an event
+
+abbrev pub carryItem : Option Request → ℕ → ℕ → Choice → Item
+carryItem none p code c = nothing
+carryItem (some q) p code c = carry p code c
+
+unfoldable pub fed : World → Event → Item
+fed w (begins-read o v l) = read o v (beginReadOf (w .dock) o v (l .memory) (l .scratch) .answer)
+fed w (begins-write o v l) = write o v (l .memory) (beginWriteOf (w .dock) o v (l .memory) (l .scratch) .answer)
+fed w (begins-zeroes t o n l) = zeroes t o n (beginZeroesOf (w .dock) t o n (l .memory) (l .scratch) .answer)
+fed w (begins-discard o n l) = discard o n (beginDiscardOf (w .dock) o n (l .memory) (l .scratch) .answer)
+fed w (carries p code c) = carryItem (outIn w p) p code c
+fed w (tells p code l) = tell p code (tellOf (w .dock) p code (l .memory) (l .scratch) .outcome)
+fed w (collects p l) = collect p (collectOf (w .dock) p (length (l .memory)) (length (l .scratch)) .answer)
+
+-- ---- what a list may assume
+
+-- "scratch and the data of jobs in flight are as the last event left them, other data may change, and a call refused with 205 may be lent other buffers"
+abbrev pub LentOf : World → Lends → Type 0
+LentOf w l =
+    fitsLent w l ≡ true →
+    (l .scratch ≡ w .scratch)
+    × ((p k : ℕ) → p < 8 → isFree (stateAt (w .dock) p .phase) ≡ false → covered (segmentsOf (vectorAt (w .dock) p)) k ≡ true → getD (l .memory) k 0 ≡ getD (w .memory) k 0)
+
+-- "An accepted tell follows its request's carry and hands in that code; a refused one may hand in any."
+abbrev pub HandsIn : World → ℕ → ℕ → Lends → Type 0
+HandsIn w p code l = tellOf (w .dock) p code (l .memory) (l .scratch) .outcome ≡ Done → w .carried p ≡ some code
+
+abbrev pub Allowed : World → Event → Type 0
+Allowed w (begins-read o v l) = LentOf w l
+Allowed w (begins-write o v l) = LentOf w l
+Allowed w (begins-zeroes t o n l) = LentOf w l
+Allowed w (begins-discard o n l) = LentOf w l
+Allowed w (carries p code c) = Unit {0}
+Allowed w (tells p code l) = LentOf w l × HandsIn w p code l
+Allowed w (collects p l) = LentOf w l
+
+abbrev pub Lawful : World → List Event → Type 0
+Lawful w [] = Unit {0}
+Lawful w (e ∷ es) = Allowed w e × Lawful (step w e) es
+
+-- ---- what is claimed
+
+-- "every byte of the store equals that of document 01's plain byte store": at every offset
+abbrev pub Same : World → Plain → Type 0
+Same w m = (x : ℕ) → w .store x ≡ m .bytes x
+
+-- one of a job's steps
+pub data Among (d : Did) : List Did → Type 0 where
+  here : {ds : List Did} → Among d (d ∷ ds)
+  later : {e : Did} {ds : List Did} → Among d ds → Among d (e ∷ ds)
+
+-- a step of the job with code 0 that put a byte at x
+abbrev pub puts : Did → ℕ → Bool
+puts (yielded r bs) x = false
+puts (wrote r code new) x = eqb code 0 && inRange r x
+puts (zeroed r code) x = eqb code 0 && inRange r x
+puts (discarded r) x = false
+
+abbrev pub putBy : List Did → ℕ → Bool
+putBy [] x = false
+putBy (d ∷ ds) x = pick (puts d x) true (putBy ds x)
+
+-- "Owed besides", by the job: j is what the plain byte store has of it, v its vector, memory the data at collect
+abbrev pub OwedBy : Job → Tracked → IoVector → List ℕ → Type 0
+-- "A read answered 0 holds at collect what its step yielded."
+OwedBy Read j v memory = (bs : List ℕ) × Among (yielded (j .first .range) bs) (j .steps) × (bytesOf memory (segmentsOf v) ≡ bs)
+-- "a write step of that job, code 0, with its vector's bytes over its asked range"
+OwedBy Write j v memory = (new : Bytes) × Among (wrote (j .first .range) 0 new) (j .steps) × ((x : ℕ) → inRange (j .first .range) x ≡ true → new x ≡ getD (j .bytes) (x - j .first .range .start .0) 0)
+-- "every byte of the job's range is covered by a write or zero step of that job with code 0"
+OwedBy Zeroes j v memory = (x : ℕ) → inRange (j .first .range) x ≡ true → putBy (j .steps) x ≡ true
+OwedBy AllocatedZeroes j v memory = (x : ℕ) → inRange (j .first .range) x ≡ true → putBy (j .steps) x ≡ true
+OwedBy Discard j v memory = Unit {0}
+
+abbrev pub OwedTo : Option Tracked → IoVector → List ℕ → Type 0
+OwedTo none v memory = ⊥
+OwedTo (some j) v memory = OwedBy (j .first .job) j v memory
+
+-- "Answered 0: collect returned 0."
+abbrev pub Owed : World → Plain → Event → Type 0
+Owed w m (begins-read o v l) = Unit {0}
+Owed w m (begins-write o v l) = Unit {0}
+Owed w m (begins-zeroes t o n l) = Unit {0}
+Owed w m (begins-discard o n l) = Unit {0}
+Owed w m (carries p code c) = Unit {0}
+Owed w m (tells p code l) = Unit {0}
+Owed w m (collects p l) =
+    collectOf (w .dock) p (length (l .memory)) (length (l .scratch)) .answer ≡ Final 0 → OwedTo (m .jobs p) (vectorAt (w .dock) p) (l .memory)
+
+-- after every event, and at every collect that answers 0
+abbrev pub Claim : World → Plain → List Event → Type 0
+Claim w m [] = Same w m
+Claim w m (e ∷ es) = Same w m × Owed w m e × Claim (step w e) (plainStep m (fed w e)) es

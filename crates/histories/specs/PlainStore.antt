@@ -1,0 +1,192 @@
+-- Document 01's plain byte store: one byte for each offset, and each place's job with the codes told. It knows no blocker, no scratch, no waiting.
+use mathlib.Core.Bool.{Bool, true, false}
+use mathlib.Core.List.{List, [], _∷_}
+use mathlib.Core.Option.{Option, none, some}
+use Prim.Native.Nat.{ℕ}
+use lib.Dec.{eqb}
+use lib.ListN.{length}
+use Rattle.arithmetic.specs.Rounding.{pick}
+use Rattle.arithmetic.specs.declared.offsets.StoreOffset.{StoreOffset}
+use Rattle.arithmetic.specs.declared.offsets.Range.{Range}
+use Rattle.arithmetic.specs.declared.settings.Settings.{Settings}
+use Rattle.arithmetic.specs.declared.settings.Buffers.{Buffers}
+use Rattle.arithmetic.specs.declared.refusals.Outcome.{Outcome}
+use Rattle.arithmetic.specs.declared.refusals.Outcome.the-variants.{Done, Refused as NotDone}
+use Rattle.vectors.specs.Vectors.{segmentsOf, bytesOf, alignmentOf}
+use Rattle.vectors.specs.declared.vector.IoVector.{IoVector}
+use Rattle.stages.specs.Stages.{sizeOf, readPlan, writePlan, zeroPlan, discardPlan, toldOf}
+use Rattle.stages.specs.declared.state.Job.{Job}
+use Rattle.stages.specs.declared.state.Job.the-variants.{Read, Write, Zeroes, AllocatedZeroes, Discard}
+use Rattle.stages.specs.declared.state.Phase.{Phase}
+use Rattle.stages.specs.declared.state.Phase.the-variants.{Free, Ended, DirectRead, BouncedRead, FirstRead, SecondRead, BouncedWrite, DirectWrite, ZeroRequest, DiscardRequest}
+use Rattle.stages.specs.declared.state.State.{State}
+use Rattle.stages.specs.declared.plan.Plan.{Plan}
+use Rattle.stages.specs.declared.plan.Plan.the-variants.{Done as NothingToDo, Started, Refused as PlanRefused}
+use Rattle.stages.specs.declared.told.Step.{Step}
+use Rattle.stages.specs.declared.told.Step.the-variants.{Stays, Ends, Enters}
+use Rattle.dock.specs.Begin.{isAligned}
+use Rattle.dock.specs.declared.begin.Begun.{Begun}
+use Rattle.dock.specs.declared.begin.Begun.the-variants.{Done as NoRequest, Placed, Refused as BeginRefused}
+use Rattle.dock.specs.declared.tell.Collected.{Collected}
+use Rattle.dock.specs.declared.tell.Collected.the-variants.{Final, Refused as NotCollected}
+use Rattle.histories.specs.Store.{Bytes, Choice, changed, becomesNew, window, laidAt}
+
+-- ---- what it is fed
+
+-- opening, the calls with arguments, lent bytes and answers, the carries with place, code and the store's choices
+pub data Item : Type 0 where
+  read : StoreOffset → IoVector → Begun → Item
+  write : StoreOffset → IoVector → List ℕ → Begun → Item
+  zeroes : Bool → StoreOffset → ℕ → Begun → Item
+  discard : StoreOffset → ℕ → Begun → Item
+  carry : ℕ → ℕ → Choice → Item
+  tell : ℕ → ℕ → Outcome → Item
+  collect : ℕ → Collected → Item
+  -- a carry of no request that is out, or of one a second time, is no event
+  nothing : Item
+
+-- ---- its state
+
+-- a step of a job: what it yielded, or which bytes it put where
+pub data Did : Type 0 where
+  yielded : Range → List ℕ → Did
+  wrote : Range → ℕ → Bytes → Did
+  zeroed : Range → ℕ → Did
+  discarded : Range → Did
+
+-- a job: its first stage by the rules, its vector's bytes at begin, the codes told and its steps, the newest of each first
+pub record Tracked : Type 0 where
+  pub first : State
+  pub bytes : List ℕ
+  pub codes : List ℕ
+  pub steps : List Did
+
+pub record Plain : Type 0 where
+  pub settings : Settings
+  pub buffers : Buffers
+  pub bytes : Bytes
+  pub jobs : ℕ → Option Tracked
+
+-- "at opening the store's content, zero past its end"
+abbrev pub plainOpened : Settings → Buffers → Bytes → Plain
+plainOpened s b content = record { settings = s; buffers = b; bytes = content; jobs = λ p. none }
+
+-- ---- "The list and the rules above give each carry's request"
+
+abbrev pub stateOf : Step → State
+stateOf (Stays y) = y
+stateOf (Ends y) = y
+stateOf (Enters y) = y
+
+-- where a job stands once these codes were told
+abbrev pub standing : Settings → State → List ℕ → State
+standing s x [] = x
+standing s x (c ∷ cs) = stateOf (toldOf s (standing s x cs) c)
+
+-- ---- a step, "when a request is carried out, once, before its tell"
+
+-- the new bytes of a job's write over the range: "the vector's bytes at begin, zeroes in a zero job"
+abbrev pub newBytes : Job → ℕ → List ℕ → Bytes
+newBytes Read o bs = laidAt o bs
+newBytes Write o bs = laidAt o bs
+newBytes Zeroes o bs = λ x. 0
+newBytes AllocatedZeroes o bs = λ x. 0
+newBytes Discard o bs = λ x. 0
+
+abbrev pub withStep : Tracked → Did → Tracked
+withStep j d = record { first = j .first; bytes = j .bytes; codes = j .codes; steps = d ∷ j .steps }
+
+-- the bytes and the job after a request of the job in state x was carried out
+pub record Carried : Type 0 where
+  pub bytes : Bytes
+  pub job : Tracked
+
+abbrev pub noStep : Bytes → Tracked → Carried
+noStep s j = record { bytes = s; job = j }
+
+-- "read of a read job, code 0: yields the asked bytes"
+abbrev pub readStep : ℕ → Range → Bytes → Tracked → Carried
+readStep code r s j = pick (eqb code 0) (record { bytes = s; job = withStep j (yielded r (window s (r .start .0) (sizeOf r))) }) (noStep s j)
+
+-- "write, code 0: the asked range takes the vector's bytes at begin, zeroes in a zero job. Other codes: each byte of that range is old or new"
+abbrev pub writeStep : ℕ → Choice → Job → Range → Bytes → Tracked → Carried
+writeStep code c k r s j =
+    let new = newBytes k (r .start .0) (j .bytes) in
+    record { bytes = changed s r (becomesNew code c) new; job = withStep j (wrote r code new) }
+
+-- "zero: likewise with 0 over the request's range"
+abbrev pub zeroStep : ℕ → Choice → Range → Bytes → Tracked → Carried
+zeroStep code c r s j = record { bytes = changed s r (becomesNew code c) (λ x. 0); job = withStep j (zeroed r code) }
+
+-- "discard, any code: bytes of the request's range become what the store chose"
+abbrev pub discardStep : Choice → Range → Bytes → Tracked → Carried
+discardStep c r s j = record { bytes = changed s r (λ x. true) (c .left); job = withStep j (discarded r) }
+
+-- by which request is out; "Any other read: no step"
+abbrev pub stepBy : Phase → ℕ → Choice → State → Bytes → Tracked → Carried
+stepBy Free code c x s j = noStep s j
+stepBy Ended code c x s j = noStep s j
+stepBy DirectRead code c x s j = readStep code (x .stage .asked) s j
+stepBy BouncedRead code c x s j = readStep code (x .stage .asked) s j
+stepBy FirstRead code c x s j = noStep s j
+stepBy SecondRead code c x s j = noStep s j
+stepBy BouncedWrite code c x s j = writeStep code c (x .job) (x .stage .asked) s j
+stepBy DirectWrite code c x s j = writeStep code c (x .job) (x .stage .asked) s j
+stepBy ZeroRequest code c x s j = zeroStep code c (x .stage .request) s j
+stepBy DiscardRequest code c x s j = discardStep c (x .stage .request) s j
+
+unfoldable pub carriedOut : Settings → ℕ → Choice → Bytes → Tracked → Carried
+carriedOut s code c b j = let x = standing s (j .first) (j .codes) in stepBy (x .phase) code c x b j
+
+-- ---- an item
+
+abbrev pub setAt : {A : Type 0} → (ℕ → A) → ℕ → A → ℕ → A
+setAt f p a q = pick (eqb q p) a (f q)
+
+abbrev pub withJob : Plain → ℕ → Option Tracked → Plain
+withJob m p j = record { settings = m .settings; buffers = m .buffers; bytes = m .bytes; jobs = setAt (m .jobs) p j }
+
+-- "A begin that gets a place enters its job"
+abbrev pub tracked : Plan → List ℕ → Option Tracked
+tracked (Started x) bs = some (record { first = x; bytes = bs; codes = []; steps = [] })
+tracked NothingToDo bs = none
+tracked (PlanRefused r) bs = none
+
+abbrev pub entersBy : Begun → Plain → Plan → List ℕ → Plain
+entersBy (Placed p) m plan bs = withJob m p (tracked plan bs)
+entersBy NoRequest m plan bs = m
+entersBy (BeginRefused r) m plan bs = m
+
+-- whether the vector is aligned for direct requests
+abbrev pub alignedIn : Plain → IoVector → Bool
+alignedIn m v = isAligned (alignmentOf (m .settings .align) (m .buffers .«data») v)
+
+abbrev pub carriedBy : Option Tracked → Plain → ℕ → ℕ → Choice → Plain
+carriedBy none m p code c = m
+carriedBy (some j) m p code c =
+    let r = carriedOut (m .settings) code c (m .bytes) j in
+    record { settings = m .settings; buffers = m .buffers; bytes = r .bytes; jobs = setAt (m .jobs) p (some (r .job)) }
+
+-- "an accepted tell its code"
+abbrev pub toldBy : Option Tracked → Plain → ℕ → ℕ → Plain
+toldBy none m p code = m
+toldBy (some j) m p code = withJob m p (some (record { first = j .first; bytes = j .bytes; codes = code ∷ j .codes; steps = j .steps }))
+
+abbrev pub tellBy : Outcome → Plain → ℕ → ℕ → Plain
+tellBy Done m p code = toldBy (m .jobs p) m p code
+tellBy (NotDone r) m p code = m
+
+-- "an accepted collect removes the job, refused calls change nothing"
+abbrev pub collectBy : Collected → Plain → ℕ → Plain
+collectBy (Final a) m p = withJob m p none
+collectBy (NotCollected r) m p = m
+
+unfoldable pub plainStep : Plain → Item → Plain
+plainStep m (read o v a) = entersBy a m (readPlan (m .settings) o (v .total) (alignedIn m v)) []
+plainStep m (write o v memory a) = entersBy a m (writePlan (m .settings) o (v .total) (alignedIn m v)) (bytesOf memory (segmentsOf v))
+plainStep m (zeroes t o n a) = entersBy a m (zeroPlan (m .settings) t o n) []
+plainStep m (discard o n a) = entersBy a m (discardPlan (m .settings) o n) []
+plainStep m (carry p code c) = carriedBy (m .jobs p) m p code c
+plainStep m (tell p code a) = tellBy a m p code
+plainStep m (collect p a) = collectBy a m p
+plainStep m nothing = m
