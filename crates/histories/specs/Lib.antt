@@ -9,3 +9,5 @@ pub mod PlainStore
 pub mod Histories
 pub mod Acts
 pub mod Example
+pub mod Geometry
+pub mod Progress
