@@ -94,19 +94,23 @@ zero-no-vector Zeroes e = refl
 zero-no-vector AllocatedZeroes e = refl
 zero-no-vector Discard e = refl
 
-write-vector : (j : Job) → isWriteJob j ≡ true → hasVector j ≡ true
+pub write-vector : (j : Job) → isWriteJob j ≡ true → hasVector j ≡ true
 write-vector Read e = refl
 write-vector Write e = refl
 write-vector Zeroes e = e
 write-vector AllocatedZeroes e = e
 write-vector Discard e = e
 
-read-vector : (j : Job) → isReadJob j ≡ true → hasVector j ≡ true
+pub read-vector : (j : Job) → isReadJob j ≡ true → hasVector j ≡ true
 read-vector Read e = refl
 read-vector Write e = refl
 read-vector Zeroes e = e
 read-vector AllocatedZeroes e = e
 read-vector Discard e = e
+
+-- a read's phases are a read job's
+pub direct-reads : (x : State) → isRegular x ≡ true → x .phase ≡ DirectRead → isReadJob (x .job) ≡ true
+direct-reads x k e = and-right (isLast (x .course)) _ (suited x k DirectRead e)
 
 bounced-reads : (ph : Phase) (x : State) → x .phase ≡ ph → isRegular x ≡ true → isBouncedRead ph ≡ true → isReadJob (x .job) ≡ true
 bounced-reads BouncedRead x p k e = and-right (isLast (x .course)) _ (suited x k BouncedRead p)

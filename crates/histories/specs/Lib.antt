@@ -11,3 +11,4 @@ pub mod Acts
 pub mod Example
 pub mod Geometry
 pub mod Progress
+pub mod Invariant
