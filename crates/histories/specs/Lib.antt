@@ -9,6 +9,7 @@ pub mod PlainStore
 pub mod Histories
 pub mod Acts
 pub mod Example
+pub mod Lists
 pub mod Geometry
 pub mod Progress
 pub mod Invariant
