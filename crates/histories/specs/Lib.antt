@@ -13,3 +13,4 @@ pub mod Lists
 pub mod Geometry
 pub mod Progress
 pub mod Invariant
+pub mod World
