@@ -51,6 +51,18 @@ free-unblocked DirectWrite e = never e
 free-unblocked ZeroRequest e = never e
 free-unblocked DiscardRequest e = never e
 
+pub free-idle : (ph : Phase) → isFree ph ≡ true → isPending ph ≡ false
+free-idle Free e = refl
+free-idle Ended e = refl
+free-idle DirectRead e = never e
+free-idle BouncedRead e = never e
+free-idle FirstRead e = never e
+free-idle SecondRead e = never e
+free-idle BouncedWrite e = never e
+free-idle DirectWrite e = never e
+free-idle ZeroRequest e = never e
+free-idle DiscardRequest e = never e
+
 blocking-pending : (ph : Phase) → isBlocking ph ≡ true → isPending ph ≡ true
 blocking-pending Free e = e
 blocking-pending Ended e = e
@@ -126,7 +138,7 @@ bounced-reads DiscardRequest x p k e = never e
 
 -- ---- the bytes of a vector are copied, where it is valid and has as many
 
-copied : (memory : List ℕ) (v : IoVector) (n : ℕ) → isValid (length memory) v ≡ true → v .total ≡ n → copies memory v n ≡ true
+pub copied : (memory : List ℕ) (v : IoVector) (n : ℕ) → isValid (length memory) v ≡ true → v .total ≡ n → copies memory v n ≡ true
 unfolding copies
 copied memory v n e t = simp (e, eq-eqb n (v .total) (sym t))
 
@@ -160,11 +172,12 @@ handed-done share x code v memory scratch f = go (isBouncedRead (x .phase)) (eqb
 -- what a plan must say of its job for the dock: v is its vector, over m bytes of data
 pub record Ready (s : Settings) (m : ℕ) (v : IoVector) (x : State) : Type 0 where
   pub sound : isSound (s .bounce) x ≡ true
+  pub pending : isPending (x .phase) ≡ true
   pub placed : Placed (x .stage)
   pub regular : isRegular x ≡ true
   pub vector : hasVector (x .job) ≡ true → (x .stage .asked ≡ x .range) × (isValid m v ≡ true) × (v .total ≡ sizeOf (x .range))
 
-starts-from : (P : State → Type 0) (p : Plan) → ((x : State) → p ≡ Started x → P x) → Starts P p
+pub starts-from : (P : State → Type 0) (p : Plan) → ((x : State) → p ≡ Started x → P x) → Starts P p
 starts-from P NothingToDo f = tt
 starts-from P (Started x) f = f x refl
 starts-from P (PlanRefused r) f = tt
@@ -174,6 +187,7 @@ module _ (s : Settings) (m : ℕ) (o : StoreOffset) where
   vector-ready : (j : Job) (v : IoVector) (x : State) → isValid m v ≡ true → Opens s j (asked o (v .total)) x → Sole x → Ready s m v x
   vector-ready j v x e k l = record {
     sound = k .sound;
+    pending = k .pending;
     placed = k .placed;
     regular = l .0;
     vector = λ u. (l .1, e, rw (k .range) (omega arith));
@@ -188,7 +202,7 @@ module _ (s : Settings) (m : ℕ) (o : StoreOffset) where
 
   -- a job without one
   bare-ready : (j : Job) (w : Range) (v : IoVector) (x : State) → hasVector j ≡ false → Opens s j w x → isRegular x ≡ true → Ready s m v x
-  bare-ready j w v x n k l = record { sound = k .sound; placed = k .placed; regular = l; vector = λ u. never (sym n ∙ (rw (k .job) at u)) }
+  bare-ready j w v x n k l = record { sound = k .sound; pending = k .pending; placed = k .placed; regular = l; vector = λ u. never (sym n ∙ (rw (k .job) at u)) }
 
   zero-bare : (t : Bool) → hasVector (zeroJob t) ≡ false
   zero-bare true = refl
@@ -201,7 +215,7 @@ module _ (s : Settings) (m : ℕ) (o : StoreOffset) where
   discard-ready v n = starts-from (Ready s m v) (discardPlan s o n) (λ x i. bare-ready Discard (asked o n) v x refl (discard-opens s o n x i) (rw i at (discard-regular s o n)))
 
 -- the lowest free slot is free
-first-free : (xs : List State) → firstFree xs < length xs → isFree (getD xs (firstFree xs) noState .phase) ≡ true
+pub first-free : (xs : List State) → firstFree xs < length xs → isFree (getD xs (firstFree xs) noState .phase) ≡ true
 unfolding firstFree
 first-free [] h = absurd (omega arith)
 first-free (x ∷ xs) h = go (isFree (x .phase)) refl h (λ l. first-free xs l)
@@ -224,7 +238,7 @@ module _ (d : Dock) (H : Held d) where
       abbrev p : ℕ
       p = firstFree (d .states)
 
-      free-there : isEntered (blockerAt (d .blockers) p) ≡ false
+      pub free-there : isEntered (blockerAt (d .blockers) p) ≡ false
       free-there = H .slots p h .entered ∙ free-unblocked (stateAt d p .phase) (first-free (d .states) (rw (H .states) h))
 
       enters : Changes (d .blockers) p x (blockersWith (d .blockers) p x)

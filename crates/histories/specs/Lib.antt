@@ -14,3 +14,5 @@ pub mod Geometry
 pub mod Progress
 pub mod Invariant
 pub mod World
+pub mod Renewing
+pub mod Beginning
