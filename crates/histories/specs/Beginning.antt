@@ -235,6 +235,7 @@ module _ (w : World) (m : Plain) (I : Inv w m) (j : Job) (v : IoVector) (bs : Li
     source = k .source;
     geo = k .shaped .geo;
     zoned = k .shaped .zoned;
+    as-asked = k .shaped .as-asked;
     before = k .before;
     fact =
         opened-fact (d .settings) (d .settings .bounce) (w .store) (w .memory) (share (begun .scratch) (d .settings .bounce) p) x v job (k .shaped .geo) (k .shaped .unread) (k .ready .pending)

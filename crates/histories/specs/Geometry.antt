@@ -126,6 +126,28 @@ Unread DirectWrite g = Unit {0}
 Unread ZeroRequest g = Unit {0}
 Unread DiscardRequest g = Unit {0}
 
+-- a request that goes to the store as it is has the asked range
+abbrev pub AsAsked : Phase → Stage → Type 0
+AsAsked Free g = Unit {0}
+AsAsked Ended g = Unit {0}
+AsAsked DirectRead g = g .asked ≡ g .request
+AsAsked BouncedRead g = Unit {0}
+AsAsked FirstRead g = Unit {0}
+AsAsked SecondRead g = Unit {0}
+AsAsked BouncedWrite g = Unit {0}
+AsAsked DirectWrite g = g .asked ≡ g .request
+AsAsked ZeroRequest g = g .asked ≡ g .request
+AsAsked DiscardRequest g = g .asked ≡ g .request
+
+first-as-asked : (g : Stage) → AsAsked (firstPhase g) g
+unfolding firstPhase
+first-as-asked g = go (ltb 0 (sizeOf (g .first))) (ltb 0 (sizeOf (g .second)))
+  where
+    go : (a b : Bool) → AsAsked (pick a FirstRead (pick b SecondRead BouncedWrite)) g
+    go true b = tt
+    go false true = tt
+    go false false = tt
+
 first-unread : (g : Stage) → Unread (firstPhase g) g
 unfolding firstPhase
 first-unread g = go (ltb 0 (sizeOf (g .first))) (ltb 0 (sizeOf (g .second))) refl refl
@@ -148,6 +170,7 @@ Zoned x = isDiscardJob (x .job) ≡ false → Zone (x .course) (x .stage .asked)
 pub record Shaped (x : State) : Type 0 where
   pub geo : Geo (x .stage)
   pub unread : Unread (x .phase) (x .stage)
+  pub as-asked : AsAsked (x .phase) (x .stage)
   pub zoned : Zoned x
 
 module _ (s : Settings) (fit : settingsFit s ≡ true) where
@@ -161,35 +184,43 @@ module _ (s : Settings) (fit : settingsFit s ≡ true) where
   bounced-unread AllocatedZeroes g = first-unread g
   bounced-unread Discard g = first-unread g
 
+  bounced-as-asked : (j : Job) (g : Stage) → AsAsked (bouncedPhase j g) g
+  bounced-as-asked Read g = tt
+  bounced-as-asked Write g = first-as-asked g
+  bounced-as-asked Zeroes g = first-as-asked g
+  bounced-as-asked AllocatedZeroes g = first-as-asked g
+  bounced-as-asked Discard g = first-as-asked g
+
   -- a job over a vector, direct in the phase ph
-  vector-by : (j : Job) (ph : Phase) → ((g : Stage) → Unread ph g) → (o : StoreOffset) (n : ℕ) (x : Transfer) → Transfers (s .align) (o .0) n x → Starts Shaped (vectorBy s j ph o n x)
+  vector-by : (j : Job) (ph : Phase) → ((g : Stage) → Unread ph g) → ((g : Stage) → g .asked ≡ g .request → AsAsked ph g) → (o : StoreOffset) (n : ℕ) (x : Transfer) → Transfers (s .align) (o .0) n x → Starts Shaped (vectorBy s j ph o n x)
   unfolding Transfers directStage paddedStage
-  vector-by j ph u o n (Direct r) k = record { geo = geo-direct r; unread = u (directStage r); zoned = λ d. (omega arith, refl) }
-  vector-by j ph u o n (Bounced x) k =
+  vector-by j ph u a o n (Direct r) k = record { geo = geo-direct r; unread = u (directStage r); as-asked = a (directStage r) refl; zoned = λ d. (omega arith, refl) }
+  vector-by j ph u a o n (Bounced x) k =
       starts-within Shaped (x .length) (s .bounce) _ (λ h.
       record {
         geo = geo-padded (s .align) n x (asked o n) positive k (omega arith);
         unread = bounced-unread j (paddedStage x (asked o n));
+        as-asked = bounced-as-asked j (paddedStage x (asked o n));
         zoned = λ d. (omega arith, refl);
       })
-  vector-by j ph u o n (NoTransfer r) k = tt
+  vector-by j ph u a o n (NoTransfer r) k = tt
 
   pub read-shaped : (o : StoreOffset) (n : ℕ) (t : Bool) → Starts Shaped (readPlan s o n t)
   unfolding readPlan
-  read-shaped o n t = starts-some Shaped n _ (λ p. vector-by Read DirectRead (λ g. tt) o n (transferOf (s .align) o n t) (transfers (s .align) o n t))
+  read-shaped o n t = starts-some Shaped n _ (λ p. vector-by Read DirectRead (λ g. tt) (λ g e. e) o n (transferOf (s .align) o n t) (transfers (s .align) o n t))
 
   pub write-shaped : (o : StoreOffset) (n : ℕ) (t : Bool) → Starts Shaped (writePlan s o n t)
   unfolding writePlan
-  write-shaped o n t = starts-some Shaped n _ (λ p. vector-by Write DirectWrite (λ g. tt) o n (transferOf (s .align) o n t) (transfers (s .align) o n t))
+  write-shaped o n t = starts-some Shaped n _ (λ p. vector-by Write DirectWrite (λ g. tt) (λ g e. e) o n (transferOf (s .align) o n t) (transfers (s .align) o n t))
 
   -- a write of zeroes over r, where r stands so in the job's range w
   module _ (j : Job) (w m : Range) (c : Course) (r : Range) (z : Zone c r w m) where
     zeroes-by : (x : Transfer) → Transfers (s .align) (r .start .0) (sizeOf r) x → Starts Shaped (zeroesBy s j w m c r x)
     unfolding Transfers directStage paddedStage
-    zeroes-by (Direct x) k = starts-within Shaped (sizeOf r) (s .bounce) _ (λ h. record { geo = geo-direct r; unread = (refl, refl); zoned = λ d. z })
+    zeroes-by (Direct x) k = starts-within Shaped (sizeOf r) (s .bounce) _ (λ h. record { geo = geo-direct r; unread = (refl, refl); as-asked = tt; zoned = λ d. z })
     zeroes-by (Bounced x) k =
         starts-within Shaped (x .length) (s .bounce) _ (λ h.
-        record { geo = geo-padded (s .align) (sizeOf r) x r positive k refl; unread = first-unread (paddedStage x r); zoned = λ d. z })
+        record { geo = geo-padded (s .align) (sizeOf r) x r positive k refl; unread = first-unread (paddedStage x r); as-asked = first-as-asked (paddedStage x r); zoned = λ d. z })
     zeroes-by (NoTransfer x) k = tt
 
     pub zeroes-shaped : Starts Shaped (zeroesPlan s j w m c r)
@@ -204,16 +235,20 @@ module _ (s : Settings) (fit : settingsFit s ≡ true) where
       let k = splits (s .align) o n c e in
       let l = ltb-true (middleStart (s .align .zero) (o .0)) (middleEnd (s .align .zero) (o .0) n) (k .middles .some) in
       let q = tiled (s .align .zero) (o .0) n (accepted s fit .align .zero .positive) in
-      rw (k .is) (record { geo = geo-direct (cutOf (s .align .zero) (o .0) n .middle); unread = tt; zoned = λ d. (refl, q .head-ordered, omega (arith, l), q .tail-ordered) })
+      rw (k .is) (record { geo = geo-direct (cutOf (s .align .zero) (o .0) n .middle); unread = tt; as-asked = refl; zoned = λ d. (refl, q .head-ordered, omega (arith, l), q .tail-ordered) })
   zero-by t o n (CutRefused r) e = tt
 
   pub zero-shaped : (t : Bool) (o : StoreOffset) (n : ℕ) → Starts Shaped (zeroPlan s t o n)
   unfolding zeroPlan
   zero-shaped t o n = zero-by t o n (zeroCutOf (s .align) o n) refl
 
+  direct-asked : (r : Range) → directStage r .asked ≡ directStage r .request
+  unfolding directStage
+  direct-asked r = refl
+
   discard-by : (o : StoreOffset) (n : ℕ) (x : DiscardCut) → Starts Shaped (discardBy o n x)
   discard-by o n NoDiscard = tt
-  discard-by o n (DiscardMiddle r) = record { geo = geo-direct r; unread = tt; zoned = λ d. never (sym d) }
+  discard-by o n (DiscardMiddle r) = record { geo = geo-direct r; unread = tt; as-asked = direct-asked r; zoned = λ d. never (sym d) }
   discard-by o n (DiscardRefused r) = tt
 
   pub discard-shaped : (o : StoreOffset) (n : ℕ) → Starts Shaped (discardPlan s o n)

@@ -32,7 +32,7 @@ use Rattle.histories.specs.Calls.{write-vector, read-vector, direct-read
 use Rattle.histories.specs.Store.{Bytes}
 use Rattle.histories.specs.PlainStore.{Did, yielded, wrote, zeroed, discarded, Tracked, Plain, newBytes, standing}
 use Rattle.histories.specs.Histories.{World, Same, Among, here, later, puts, putBy, OwedBy}
-use Rattle.histories.specs.Geometry.{Beside, ReadBy, Geo, Unread, Zoned}
+use Rattle.histories.specs.Geometry.{Beside, ReadBy, Geo, Unread, AsAsked, Zoned}
 use Rattle.histories.specs.Progress.{Put, Before}
 
 -- ---- one slot
@@ -77,6 +77,7 @@ pub record Flight (t : Settings) (s : Bytes) (memory : List ℕ) (sh : ℕ → �
   pub source : isWriteJob (x .job) ≡ true → bytesOf memory (segmentsOf v) ≡ j .bytes
   pub geo : Geo (x .stage)
   pub zoned : Zoned x
+  pub as-asked : AsAsked (x .phase) (x .stage)
   pub before : isZeroJob (x .job) ≡ true → Before (x .course) (x .stage .asked) (x .range) (x .middle) (j .steps)
   pub fact : Fact (x .phase) s memory sh x v car j
   -- a job that waits has no request carried out, and has read nothing
@@ -196,6 +197,7 @@ module _ (t : Settings) (s s' : Bytes) (memory memory' : List ℕ) (sh sh' : ℕ
     source = λ u. data-same (write-vector (x .job) u) ∙ F .source u;
     geo = F .geo;
     zoned = F .zoned;
+    as-asked = F .as-asked;
     before = F .before;
     fact = by-phase (x .phase) refl (F .fact);
     fresh = λ a. F .fresh (wait-less a);

@@ -16,3 +16,4 @@ pub mod Invariant
 pub mod World
 pub mod Renewing
 pub mod Beginning
+pub mod Carrying

@@ -146,11 +146,11 @@ tellRule d p code memory scratch =
 
 module _ (d : Dock) (H : Held d) (p : ℕ) where
   -- the test of the job at hand is passed
-  kept-held : p < 8 → isKept d p ≡ true
+  pub kept-held : p < 8 → isKept d p ≡ true
   unfolding isKept isKeptBy
   kept-held h = simp (H .slots p h .sound, le-leb _ _ (opened (d .settings) (d .buffers) (H .opened) .room))
 
-  out-pending : isOutBy (d .blockers) (stateAt d p) p ≡ true → isPending (stateAt d p .phase) ≡ true
+  pub out-pending : isOutBy (d .blockers) (stateAt d p) p ≡ true → isPending (stateAt d p .phase) ≡ true
   unfolding isOutBy
   out-pending e = and-left _ _ e
 
