@@ -22,7 +22,7 @@ use Rattle.vectors.specs.OverlapLaws.{or-cases, overlap-sym}
 use Rattle.vectors.specs.declared.vector.Segment.{Segment}
 use Rattle.vectors.specs.declared.vector.IoVector.{IoVector}
 use Rattle.blockers.specs.Blockers.{waitsOf}
-use Rattle.stages.specs.Stages.{sizeOf, isFree, hasEnded, isPending, request, requestBy, requestOf, secondAt}
+use Rattle.stages.specs.Stages.{sizeOf, isFree, hasEnded, isPending, isBlocking, request, requestBy, requestOf, secondAt}
 use Rattle.stages.specs.declared.state.Kind.the-variants.{Read as KRead, Write as KWrite}
 use Rattle.stages.specs.declared.state.Phase.{Phase}
 use Rattle.stages.specs.declared.state.Phase.the-variants.{Free, Ended, DirectRead, BouncedRead, FirstRead, SecondRead, BouncedWrite, DirectWrite, ZeroRequest, DiscardRequest}
@@ -170,7 +170,7 @@ module _ (w : World) (m : Plain) (I : Inv w m) (p : ℕ) (h : p < 8) (pending : 
   pub carry-inv : ((y : ℕ) → putBy (T .j .steps) y ≡ true → putBy steps' y ≡ true)
       → ((q : ℕ) → q < 8 → q ≢ p → Taken (w .dock) q → hasVector (stateAt (w .dock) q .job) ≡ true → bytesOf memory' (segmentsOf (vectorAt (w .dock) q)) ≡ bytesOf (w .memory) (segmentsOf (vectorAt (w .dock) q)))
       → ((q i : ℕ) → q ≢ p → i < w .dock .settings .bounce → share scratch' (w .dock .settings .bounce) q i ≡ share (w .scratch) (w .dock .settings .bounce) q i)
-      → ((q : ℕ) → q < 8 → q ≢ p → waitsOf q (w .dock .blockers) ≡ false → stateAt (w .dock) q .stage .strong ≡ true → isPending (stateAt (w .dock) q .phase) ≡ true → (i : ℕ) → i < sizeOf (stateAt (w .dock) q .stage .request)
+      → ((q : ℕ) → q < 8 → q ≢ p → waitsOf q (w .dock .blockers) ≡ false → stateAt (w .dock) q .stage .strong ≡ true → isBlocking (stateAt (w .dock) q .phase) ≡ true → (i : ℕ) → i < sizeOf (stateAt (w .dock) q .stage .request)
       → store' (stateAt (w .dock) q .stage .request .start .0 + i) ≡ w .store (stateAt (w .dock) q .stage .request .start .0 + i))
       → lentFits (w .dock .buffers) (length memory') (length scratch') ≡ true → ((y : ℕ) → store' y ≡ bytes' y)
       → (isWriteJob (stateAt (w .dock) p .job) ≡ true → bytesOf memory' (segmentsOf (vectorAt (w .dock) p)) ≡ T .j .bytes)

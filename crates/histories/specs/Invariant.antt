@@ -16,7 +16,7 @@ use Rattle.arithmetic.specs.declared.offsets.Range.{Range}
 use Rattle.vectors.specs.Vectors.{segmentsOf, bytesOf, overlapOf, selfOverlapOf}
 use Rattle.vectors.specs.declared.vector.IoVector.{IoVector}
 use Rattle.blockers.specs.Blockers.{waitsOf}
-use Rattle.stages.specs.Stages.{sizeOf, isFree, isPending, usesBounce, secondAt, liesIn, isSound}
+use Rattle.stages.specs.Stages.{sizeOf, isFree, isPending, isBlocking, usesBounce, secondAt, liesIn, isSound}
 use Rattle.stages.specs.Laws.{Placed}
 use Rattle.stages.specs.declared.state.Job.{Job}
 use Rattle.stages.specs.declared.state.Job.the-variants.{Read, Write, Zeroes, AllocatedZeroes, Discard}
@@ -125,14 +125,14 @@ module _ (t : Settings) (s s' : Bytes) (memory memory' : List ℕ) (sh sh' : ℕ
     (sound : isSound (t .bounce) x ≡ true) (placed : isPending (x .phase) ≡ true → Placed (x .stage)) (regular : isRegular x ≡ true)
     (data-same : hasVector (x .job) ≡ true → bytesOf memory' (segmentsOf v) ≡ bytesOf memory (segmentsOf v))
     (share-same : (i : ℕ) → i < t .bounce → sh' i ≡ sh i)
-    (store-same : wait ≡ false → x .stage .strong ≡ true → isPending (x .phase) ≡ true → (i : ℕ) → i < sizeOf (x .stage .request) → s' (x .stage .request .start .0 + i) ≡ s (x .stage .request .start .0 + i))
+    (store-same : wait ≡ false → x .stage .strong ≡ true → isBlocking (x .phase) ≡ true → (i : ℕ) → i < sizeOf (x .stage .request) → s' (x .stage .request .start .0 + i) ≡ s (x .stage .request .start .0 + i))
     (wait-less : wait' ≡ true → wait ≡ true)
     (F : Flight t s memory sh x v car wait j) where
   g : Stage
   g = x .stage
 
   -- a byte of the store that a fact of this job speaks of
-  agree : isPending (x .phase) ≡ true → (i : ℕ) → i < sizeOf (x .stage .request) → (wait ≡ true → ⊥) → (x .stage .strong ≡ false → ⊥) → s (x .stage .request .start .0 + i) ≡ s' (x .stage .request .start .0 + i)
+  agree : isBlocking (x .phase) ≡ true → (i : ℕ) → i < sizeOf (x .stage .request) → (wait ≡ true → ⊥) → (x .stage .strong ≡ false → ⊥) → s (x .stage .request .start .0 + i) ≡ s' (x .stage .request .start .0 + i)
   agree p i h a b = go wait (x .stage .strong) refl refl
     where
       go : (c d : Bool) → wait ≡ c → x .stage .strong ≡ d → s (x .stage .request .start .0 + i) ≡ s' (x .stage .request .start .0 + i)
@@ -156,17 +156,17 @@ module _ (t : Settings) (s s' : Bytes) (memory memory' : List ℕ) (sh sh' : ℕ
       w = within (t .bounce) x sound (ap usesBounce e)
   by-phase FirstRead e f = λ c i h.
       share-same i (omega (arith, w .first)) ∙ f c i h
-      ∙ agree (ap isPending e) i (first-within (placed (ap isPending e)) i h) (λ a. some-none car 0 (F .fresh a .0) c) (λ a. omega (arith, F .geo .weak a .2, h))
+      ∙ agree (ap isBlocking e) i (first-within (placed (ap isPending e)) i h) (λ a. some-none car 0 (F .fresh a .0) c) (λ a. omega (arith, F .geo .weak a .2, h))
     where
       w : Within (t .bounce) (x .stage)
       w = within (t .bounce) x sound (ap usesBounce e)
   by-phase SecondRead e f =
       (λ c i h.
       share-same i (omega (arith, w .first)) ∙ f .0 c i h
-      ∙ agree (ap isPending e) i (first-within (placed (ap isPending e)) i h) (λ a. let z : sizeOf (x .stage .first) ≡ 0 = unread a in omega (arith, z, h)) (λ a. omega (arith, F .geo .weak a .2, h)),
+      ∙ agree (ap isBlocking e) i (first-within (placed (ap isPending e)) i h) (λ a. let z : sizeOf (x .stage .first) ≡ 0 = unread a in omega (arith, z, h)) (λ a. omega (arith, F .geo .weak a .2, h)),
       λ c i h r.
       share-same i (omega (arith, w .size)) ∙ f .1 c i h r
-      ∙ agree (ap isPending e) i h (λ a. some-none car 0 (F .fresh a .0) c) (λ a. ⊎-elim (λ l. omega (arith, F .geo .weak a .2, l)) (λ l. omega (arith, F .geo .weak a .3, l .0)) r))
+      ∙ agree (ap isBlocking e) i h (λ a. some-none car 0 (F .fresh a .0) c) (λ a. ⊎-elim (λ l. omega (arith, F .geo .weak a .2, l)) (λ l. omega (arith, F .geo .weak a .3, l .0)) r))
     where
       w : Within (t .bounce) (x .stage)
       w = within (t .bounce) x sound (ap usesBounce e)
@@ -177,7 +177,7 @@ module _ (t : Settings) (s s' : Bytes) (memory memory' : List ℕ) (sh sh' : ℕ
       (λ i h. share-same (x .stage .head .0 + i) (omega (arith, w .whole)) ∙ f .0 i h,
       (λ i h b.
       share-same i (omega (arith, w .size)) ∙ f .1 i h b
-      ∙ agree (ap isPending e) i h (λ a. no-padding (x .stage) (F .geo) (unread a .0) (unread a .1) i h b) (λ a. no-padding (x .stage) (F .geo) (F .geo .weak a .2) (F .geo .weak a .3) i h b)),
+      ∙ agree (ap isBlocking e) i h (λ a. no-padding (x .stage) (F .geo) (unread a .0) (unread a .1) i h b) (λ a. no-padding (x .stage) (F .geo) (F .geo .weak a .2) (F .geo .weak a .3) i h b)),
       f .2)
     where
       w : Within (t .bounce) (x .stage)

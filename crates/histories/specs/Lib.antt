@@ -17,3 +17,4 @@ pub mod World
 pub mod Renewing
 pub mod Beginning
 pub mod Carrying
+pub mod Serving

@@ -19,7 +19,7 @@ use Rattle.arithmetic.specs.declared.settings.Buffers.{Buffers}
 use Rattle.vectors.specs.Vectors.{segmentsOf, bytesOf, overlapOf, selfOverlapOf, vectorOf}
 use Rattle.vectors.specs.OverlapLaws.{overlap-sym}
 use Rattle.blockers.specs.Blockers.{waitsOf}
-use Rattle.stages.specs.Stages.{sizeOf, isFree, isPending, hasEnded}
+use Rattle.stages.specs.Stages.{sizeOf, isFree, isPending, isBlocking, hasEnded}
 use Rattle.stages.specs.declared.state.Phase.{Phase}
 use Rattle.stages.specs.declared.state.Phase.the-variants.{Free, Ended, DirectRead, BouncedRead, FirstRead, SecondRead, BouncedWrite, DirectWrite, ZeroRequest, DiscardRequest}
 use Rattle.stages.specs.declared.state.State.{State}
@@ -50,7 +50,7 @@ module _ (w w' : World) (m m' : Plain) (I : Inv w m) (p : ℕ) (h : p < 8)
     (carried-other : (q : ℕ) → q ≢ p → w' .carried q ≡ w .carried q) (jobs-other : (q : ℕ) → q ≢ p → m' .jobs q ≡ m .jobs q)
     (data-same : (q : ℕ) → q < 8 → q ≢ p → Taken (w .dock) q → hasVector (stateAt (w .dock) q .job) ≡ true → bytesOf (w' .memory) (segmentsOf (vectorAt (w .dock) q)) ≡ bytesOf (w .memory) (segmentsOf (vectorAt (w .dock) q)))
     (share-same : (q i : ℕ) → q ≢ p → i < w .dock .settings .bounce → share (w' .scratch) (w .dock .settings .bounce) q i ≡ share (w .scratch) (w .dock .settings .bounce) q i)
-    (store-same : (q : ℕ) → q < 8 → q ≢ p → waitsOf q (w .dock .blockers) ≡ false → stateAt (w .dock) q .stage .strong ≡ true → isPending (stateAt (w .dock) q .phase) ≡ true → (i : ℕ) → i < sizeOf (stateAt (w .dock) q .stage .request)
+    (store-same : (q : ℕ) → q < 8 → q ≢ p → waitsOf q (w .dock .blockers) ≡ false → stateAt (w .dock) q .stage .strong ≡ true → isBlocking (stateAt (w .dock) q .phase) ≡ true → (i : ℕ) → i < sizeOf (stateAt (w .dock) q .stage .request)
     → w' .store (stateAt (w .dock) q .stage .request .start .0 + i) ≡ w .store (stateAt (w .dock) q .stage .request .start .0 + i))
     (wait-less : (q : ℕ) → q < 8 → q ≢ p → waitsOf q (w' .dock .blockers) ≡ true → waitsOf q (w .dock .blockers) ≡ true)
     (held : Held (w' .dock)) (long : lentFits (w .dock .buffers) (length (w' .memory)) (length (w' .scratch)) ≡ true) (same : Same w' m') (own : SlotInv w' m' p)

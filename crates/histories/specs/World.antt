@@ -93,7 +93,7 @@ module _ (w w' : World) (m m' : Plain) (I : Inv w m) (q : ℕ) (h : q < 8)
     (carried : w' .carried q ≡ w .carried q) (jobs : m' .jobs q ≡ m .jobs q)
     (data-same : Taken (w .dock) q → hasVector (stateAt (w .dock) q .job) ≡ true → bytesOf (w' .memory) (segmentsOf (vectorAt (w .dock) q)) ≡ bytesOf (w .memory) (segmentsOf (vectorAt (w .dock) q)))
     (share-same : (i : ℕ) → i < w .dock .settings .bounce → share (w' .scratch) (w .dock .settings .bounce) q i ≡ share (w .scratch) (w .dock .settings .bounce) q i)
-    (store-same : waitsOf q (w .dock .blockers) ≡ false → stateAt (w .dock) q .stage .strong ≡ true → isPending (stateAt (w .dock) q .phase) ≡ true → (i : ℕ) → i < sizeOf (stateAt (w .dock) q .stage .request)
+    (store-same : waitsOf q (w .dock .blockers) ≡ false → stateAt (w .dock) q .stage .strong ≡ true → isBlocking (stateAt (w .dock) q .phase) ≡ true → (i : ℕ) → i < sizeOf (stateAt (w .dock) q .stage .request)
     → w' .store (stateAt (w .dock) q .stage .request .start .0 + i) ≡ w .store (stateAt (w .dock) q .stage .request .start .0 + i))
     (wait-less : waitsOf q (w' .dock .blockers) ≡ true → waitsOf q (w .dock .blockers) ≡ true) where
   S : SlotOf (w .dock) q
