@@ -40,12 +40,12 @@ use Rattle.dock.specs.Next.{partOf}
 use Rattle.dock.specs.declared.dock.Dock.{Dock}
 use Rattle.dock.specs.declared.next.Piece.{Piece}
 use Rattle.dock.specs.declared.next.Piece.the-variants.{InData, InScratch}
-use Rattle.histories.specs.Courses.{isLast, hasVector, hasRead, isRegular, suited, never}
+use Rattle.histories.specs.Courses.{isLast, hasVector, suits, hasRead, isRegular, suited, never}
 use Rattle.histories.specs.Held.{Held, SlotOf}
 use Rattle.histories.specs.Calls.{pending-taken, read-vector, write-vector, direct-reads}
 use Rattle.histories.specs.Store.{Bytes, Choice, inRange, changed, becomesNew, window, laidAt, piecesFrom, gathered, landed, yields, rangeAsked}
-use Rattle.histories.specs.PlainStore.{Did, yielded, wrote, zeroed, discarded, Tracked, Plain, newBytes, standing, stepBy, carriedOut, carriedBy, Carried, setAt}
-use Rattle.histories.specs.Histories.{World, carriesOut, putBy, here, later, OwedBy}
+use Rattle.histories.specs.PlainStore.{Did, yielded, wrote, zeroed, discarded, Tracked, Plain, newBytes, standing, withStep, noStep, stepBy, carriedOut, carriedBy, Carried, setAt}
+use Rattle.histories.specs.Histories.{World, carriesOut, putBy, Among, here, later, OwedBy}
 use Rattle.histories.specs.Lists.{list-ext, window-length, window-at, share-room, share-put-length, share-put-other, share-put-off, share-put-on}
 use Rattle.histories.specs.Geometry.{Beside, ReadBy, Geo}
 use Rattle.histories.specs.Invariant.{share, Fact, Flight, Within, within}
@@ -158,3 +158,173 @@ module _ (w : World) (m : Plain) (I : Inv w m) (p : ℕ) (q : Request) (O : Out 
       outside : (t : Bool) → inRange (x .stage .request) y ≡ t → t ≡ false
       outside true e = sym (shared-overlap (x .stage .request) (stateAt (w .dock) o .stage .request) y e (in-range (stateAt (w .dock) o .stage .request) y (omega arith) (omega arith))) ∙ clear
       outside false e = refl
+
+  -- ---- a read into the share, of the range r, from a on
+
+  module _ (r : Range) (a : ℕ) (is : q ≡ request KRead r 1) (pieces : piecesFrom (w .dock) p (length (w .memory)) (length (w .scratch)) 0 1 ≡ InScratch (segment (p * N + a) (sizeOf r)) ∷ []) (fits : a + sizeOf r ≤ N) where
+    abbrev bs : List ℕ
+    bs = window (yields code c (w .store)) (r .start .0) (sizeOf r)
+
+    bs-long : length bs ≡ sizeOf r
+    bs-long = window-length (yields code c (w .store)) (r .start .0) (sizeOf r)
+
+    abbrev scratch' : List ℕ
+    scratch' = put (w .scratch) (p * N + a) bs
+
+    abbrev fetching : World
+    fetching = record { dock = w .dock; store = w .store; memory = w .memory; scratch = scratch'; carried = setAt (w .carried) p (some code) }
+
+    share-world : carriesOut w p code c q ≡ fetching
+    unfolding landed
+    share-world =
+        ap (λ (k : Request). carriesOut w p code c k) is
+        ∙ ap (λ (ps : List Piece). record { dock = w .dock; store = w .store; memory = landed ps bs (w .memory) (w .scratch) .memory; scratch = landed ps bs (w .memory) (w .scratch) .scratch; carried = setAt (w .carried) p (some code) }) pieces
+        ∙ ap (λ (l : List ℕ). record { dock = w .dock; store = w .store; memory = w .memory; scratch = put (w .scratch) (p * N + a) l; carried = setAt (w .carried) p (some code) }) whole
+      where
+        whole : take (sizeOf r) bs ≡ bs
+        whole = ap (λ (n : ℕ). take n bs) (sym bs-long) ∙ take-length bs
+
+    inside : a + length bs ≤ N
+    inside = omega (arith, bs-long)
+
+    -- byte i of what was read
+    read-on : code ≡ 0 → (i : ℕ) → i < sizeOf r → share scratch' N p (a + i) ≡ w .store (r .start .0 + i)
+    read-on z i h =
+        share-put-on (w .scratch) N p a bs (O .slot) (room w m I) inside i (omega (arith, bs-long))
+        ∙ window-at (yields code c (w .store)) (r .start .0) (sizeOf r) i h ∙ ap (λ (f : Bytes). f (r .start .0 + i)) (yields-is code c (w .store) z)
+
+    -- and of what was there before
+    read-off : (i : ℕ) → (i < a) ⊎ (a + sizeOf r ≤ i) → share scratch' N p i ≡ share (w .scratch) N p i
+    read-off i o = share-put-off (w .scratch) N p a bs (O .slot) (room w m I) inside i (⊎-elim (λ k. inl k) (λ k. inr (omega (arith, bs-long))) o)
+
+    share-inv : (steps' : List Did) → ((y : ℕ) → putBy (T .j .steps) y ≡ true → putBy steps' y ≡ true)
+        → Fact (x .phase) (w .store) (w .memory) (share scratch' N p) x v (some code) (record { first = T .j .first; bytes = T .j .bytes; codes = T .j .codes; steps = steps' })
+        → Inv (carriesOut w p code c q) (record { settings = m .settings; buffers = m .buffers; bytes = m .bytes; jobs = setAt (m .jobs) p (some (record { first = T .j .first; bytes = T .j .bytes; codes = T .j .codes; steps = steps' })) })
+    share-inv steps' grows fact =
+        subst (λ (z : World). Inv z (record { settings = m .settings; buffers = m .buffers; bytes = m .bytes; jobs = setAt (m .jobs) p (some (record { first = T .j .first; bytes = T .j .bytes; codes = T .j .codes; steps = steps' })) })) (sym share-world)
+        (carry-inv w m I p (O .slot) (O .pending) (O .free) T code (w .store) (w .memory) scratch' (m .bytes) steps' grows
+        (λ o g n f u. refl) (λ o i n k. share-put-other (w .scratch) N p a bs (O .slot) (room w m I) inside o i (λ z. n (sym z)) k) (λ o g n f s b i k. refl)
+        (rw (share-put-length (w .scratch) N p a bs (O .slot) (room w m I) inside) (I .long)) (I .same) (T .flight .source) fact)
+
+  first-some : x .phase ≡ FirstRead → 0 < sizeOf (x .stage .first)
+  unfolding isRegular
+  first-some e = let k = S .regular in ltb-true 0 (sizeOf (x .stage .first)) (and-right (suits FirstRead (x .course) (x .job)) _ (rw e at k))
+
+  second-some : x .phase ≡ SecondRead → 0 < sizeOf (x .stage .second)
+  unfolding isRegular
+  second-some e = let k = S .regular in ltb-true 0 (sizeOf (x .stage .second)) (and-right (suits SecondRead (x .course) (x .job)) _ (rw e at k))
+
+  at-start : (n : ℕ) → piecesFrom (w .dock) p (length (w .memory)) (length (w .scratch)) 0 1 ≡ InScratch (segment (p * N) n) ∷ [] → piecesFrom (w .dock) p (length (w .memory)) (length (w .scratch)) 0 1 ≡ InScratch (segment (p * N + 0) n) ∷ []
+  at-start n e = let z : p * N ≡ p * N + 0 = omega arith in e ∙ ap (λ (k : ℕ). InScratch (segment k n) ∷ []) z
+
+  carry-first : x .phase ≡ FirstRead → Inv (carriesOut w p code c q) (carriedBy (m .jobs p) m p code c)
+  carry-first e =
+      let r = x .stage .first in
+      let more = first-some e in
+      let pieces = at-start (sizeOf r) (scratch-piece w m I p q O FirstRead (p * N) (sizeOf r) e (λ i k. refl) more) in
+      let k = within N x (S .sound) (ap usesBounce e) .first in
+      let fits : 0 + sizeOf r ≤ N = omega (arith, k) in
+      subst (λ (z : Plain). Inv (carriesOut w p code c q) z) (sym (plain-is FirstRead e))
+      (share-inv r 0 (request-is FirstRead e) pieces fits (T .j .steps) (λ y k. k)
+      (subst (λ (ph : Phase). Fact ph (w .store) (w .memory) (share (put (w .scratch) (p * N + 0) (window (yields code c (w .store)) (r .start .0) (sizeOf r))) N p) x v (some code) (T .j)) (sym e)
+      (λ z i h.
+      let o : i ≡ 0 + i = omega arith in
+      ap (λ (k : ℕ). share (put (w .scratch) (p * N + 0) (window (yields code c (w .store)) (r .start .0) (sizeOf r))) N p k) o
+      ∙ read-on r 0 (request-is FirstRead e) pieces fits (code-is code z) i h ∙ ap (λ (k : ℕ). w .store (k + i)) (place .first-starts more))))
+
+  carry-second : x .phase ≡ SecondRead → Inv (carriesOut w p code c q) (carriedBy (m .jobs p) m p code c)
+  carry-second e =
+      subst (λ (z : Plain). Inv (carriesOut w p code c q) z) (sym (plain-is SecondRead e))
+      (share-inv r b is pieces fits (T .j .steps) (λ y k. k)
+      (subst (λ (ph : Phase). Fact ph (w .store) (w .memory) (share (put (w .scratch) (p * N + b) (window (yields code c (w .store)) (r .start .0) (sizeOf r))) N p) x v (some code) (T .j)) (sym e)
+      ((λ z. no-code code z), λ z i h k. at-byte (code-is code z) i h k)))
+    where
+      r : Range
+      r = x .stage .second
+
+      b : ℕ
+      b = secondAt (x .stage)
+
+      is : q ≡ request KRead (x .stage .second) 1
+      is = request-is SecondRead e
+
+      more : 0 < sizeOf (x .stage .second)
+      more = second-some e
+
+      pieces : piecesFrom (w .dock) p (length (w .memory)) (length (w .scratch)) 0 1 ≡ InScratch (segment (p * N + secondAt (x .stage)) (sizeOf (x .stage .second))) ∷ []
+      pieces = scratch-piece w m I p q O SecondRead (p * N + secondAt (x .stage)) (sizeOf (x .stage .second)) e (λ i k. refl) more
+
+      fits : secondAt (x .stage) + sizeOf (x .stage .second) ≤ N
+      fits = within N x (S .sound) (ap usesBounce e) .second
+
+      old : (i : ℕ) → i < sizeOf (x .stage .first) → share (w .scratch) N p i ≡ w .store (x .stage .request .start .0 + i)
+      old i h = (subst (λ (ph : Phase). Fact ph (w .store) (w .memory) (share (w .scratch) N p) x v (w .carried p) (T .j)) e (T .flight .fact)) .0 (O .once) i h
+
+      behind : code ≡ 0 → (i : ℕ) → i < sizeOf (x .stage .request) → b ≤ i → share (put (w .scratch) (p * N + b) (window (yields code c (w .store)) (r .start .0) (sizeOf r))) N p i ≡ w .store (x .stage .request .start .0 + i)
+      behind z i h k =
+          let o : i ≡ b + (i - b) = omega arith in
+          let starts = place .second-starts more in
+          let ends = place .second-ends more in
+          let y : x .stage .second .start .0 + (i - secondAt (x .stage)) ≡ x .stage .request .start .0 + i = omega (arith, starts, k) in
+          ap (λ (n : ℕ). share (put (w .scratch) (p * N + b) (window (yields code c (w .store)) (r .start .0) (sizeOf r))) N p n) o
+          ∙ read-on r b is pieces fits z (i - b) (omega (arith, starts, ends, k, h)) ∙ ap (w .store) y
+
+      at-byte : code ≡ 0 → (i : ℕ) → i < sizeOf (x .stage .request) → ReadBy (x .stage) i → share (put (w .scratch) (p * N + b) (window (yields code c (w .store)) (r .start .0) (sizeOf r))) N p i ≡ w .store (x .stage .request .start .0 + i)
+      at-byte z i h k = elim (decLt i b) [
+        | yes l ↦ read-off r b is pieces fits i (inl l) ∙ ⊎-elim (λ a. old i a) (λ a. absurd (omega (arith, a .1, l))) k
+        | no l ↦ behind z i h (omega arith)
+      ]
+
+  -- ---- a padded read
+
+  sole : hasVector (x .job) ≡ true → x .stage .asked ≡ x .range
+  sole u = S .sole taken u
+
+  bounced-read : x .phase ≡ BouncedRead → isReadJob (x .job) ≡ true
+  bounced-read e = and-right (isLast (x .course)) _ (suited x (S .regular) BouncedRead e)
+
+  carry-read : x .phase ≡ BouncedRead → Inv (carriesOut w p code c q) (carriedBy (m .jobs p) m p code c)
+  carry-read e = subst (λ (z : Plain). Inv (carriesOut w p code c q) z) (sym (plain-is BouncedRead e)) (go (eqb code 0) refl)
+    where
+      r : Range
+      r = x .stage .request
+
+      g : Range
+      g = x .stage .asked
+
+      is : q ≡ request KRead (x .stage .request) 1
+      is = request-is BouncedRead e
+
+      pieces : piecesFrom (w .dock) p (length (w .memory)) (length (w .scratch)) 0 1 ≡ InScratch (segment (p * N + 0) (sizeOf (x .stage .request))) ∷ []
+      pieces = at-start (sizeOf (x .stage .request)) (scratch-piece w m I p q O BouncedRead (p * N) (sizeOf (x .stage .request)) e (λ i k. refl) (omega (arith, place .some)))
+
+      fits : 0 + sizeOf (x .stage .request) ≤ N
+      fits = let k = within N x (S .sound) (ap usesBounce e) .size in omega (arith, k)
+
+      range-same : T .j .first .range ≡ x .stage .asked
+      range-same = T .flight .range ∙ sym (sole (read-vector (x .job) (bounced-read e)))
+
+      sh : ℕ → ℕ
+      sh = share (put (w .scratch) (p * N + 0) (window (yields code c (w .store)) (r .start .0) (sizeOf r))) N p
+
+      ys : List ℕ
+      ys = window (m .bytes) (g .start .0) (sizeOf g)
+
+      byte : code ≡ 0 → (i : ℕ) → i < sizeOf g → sh (x .stage .head .0 + i) ≡ getD ys i 0
+      byte z i h =
+          let o : x .stage .head .0 + i ≡ 0 + (x .stage .head .0 + i) = omega arith in
+          let starts = place .asked-starts in
+          let ends = place .asked-ends in
+          let y : x .stage .request .start .0 + (x .stage .head .0 + i) ≡ x .stage .asked .start .0 + i = omega (arith, starts) in
+          ap sh o ∙ read-on r 0 is pieces fits z (x .stage .head .0 + i) (omega (arith, starts, ends, h)) ∙ ap (w .store) y
+          ∙ I .same (g .start .0 + i) ∙ sym (window-at (m .bytes) (g .start .0) (sizeOf g) i h)
+
+      go : (t : Bool) → eqb code 0 ≡ t
+          → Inv (carriesOut w p code c q) (record { settings = m .settings; buffers = m .buffers; bytes = pick t (record { bytes = m .bytes; job = withStep (T .j) (yielded g ys) }) (noStep (m .bytes) (T .j)) .bytes; jobs = setAt (m .jobs) p (some (pick t (record { bytes = m .bytes; job = withStep (T .j) (yielded g ys) }) (noStep (m .bytes) (T .j)) .job)) })
+      go true z =
+          share-inv r 0 is pieces fits (yielded g ys ∷ T .j .steps) (λ y k. k)
+          (subst (λ (ph : Phase). Fact ph (w .store) (w .memory) sh x v (some code) (withStep (T .j) (yielded g ys))) (sym e)
+          (λ k. (ys, subst (λ (o : Range). Among (yielded o ys) (yielded g ys ∷ T .j .steps)) (sym range-same) here, window-length (m .bytes) (g .start .0) (sizeOf g), λ i h. byte (code-is code k) i h)))
+      go false z =
+          share-inv r 0 is pieces fits (T .j .steps) (λ y k. k)
+          (subst (λ (ph : Phase). Fact ph (w .store) (w .memory) sh x v (some code) (T .j)) (sym e) (λ k. never (sym z ∙ eq-eqb code 0 (code-is code k))))
