@@ -4,7 +4,7 @@ use mathlib.Core.Bool.{Bool, true, false, _&&_, _||_, not}
 use mathlib.Core.Logic.{_⊎_, inl, inr, ⊎-elim, _≢_}
 use mathlib.Core.List.{List, [], _∷_, _++_}
 use mathlib.Core.Option.{Option, none, some}
-use Prim.Native.Nat.{ℕ, _+_, _-_, _*_, _<_, _≤_}
+use Prim.Native.Nat.{ℕ, zero, suc, _+_, _-_, _*_, _<_, _≤_}
 use native.Mathlib.Omega.{arith}
 use native.Mathlib.Decide.{decLt}
 use lib.Dec.{ltb, leb, eqb}
@@ -43,11 +43,11 @@ use Rattle.dock.specs.declared.next.Piece.the-variants.{InData, InScratch}
 use Rattle.histories.specs.Courses.{isLast, hasVector, suits, hasRead, isRegular, suited, never}
 use Rattle.histories.specs.Held.{Held, SlotOf}
 use Rattle.histories.specs.Calls.{pending-taken, read-vector, write-vector, direct-reads}
-use Rattle.histories.specs.Store.{Bytes, Choice, inRange, changed, becomesNew, window, laidAt, piecesFrom, gathered, landed, yields, rangeAsked}
+use Rattle.histories.specs.Store.{Bytes, Choice, Buffered, inRange, changed, becomesNew, window, laidAt, piecesFrom, gathered, landed, yields, stored, fetched}
 use Rattle.histories.specs.PlainStore.{Did, yielded, wrote, zeroed, discarded, Tracked, Plain, newBytes, standing, withStep, noStep, stepBy, carriedOut, carriedBy, Carried, setAt}
-use Rattle.histories.specs.Histories.{World, carriesOut, putBy, Among, here, later, OwedBy}
+use Rattle.histories.specs.Histories.{World, carriesOut, puts, putBy, Among, here, later, OwedBy}
 use Rattle.histories.specs.Lists.{list-ext, window-length, window-at, share-room, share-put-length, share-put-other, share-put-off, share-put-on}
-use Rattle.histories.specs.Geometry.{Beside, ReadBy, Geo}
+use Rattle.histories.specs.Geometry.{Beside, ReadBy, Geo, AsAsked}
 use Rattle.histories.specs.Invariant.{share, Fact, Flight, Within, within}
 use Rattle.histories.specs.World.{Taken, Tracks, SlotInv, Inv, room, segments-lie, data-length, shared-overlap}
 use Rattle.histories.specs.Carrying.{Out, scratch-piece, dataPieces, landed-data, gathered-data, data-pieces, carry-inv}
@@ -90,6 +90,47 @@ code-is code e = cc
 
 no-code : {A : Type 0} (code : ℕ) → _≡_ {A = Option ℕ} (some code) none → A
 no-code code e = let z : _≡_ {A = ℕ} 0 1 = cc in absurd (omega arith)
+
+window-same : (s t : Bytes) (o n : ℕ) → ((y : ℕ) → s y ≡ t y) → window s o n ≡ window t o n
+unfolding window
+window-same s t o zero f = refl
+window-same s t o (suc n) f = let a = f o in let b = window-same s t (suc o) n f in λ i. a i ∷ b i
+
+read-no-write : (j : Job) → isReadJob j ≡ true → isWriteJob j ≡ false
+read-no-write Read e = refl
+read-no-write Write e = sym e
+read-no-write Zeroes e = refl
+read-no-write AllocatedZeroes e = refl
+read-no-write Discard e = refl
+
+new-write : (j : Job) (o : ℕ) (bs : List ℕ) → isWriteJob j ≡ true → newBytes j o bs ≡ laidAt o bs
+new-write Write o bs e = refl
+new-write Read o bs e = never e
+new-write Zeroes o bs e = never e
+new-write AllocatedZeroes o bs e = never e
+new-write Discard o bs e = never e
+
+-- one step more
+put-more : (d : Did) (ds : List Did) (y : ℕ) → putBy ds y ≡ true → putBy (d ∷ ds) y ≡ true
+put-more d ds y e = go (puts d y)
+  where
+    go : (t : Bool) → pick t true (putBy ds y) ≡ true
+    go true = refl
+    go false = e
+
+stored-zero : (j : Job) (r : Range) (code : ℕ) (c : Choice) (l : List ℕ) (s : Bytes) → stored (zeroKind j) r code c l s ≡ changed s r (becomesNew code c) (λ x. 0)
+stored-zero Read r code c l s = refl
+stored-zero Write r code c l s = refl
+stored-zero Zeroes r code c l s = refl
+stored-zero AllocatedZeroes r code c l s = refl
+stored-zero Discard r code c l s = refl
+
+fetched-zero : (j : Job) (q : Request) (ps : List Piece) (code : ℕ) (c : Choice) (s : Bytes) (memory scratch : List ℕ) → fetched (zeroKind j) q ps code c s memory scratch ≡ record { memory = memory; scratch = scratch }
+fetched-zero Read q ps code c s memory scratch = refl
+fetched-zero Write q ps code c s memory scratch = refl
+fetched-zero Zeroes q ps code c s memory scratch = refl
+fetched-zero AllocatedZeroes q ps code c s memory scratch = refl
+fetched-zero Discard q ps code c s memory scratch = refl
 
 -- the plain byte store's step is that of the state in which its job stands
 carried-is : (m : Plain) (p code : ℕ) (c : Choice) (t : Settings) (j : Tracked) (x : State) (ph : Phase) → m .jobs p ≡ some j → m .settings ≡ t → standing t (j .first) (j .codes) ≡ x → x .phase ≡ ph
@@ -328,3 +369,188 @@ module _ (w : World) (m : Plain) (I : Inv w m) (p : ℕ) (q : Request) (O : Out 
       go false z =
           share-inv r 0 is pieces fits (T .j .steps) (λ y k. k)
           (subst (λ (ph : Phase). Fact ph (w .store) (w .memory) sh x v (some code) (T .j)) (sym e) (λ k. never (sym z ∙ eq-eqb code 0 (code-is code k))))
+
+  -- ---- a read into the segments
+
+  long : length (w .memory) ≡ w .dock .buffers .«data» .length
+  long = data-length (w .dock .buffers) (length (w .memory)) (length (w .scratch)) (I .long)
+
+  valid-vector : hasVector (x .job) ≡ true → isValid (length (w .memory)) v ≡ true
+  valid-vector u = rw long (S .vector taken u .0)
+
+  carry-direct-read : x .phase ≡ DirectRead → Inv (carriesOut w p code c q) (carriedBy (m .jobs p) m p code c)
+  carry-direct-read e = subst (λ (z : Plain). Inv (carriesOut w p code c q) z) (sym (plain-is DirectRead e)) (subst (λ (z : World). Inv z (plainly (eqb code 0))) (sym world) (go (eqb code 0) refl))
+    where
+      r : Range
+      r = x .stage .request
+
+      g : Range
+      g = x .stage .asked
+
+      reads : isReadJob (x .job) ≡ true
+      reads = direct-reads x (S .regular) e
+
+      has : hasVector (x .job) ≡ true
+      has = read-vector (x .job) reads
+
+      as-asked : x .stage .asked ≡ x .stage .request
+      as-asked = subst (λ (ph : Phase). AsAsked ph (x .stage)) e (T .flight .as-asked)
+
+      got : List ℕ
+      got = window (yields code c (w .store)) (r .start .0) (sizeOf r)
+
+      ys : List ℕ
+      ys = window (m .bytes) (g .start .0) (sizeOf g)
+
+      lie : allSegments (liesIn (length (w .memory))) (segmentsOf v) ≡ true
+      lie = segments-lie w m I p (O .slot) taken has
+
+      memory' : List ℕ
+      memory' = scatterOf (w .memory) (segmentsOf v) got
+
+      plainly : Bool → Plain
+      plainly t = record { settings = m .settings; buffers = m .buffers; bytes = pick t (record { bytes = m .bytes; job = withStep (T .j) (yielded g ys) }) (noStep (m .bytes) (T .j)) .bytes; jobs = setAt (m .jobs) p (some (pick t (record { bytes = m .bytes; job = withStep (T .j) (yielded g ys) }) (noStep (m .bytes) (T .j)) .job)) }
+
+      world : carriesOut w p code c q ≡ record { dock = w .dock; store = w .store; memory = memory'; scratch = w .scratch; carried = setAt (w .carried) p (some code) }
+      world =
+          ap (λ (k : Request). carriesOut w p code c k) (request-is DirectRead e)
+          ∙ ap (λ (ps : List Piece). record { dock = w .dock; store = w .store; memory = landed ps got (w .memory) (w .scratch) .memory; scratch = landed ps got (w .memory) (w .scratch) .scratch; carried = setAt (w .carried) p (some code) })
+          (data-pieces w m I p q O DirectRead e (λ i k. refl) (valid-vector has))
+          ∙ ap (λ (b : Buffered). record { dock = w .dock; store = w .store; memory = b .memory; scratch = b .scratch; carried = setAt (w .carried) p (some code) }) (landed-data (v .count) (v .segments) got (w .memory) (w .scratch))
+
+      size : length got ≡ sizeOfAll (segmentsOf v)
+      size =
+          window-length (yields code c (w .store)) (r .start .0) (sizeOf r) ∙ ap sizeOf (sym as-asked) ∙ ap sizeOf (sole has) ∙ sym (S .vector taken has .1) ∙ valid (length (w .memory)) v (valid-vector has) .total
+
+      same-bytes : code ≡ 0 → got ≡ ys
+      same-bytes z =
+          ap (λ (f : Bytes). window f (r .start .0) (sizeOf r)) (yields-is code c (w .store) z) ∙ window-same (w .store) (m .bytes) (r .start .0) (sizeOf r) (I .same)
+          ∙ ap (λ (k : Range). window (m .bytes) (k .start .0) (sizeOf k)) (sym as-asked)
+
+      range-same : T .j .first .range ≡ x .stage .asked
+      range-same = T .flight .range ∙ sym (sole has)
+
+      holds : bytesOf memory' (segmentsOf v) ≡ got
+      holds = gather-scatter (w .memory) (segmentsOf v) got lie (I .alone p (O .slot) taken reads) size
+
+      inv : (steps' : List Did) → ((y : ℕ) → putBy (T .j .steps) y ≡ true → putBy steps' y ≡ true)
+          → (_≡_ {A = Option ℕ} (some code) (some 0) → OwedBy Read (record { first = T .j .first; bytes = T .j .bytes; codes = T .j .codes; steps = steps' }) v memory')
+          → Inv (record { dock = w .dock; store = w .store; memory = memory'; scratch = w .scratch; carried = setAt (w .carried) p (some code) }) (record { settings = m .settings; buffers = m .buffers; bytes = m .bytes; jobs = setAt (m .jobs) p (some (record { first = T .j .first; bytes = T .j .bytes; codes = T .j .codes; steps = steps' })) })
+      inv steps' grows owed =
+          carry-inv w m I p (O .slot) (O .pending) (O .free) T code (w .store) memory' (w .scratch) (m .bytes) steps' grows
+          (λ o k n f u.
+          scatter-others (w .memory) (segmentsOf (vectorAt (w .dock) o)) (segmentsOf v) got (segments-lie w m I o k f u) lie
+          (overlap-sym (segmentsOf (vectorAt (w .dock) o)) (segmentsOf v) ∙ I .apart p o (O .slot) k (λ z. n (sym z)) taken f reads))
+          (λ o i n k. refl) (λ o k n f s b i l. refl) (rw (scatter-length (w .memory) (segmentsOf v) got lie) (I .long)) (I .same)
+          (λ u. never (sym (read-no-write (x .job) reads) ∙ u))
+          (subst (λ (ph : Phase). Fact ph (w .store) memory' (share (w .scratch) N p) x v (some code) (record { first = T .j .first; bytes = T .j .bytes; codes = T .j .codes; steps = steps' })) (sym e) owed)
+
+      go : (t : Bool) → eqb code 0 ≡ t → Inv (record { dock = w .dock; store = w .store; memory = memory'; scratch = w .scratch; carried = setAt (w .carried) p (some code) }) (plainly t)
+      go true z = inv (yielded g ys ∷ T .j .steps) (λ y k. k) (λ k. (ys, subst (λ (o : Range). Among (yielded o ys) (yielded g ys ∷ T .j .steps)) (sym range-same) here, holds ∙ same-bytes (code-is code k)))
+      go false z = inv (T .j .steps) (λ y k. k) (λ k. never (sym z ∙ eq-eqb code 0 (code-is code k)))
+
+  -- ---- what a request puts on the store
+
+  abbrev writing : Bytes → World
+  writing s = record { dock = w .dock; store = s; memory = w .memory; scratch = w .scratch; carried = setAt (w .carried) p (some code) }
+
+  abbrev which : ℕ → Bool
+  which = becomesNew code c
+
+  ordered : x .stage .request .start .0 ≤ x .stage .request .end .0
+  ordered = omega (arith, place .some)
+
+  -- a change in the request's range, tracked as one step
+  put-inv : isBlocking (x .phase) ≡ true → (test : ℕ → Bool) (new bytes' : Bytes) (d : Did) → ((y : ℕ) → changed (w .store) (x .stage .request) test new y ≡ bytes' y)
+      → Fact (x .phase) (changed (w .store) (x .stage .request) test new) (w .memory) (share (w .scratch) N p) x v (some code) (withStep (T .j) d)
+      → Inv (writing (changed (w .store) (x .stage .request) test new)) (record { settings = m .settings; buffers = m .buffers; bytes = bytes'; jobs = setAt (m .jobs) p (some (withStep (T .j) d)) })
+  put-inv b test new bytes' d same fact =
+      carry-inv w m I p (O .slot) (O .pending) (O .free) T code (changed (w .store) (x .stage .request) test new) (w .memory) (w .scratch) bytes' (d ∷ T .j .steps) (λ y k. put-more d (T .j .steps) y k)
+      (λ o g n f u. refl) (λ o i n k. refl) (λ o g n f s k i l. others-stay b test new o g n f s k i l) (I .long) same (T .flight .source) fact
+
+  carry-zero : x .phase ≡ ZeroRequest → Inv (carriesOut w p code c q) (carriedBy (m .jobs p) m p code c)
+  carry-zero e =
+      subst (λ (z : Plain). Inv (carriesOut w p code c q) z) (sym (plain-is ZeroRequest e)) (subst (λ (z : World). Inv z plainly) (sym world)
+      (put-inv (ap isBlocking e) which (λ y. 0) (changed (m .bytes) r which (λ y. 0)) (zeroed r code) (λ y. changed-same (w .store) (m .bytes) r which (λ y. 0) (λ y. 0) y (I .same y) (λ k. refl))
+      (subst (λ (ph : Phase). Fact ph (changed (w .store) r which (λ y. 0)) (w .memory) (share (w .scratch) N p) x v (some code) (withStep (T .j) (zeroed r code))) (sym e)
+      (λ k. subst (λ (n : ℕ). Among (zeroed r n) (zeroed r code ∷ T .j .steps)) (code-is code k) here))))
+    where
+      r : Range
+      r = x .stage .request
+
+      plainly : Plain
+      plainly = record { settings = m .settings; buffers = m .buffers; bytes = changed (m .bytes) r which (λ y. 0); jobs = setAt (m .jobs) p (some (withStep (T .j) (zeroed r code))) }
+
+      world : carriesOut w p code c q ≡ writing (changed (w .store) r which (λ y. 0))
+      world =
+          ap (λ (k : Request). carriesOut w p code c k) (request-is ZeroRequest e)
+          ∙ ap (λ (b : Buffered). record { dock = w .dock; store = stored (zeroKind (x .job)) (rangeOf (r .start .0) (r .start .0 + sizeOf r)) code c (gathered (piecesFrom (w .dock) p (length (w .memory)) (length (w .scratch)) 0 0) (w .memory) (w .scratch)) (w .store); memory = b .memory; scratch = b .scratch; carried = setAt (w .carried) p (some code) })
+          (fetched-zero (x .job) (request (zeroKind (x .job)) r 0) (piecesFrom (w .dock) p (length (w .memory)) (length (w .scratch)) 0 0) code c (w .store) (w .memory) (w .scratch))
+          ∙ ap (λ (s : Bytes). writing s)
+          (stored-zero (x .job) (rangeOf (r .start .0) (r .start .0 + sizeOf r)) code c (gathered (piecesFrom (w .dock) p (length (w .memory)) (length (w .scratch)) 0 0) (w .memory) (w .scratch)) (w .store)
+          ∙ ap (λ (k : Range). changed (w .store) k which (λ y. 0)) (range-is r ordered))
+
+  carry-discard : x .phase ≡ DiscardRequest → Inv (carriesOut w p code c q) (carriedBy (m .jobs p) m p code c)
+  carry-discard e =
+      subst (λ (z : Plain). Inv (carriesOut w p code c q) z) (sym (plain-is DiscardRequest e)) (subst (λ (z : World). Inv z plainly) (sym world)
+      (put-inv (ap isBlocking e) (λ y. true) (c .left) (changed (m .bytes) r (λ y. true) (c .left)) (discarded r) (λ y. changed-same (w .store) (m .bytes) r (λ y. true) (c .left) (c .left) y (I .same y) (λ k. refl))
+      (subst (λ (ph : Phase). Fact ph (changed (w .store) r (λ y. true) (c .left)) (w .memory) (share (w .scratch) N p) x v (some code) (withStep (T .j) (discarded r))) (sym e) tt)))
+    where
+      r : Range
+      r = x .stage .request
+
+      plainly : Plain
+      plainly = record { settings = m .settings; buffers = m .buffers; bytes = changed (m .bytes) r (λ y. true) (c .left); jobs = setAt (m .jobs) p (some (withStep (T .j) (discarded r))) }
+
+      world : carriesOut w p code c q ≡ writing (changed (w .store) r (λ y. true) (c .left))
+      world =
+          ap (λ (k : Request). carriesOut w p code c k) (request-is DiscardRequest e)
+          ∙ ap (λ (k : Range). writing (changed (w .store) k (λ y. true) (c .left))) (range-is r ordered)
+
+  -- ---- writes
+
+  abbrev new : Bytes
+  new = newBytes (x .job) (x .stage .asked .start .0) (T .j .bytes)
+
+  written : (s : Bytes) → Among (wrote (x .stage .asked) code new) (wrote (x .stage .asked) code new ∷ T .j .steps)
+  written s = here
+
+  carry-direct-write : x .phase ≡ DirectWrite → Inv (carriesOut w p code c q) (carriedBy (m .jobs p) m p code c)
+  carry-direct-write e =
+      subst (λ (z : Plain). Inv (carriesOut w p code c q) z) (sym (plain-is DirectWrite e)) (subst (λ (z : World). Inv z plainly) (sym world)
+      (put-inv (ap isBlocking e) which new (changed (m .bytes) (x .stage .asked) which new) (wrote (x .stage .asked) code new) same
+      (subst (λ (ph : Phase). Fact ph (changed (w .store) (x .stage .request) which new) (w .memory) (share (w .scratch) N p) x v (some code) (withStep (T .j) (wrote (x .stage .asked) code new))) (sym e)
+      (λ k. subst (λ (n : ℕ). Among (wrote (x .stage .asked) n new) (wrote (x .stage .asked) code new ∷ T .j .steps)) (code-is code k) here))))
+    where
+      r : Range
+      r = x .stage .request
+
+      as-asked : x .stage .asked ≡ x .stage .request
+      as-asked = subst (λ (ph : Phase). AsAsked ph (x .stage)) e (T .flight .as-asked)
+
+      writes : isWriteJob (x .job) ≡ true
+      writes = and-right (isLast (x .course)) _ (suited x (S .regular) DirectWrite e)
+
+      has : hasVector (x .job) ≡ true
+      has = write-vector (x .job) writes
+
+      plainly : Plain
+      plainly = record { settings = m .settings; buffers = m .buffers; bytes = changed (m .bytes) (x .stage .asked) which new; jobs = setAt (m .jobs) p (some (withStep (T .j) (wrote (x .stage .asked) code new))) }
+
+      payload : gathered (piecesFrom (w .dock) p (length (w .memory)) (length (w .scratch)) 0 (v .count)) (w .memory) (w .scratch) ≡ T .j .bytes
+      payload =
+          ap (λ (ps : List Piece). gathered ps (w .memory) (w .scratch)) (data-pieces w m I p q O DirectWrite e (λ i k. refl) (valid-vector has))
+          ∙ gathered-data (v .count) (v .segments) (w .memory) (w .scratch) (segments-lie w m I p (O .slot) taken has) ∙ T .flight .source writes
+
+      is-new : laidAt (r .start .0) (T .j .bytes) ≡ new
+      is-new = ap (λ (k : Range). laidAt (k .start .0) (T .j .bytes)) (sym as-asked) ∙ sym (new-write (x .job) (x .stage .asked .start .0) (T .j .bytes) writes)
+
+      world : carriesOut w p code c q ≡ writing (changed (w .store) r which new)
+      world =
+          ap (λ (k : Request). carriesOut w p code c k) (request-is DirectWrite e)
+          ∙ ap (λ (l : List ℕ). writing (changed (w .store) (rangeOf (r .start .0) (r .start .0 + sizeOf r)) which (laidAt (r .start .0) l))) payload
+          ∙ ap (λ (k : Range). writing (changed (w .store) k which (laidAt (r .start .0) (T .j .bytes)))) (range-is r ordered)
+          ∙ ap (λ (f : Bytes). writing (changed (w .store) r which f)) is-new
+
+      same : (y : ℕ) → changed (w .store) r which new y ≡ changed (m .bytes) (x .stage .asked) which new y
+      same y = changed-same (w .store) (m .bytes) r which new new y (I .same y) (λ k. refl) ∙ ap (λ (k : Range). changed (m .bytes) k which new y) (sym as-asked)
