@@ -1,6 +1,6 @@
 -- Each request, carried out with any code, does on the real store and on the plain byte store the same; by which request is out. Assumes nothing.
 use mathlib.Core.Path.{_≡_, refl, sym, ap, _∙_, subst}
-use mathlib.Core.Bool.{Bool, true, false, _&&_, _||_, not}
+use mathlib.Core.Bool.{Bool, true, false, _&&_, _||_, not, and-false}
 use mathlib.Core.Logic.{_⊎_, inl, inr, ⊎-elim, _≢_}
 use mathlib.Core.List.{List, [], _∷_, _++_}
 use mathlib.Core.Option.{Option, none, some}
@@ -8,9 +8,9 @@ use Prim.Native.Nat.{ℕ, zero, suc, _+_, _-_, _*_, _<_, _≤_}
 use native.Mathlib.Omega.{arith}
 use native.Mathlib.Decide.{decLt}
 use lib.Dec.{ltb, leb, eqb}
-use lib.ListN.{length, getD, take, drop}
-use lib.Seq.{take-length, getD-take, getD-drop}
-use borrow.Author.Tests.{lt-ltb, le-leb, ltb-true, leb-true, eqb-true, eq-eqb}
+use lib.ListN.{length, getD, take, drop, length-drop, List·getD-append}
+use lib.Seq.{take-length, length-take-le, getD-take, getD-drop}
+use borrow.Author.Tests.{lt-ltb, le-leb, le-ltb, lt-leb, ltb-true, leb-true, eqb-true, eq-eqb}
 use Rattle.arithmetic.specs.Rounding.{pick}
 use Rattle.arithmetic.specs.SettingsLaws.{and-left, and-right}
 use Rattle.arithmetic.specs.Offsets.{rangeOf}
@@ -75,6 +75,27 @@ changed-still s r which new y e = go (inRange r y && which y)
     go : (a : Bool) → pick a (new y) (s y) ≡ s y
     go true = e
     go false = refl
+
+-- both sides change there, or neither
+both-in : (s t : Bytes) (r g : Range) (which : ℕ → Bool) (a b : Bytes) (y : ℕ) → inRange r y ≡ true → inRange g y ≡ true → a y ≡ b y → s y ≡ t y → changed s r which a y ≡ changed t g which b y
+unfolding changed
+both-in s t r g which a b y i k e f = rw (i, k, e, f)
+
+not-in-before : (r : Range) (y : ℕ) → y < r .start .0 → inRange r y ≡ false
+not-in-before r y h = rw (lt-leb (r .start .0) y h)
+
+not-in-behind : (r : Range) (y : ℕ) → r .end .0 ≤ y → inRange r y ≡ false
+not-in-behind r y h = rw (le-ltb y (r .end .0) h) (and-false (leb (r .start .0) y))
+
+-- n bytes of the scratch as a write's only piece
+handed-is : (memory scratch : List ℕ) (a n : ℕ) → a + n ≤ length scratch → gathered (InScratch (segment a n) ∷ []) memory scratch ≡ take n (drop a scratch) ++ []
+unfolding gathered partOf
+handed-is memory scratch a n h = simp (le-leb (a + n) (length scratch) h)
+
+payload-at : (scratch : List ℕ) (a n i : ℕ) → i < n → a + n ≤ length scratch → getD (take n (drop a scratch) ++ []) i 0 ≡ getD scratch (a + i) 0
+payload-at scratch a n i h l =
+    let k : length (take n (drop a scratch)) ≡ n = length-take-le n (drop a scratch) (omega (arith, length-drop a scratch)) in
+    List·getD-append (take n (drop a scratch)) [] 0 i (omega (arith, k)) ∙ getD-take n (drop a scratch) i 0 h ∙ getD-drop a scratch i 0
 
 in-range : (r : Range) (y : ℕ) → r .start .0 ≤ y → y < r .end .0 → inRange r y ≡ true
 in-range r y h k = rw (le-leb (r .start .0) y h, lt-ltb y (r .end .0) k)
@@ -512,9 +533,6 @@ module _ (w : World) (m : Plain) (I : Inv w m) (p : ℕ) (q : Request) (O : Out 
   abbrev new : Bytes
   new = newBytes (x .job) (x .stage .asked .start .0) (T .j .bytes)
 
-  written : (s : Bytes) → Among (wrote (x .stage .asked) code new) (wrote (x .stage .asked) code new ∷ T .j .steps)
-  written s = here
-
   carry-direct-write : x .phase ≡ DirectWrite → Inv (carriesOut w p code c q) (carriedBy (m .jobs p) m p code c)
   carry-direct-write e =
       subst (λ (z : Plain). Inv (carriesOut w p code c q) z) (sym (plain-is DirectWrite e)) (subst (λ (z : World). Inv z plainly) (sym world)
@@ -554,3 +572,106 @@ module _ (w : World) (m : Plain) (I : Inv w m) (p : ℕ) (q : Request) (O : Out 
 
       same : (y : ℕ) → changed (w .store) r which new y ≡ changed (m .bytes) (x .stage .asked) which new y
       same y = changed-same (w .store) (m .bytes) r which new new y (I .same y) (λ k. refl) ∙ ap (λ (k : Range). changed (m .bytes) k which new y) (sym as-asked)
+
+  carry-bounced-write : x .phase ≡ BouncedWrite → Inv (carriesOut w p code c q) (carriedBy (m .jobs p) m p code c)
+  carry-bounced-write e =
+      subst (λ (z : Plain). Inv (carriesOut w p code c q) z) (sym (plain-is BouncedWrite e)) (subst (λ (z : World). Inv z plainly) (sym world)
+      (put-inv (ap isBlocking e) which laid (changed (m .bytes) g which new) (wrote g code new) same
+      (subst (λ (ph : Phase). Fact ph (changed (w .store) r which laid) (w .memory) (share (w .scratch) N p) x v (some code) (withStep (T .j) (wrote g code new))) (sym e)
+      (old .0, (λ i h b. old .1 i h b ∙ sym (still i h b)), λ k. subst (λ (n : ℕ). Among (wrote g n new) (wrote g code new ∷ T .j .steps)) (code-is code k) here))))
+    where
+      r : Range
+      r = x .stage .request
+
+      g : Range
+      g = x .stage .asked
+
+      plainly : Plain
+      plainly = record { settings = m .settings; buffers = m .buffers; bytes = changed (m .bytes) g which new; jobs = setAt (m .jobs) p (some (withStep (T .j) (wrote g code new))) }
+
+      old : Fact BouncedWrite (w .store) (w .memory) (share (w .scratch) N p) x v (w .carried p) (T .j)
+      old = subst (λ (ph : Phase). Fact ph (w .store) (w .memory) (share (w .scratch) N p) x v (w .carried p) (T .j)) e (T .flight .fact)
+
+      sized : sizeOf (x .stage .request) ≤ N
+      sized = within N x (S .sound) (ap usesBounce e) .size
+
+      payload : List ℕ
+      payload = take (sizeOf r) (drop (p * N) (w .scratch)) ++ []
+
+      laid : Bytes
+      laid = laidAt (r .start .0) payload
+
+      roomy : p * N + sizeOf (x .stage .request) ≤ length (w .scratch)
+      roomy = omega (arith, share-room N p (length (w .scratch)) (O .slot) (room w m I), sized)
+
+      handed : gathered (InScratch (segment (p * N) (sizeOf r)) ∷ []) (w .memory) (w .scratch) ≡ payload
+      handed = handed-is (w .memory) (w .scratch) (p * N) (sizeOf r) roomy
+
+      -- byte i of what is written is that of the share
+      laid-at : (i : ℕ) → i < sizeOf r → laid (r .start .0 + i) ≡ share (w .scratch) N p i
+      laid-at i h =
+          let o : r .start .0 + i - r .start .0 ≡ i = omega arith in
+          ap (λ (k : ℕ). getD payload k 0) o ∙ payload-at (w .scratch) (p * N) (sizeOf r) i h roomy
+
+      world : carriesOut w p code c q ≡ writing (changed (w .store) r which laid)
+      world =
+          ap (λ (k : Request). carriesOut w p code c k) (request-is BouncedWrite e)
+          ∙ ap (λ (ps : List Piece). writing (changed (w .store) (rangeOf (r .start .0) (r .start .0 + sizeOf r)) which (laidAt (r .start .0) (gathered ps (w .memory) (w .scratch)))))
+          (scratch-piece w m I p q O BouncedWrite (p * N) (sizeOf r) e (λ i k. refl) (omega (arith, place .some)))
+          ∙ ap (λ (l : List ℕ). writing (changed (w .store) (rangeOf (r .start .0) (r .start .0 + sizeOf r)) which (laidAt (r .start .0) l))) handed
+          ∙ ap (λ (k : Range). writing (changed (w .store) k which laid)) (range-is r ordered)
+
+      -- a byte beside the asked ones becomes what it was
+      still : (i : ℕ) → i < sizeOf r → Beside (x .stage) i → changed (w .store) r which laid (r .start .0 + i) ≡ w .store (r .start .0 + i)
+      still i h b = changed-still (w .store) r which laid (r .start .0 + i) (laid-at i h ∙ old .1 i h b)
+
+      -- an asked one becomes the job's new byte
+      renewed : (y : ℕ) → g .start .0 ≤ y → y < g .end .0 → laid y ≡ new y
+      renewed y h k =
+          let starts = place .asked-starts in
+          let ends = place .asked-ends in
+          let a : y ≡ r .start .0 + (x .stage .head .0 + (y - g .start .0)) = omega (arith, starts, h) in
+          let b : g .start .0 + (y - g .start .0) ≡ y = omega (arith, h) in
+          ap laid a ∙ laid-at (x .stage .head .0 + (y - g .start .0)) (omega (arith, starts, ends, h, k)) ∙ old .0 (y - g .start .0) (omega (arith, h, k)) ∙ ap new b
+
+      same : (y : ℕ) → changed (w .store) r which laid y ≡ changed (m .bytes) g which new y
+      same y = elim (decLt y (g .start .0)) [
+        | yes a ↦ beside (λ l h k. omega (arith, place .asked-starts, l, h, a)) ∙ I .same y ∙ sym (changed-off (m .bytes) g which new y (not-in-before g y a))
+        | no a ↦ elim (decLt y (g .end .0)) [
+          | yes b ↦ inside (omega (arith, a)) b
+          | no b ↦ beside (λ l h k. omega (arith, place .asked-starts, place .asked-some, l, k, b)) ∙ I .same y ∙ sym (changed-off (m .bytes) g which new y (not-in-behind g y (omega (arith, b))))
+        ]
+      ]
+        where
+          -- outside the asked range nothing changes
+          beside : (r .start .0 ≤ y → x .stage .head .0 ≤ y - r .start .0 → y - r .start .0 < x .stage .head .0 + sizeOf g → ⊥) → changed (w .store) r which laid y ≡ w .store y
+          beside f = go (inRange r y) refl
+            where
+              go : (t : Bool) → inRange r y ≡ t → changed (w .store) r which laid y ≡ w .store y
+              go true i =
+                  let l = leb-true (r .start .0) y (and-left _ _ i) in
+                  let u = ltb-true y (r .end .0) (and-right (leb (r .start .0) y) _ i) in
+                  let z : y ≡ r .start .0 + (y - r .start .0) = omega (arith, l) in
+                  ap (λ (n : ℕ). changed (w .store) r which laid n) z ∙ still (y - r .start .0) (omega (arith, l, u)) (f l) ∙ ap (w .store) (sym z)
+              go false i = changed-off (w .store) r which laid y i
+
+          inside : g .start .0 ≤ y → y < g .end .0 → changed (w .store) r which laid y ≡ changed (m .bytes) g which new y
+          inside h k =
+              both-in (w .store) (m .bytes) r g which laid new y (in-range r y (omega (arith, place .asked-starts, h)) (omega (arith, place .asked-ends, k))) (in-range g y h k) (renewed y h k) (I .same y)
+
+  -- ---- every request
+
+  carry-by : (ph : Phase) → x .phase ≡ ph → isPending ph ≡ true → Inv (carriesOut w p code c q) (carriedBy (m .jobs p) m p code c)
+  carry-by Free e k = never k
+  carry-by Ended e k = never k
+  carry-by DirectRead e k = carry-direct-read e
+  carry-by BouncedRead e k = carry-read e
+  carry-by FirstRead e k = carry-first e
+  carry-by SecondRead e k = carry-second e
+  carry-by BouncedWrite e k = carry-bounced-write e
+  carry-by DirectWrite e k = carry-direct-write e
+  carry-by ZeroRequest e k = carry-zero e
+  carry-by DiscardRequest e k = carry-discard e
+
+  pub carried-inv : Inv (carriesOut w p code c q) (carriedBy (m .jobs p) m p code c)
+  carried-inv = carry-by (x .phase) refl (O .pending)
