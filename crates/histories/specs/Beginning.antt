@@ -149,7 +149,7 @@ pub record Start (d : Dock) (j : Job) (v : IoVector) (memory bs : List ℕ) (x :
   pub before : isZeroJob (x .job) ≡ true → Before (x .course) (x .stage .asked) (x .range) (x .middle) []
   pub source : isWriteJob (x .job) ≡ true → bytesOf memory (segmentsOf v) ≡ bs
 
-bounced-puts : (x : State) (ph : Phase) → x .phase ≡ ph → isRegular x ≡ true → isBouncedWrite ph ≡ true → isWriteJob (x .job) ≡ true ⊎ isZeroJob (x .job) ≡ true
+pub bounced-puts : (x : State) (ph : Phase) → x .phase ≡ ph → isRegular x ≡ true → isBouncedWrite ph ≡ true → isWriteJob (x .job) ≡ true ⊎ isZeroJob (x .job) ≡ true
 bounced-puts x BouncedWrite p k e = by (x .course) (suited x k BouncedWrite p)
   where
     by : (c : Course) → puts c (x .job) ≡ true → isWriteJob (x .job) ≡ true ⊎ isZeroJob (x .job) ≡ true
@@ -234,9 +234,9 @@ module _ (w : World) (m : Plain) (I : Inv w m) (j : Job) (v : IoVector) (bs : Li
     range = refl;
     source = k .source;
     geo = k .shaped .geo;
-    zoned = k .shaped .zoned;
+    zoned = λ e. k .shaped .zoned;
     as-asked = k .shaped .as-asked;
-    before = k .before;
+    before = λ e. k .before;
     fact =
         opened-fact (d .settings) (d .settings .bounce) (w .store) (w .memory) (share (begun .scratch) (d .settings .bounce) p) x v job (k .shaped .geo) (k .shaped .unread) (k .ready .pending)
         (λ e i l.

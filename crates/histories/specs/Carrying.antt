@@ -195,7 +195,7 @@ module _ (w : World) (m : Plain) (I : Inv w m) (p : ℕ) (h : p < 8) (pending : 
                     geo = T .flight .geo;
                     zoned = T .flight .zoned;
                     as-asked = T .flight .as-asked;
-                    before = λ z. before-grows (stateAt (w .dock) p .course) _ _ _ (T .j .steps) steps' grows (T .flight .before z);
+                    before = λ e z. before-grows (stateAt (w .dock) p .course) _ _ _ (T .j .steps) steps' grows (T .flight .before e z);
                     fact = fact;
                     fresh = λ a. never (sym free ∙ a);
                   });

@@ -76,9 +76,9 @@ pub record Flight (t : Settings) (s : Bytes) (memory : List ℕ) (sh : ℕ → �
   pub range : j .first .range ≡ x .range
   pub source : isWriteJob (x .job) ≡ true → bytesOf memory (segmentsOf v) ≡ j .bytes
   pub geo : Geo (x .stage)
-  pub zoned : Zoned x
+  pub zoned : isPending (x .phase) ≡ true → Zoned x
   pub as-asked : AsAsked (x .phase) (x .stage)
-  pub before : isZeroJob (x .job) ≡ true → Before (x .course) (x .stage .asked) (x .range) (x .middle) (j .steps)
+  pub before : isPending (x .phase) ≡ true → isZeroJob (x .job) ≡ true → Before (x .course) (x .stage .asked) (x .range) (x .middle) (j .steps)
   pub fact : Fact (x .phase) s memory sh x v car j
   -- a job that waits has no request carried out, and has read nothing
   pub fresh : wait ≡ true → (car ≡ none) × Unread (x .phase) (x .stage)

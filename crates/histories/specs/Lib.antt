@@ -18,3 +18,4 @@ pub mod Renewing
 pub mod Beginning
 pub mod Carrying
 pub mod Serving
+pub mod Telling
