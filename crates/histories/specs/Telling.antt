@@ -14,6 +14,10 @@ use borrow.Author.Tests.{lt-ltb, le-leb, ltb-true, ltb-false, leb-true, eqb-true
 use Rattle.arithmetic.specs.Rounding.{pick}
 use Rattle.arithmetic.specs.SettingsLaws.{and-left, and-right, opened}
 use Rattle.arithmetic.specs.Settings.{settingsFit}
+use Rattle.arithmetic.specs.Zeroes.{chunkOf}
+use Rattle.arithmetic.specs.declared.zeroes.Chunk.{Chunk}
+use Rattle.arithmetic.specs.declared.zeroes.Chunk.the-variants.{Nothing as NoChunk, Next, Refused as ChunkRefused}
+use Rattle.arithmetic.specs.declared.offsets.StoreOffset.{StoreOffset}
 use Rattle.arithmetic.specs.declared.offsets.Range.{Range}
 use Rattle.arithmetic.specs.declared.settings.Settings.{Settings}
 use Rattle.arithmetic.specs.declared.refusals.Outcome.the-variants.{Done}
@@ -23,7 +27,7 @@ use Rattle.vectors.specs.ByteLaws.{scatter-length, scatter-others, gather-scatt
 use Rattle.vectors.specs.OverlapLaws.{overlap-sym, or-cases}
 use Rattle.vectors.specs.declared.vector.IoVector.{IoVector}
 use Rattle.blockers.specs.Blockers.{waitsOf}
-use Rattle.stages.specs.Stages.{sizeOf, isFree, isPending, isBlocking, usesBounce, inPhase, endedWith, stageDone, doneNext, unsupportedNext, toldOf}
+use Rattle.stages.specs.Stages.{sizeOf, isFree, isPending, isBlocking, usesBounce, inPhase, endedWith, laterStage, zeroesPlan, chunkBy, chunkNext, tailNext, headNext, stageDone, doneNext, unsupportedNext, toldOf}
 use Rattle.stages.specs.Laws.{Placed, Opens, Continues, Finishes, told-stays, told-ends, told-enters}
 use Rattle.stages.specs.declared.state.Job.{Job}
 use Rattle.stages.specs.declared.state.Job.the-variants.{Read, Write, Zeroes, AllocatedZeroes, Discard}
@@ -32,13 +36,15 @@ use Rattle.stages.specs.declared.state.Phase.the-variants.{Free, Ended, DirectR
 use Rattle.stages.specs.declared.state.Course.{Course}
 use Rattle.stages.specs.declared.state.Course.the-variants.{Last, Middle, Head, Chunks}
 use Rattle.stages.specs.declared.state.State.{State}
+use Rattle.stages.specs.declared.plan.Plan.{Plan}
+use Rattle.stages.specs.declared.plan.Plan.the-variants.{Done as NothingToDo, Started, Refused as PlanRefused}
 use Rattle.stages.specs.declared.told.Step.{Step}
 use Rattle.stages.specs.declared.told.Step.the-variants.{Stays, Ends, Enters}
-use Rattle.dock.specs.Dock.{noState, stateAt, vectorAt, lentFits, shareAt, isReadJob}
-use Rattle.dock.specs.Begin.{isWriteJob, isBouncedWrite, filled, blockersWith}
+use Rattle.dock.specs.Dock.{noState, noVector, stateAt, vectorAt, lentFits, shareAt, isReadJob}
+use Rattle.dock.specs.Begin.{isWriteJob, isBouncedWrite, sourceOf, filled, blockersWith}
 use Rattle.dock.specs.Tell.{Told, tells, accepted, blockersWithout, copiedAt, isBouncedRead, handed, stayed, ended, entered, after}
 use Rattle.dock.specs.declared.dock.Dock.{Dock}
-use Rattle.histories.specs.Courses.{isZeroJob, isDiscardJob, hasVector, isLast, isMiddle, puts, isRegular, suited, never, Goes, stays-regular, enters-regular}
+use Rattle.histories.specs.Courses.{isZeroJob, isDiscardJob, hasVector, isLast, isMiddle, puts, suits, isRegular, suited, never, Goes, stays-regular, enters-regular}
 use Rattle.histories.specs.Held.{Held, SlotOf}
 use Rattle.histories.specs.Calls.{write-vector, read-vector, direct-reads, pending-taken, copied, told-held}
 use Rattle.histories.specs.Store.{Bytes, inRange}
@@ -50,7 +56,7 @@ use Rattle.histories.specs.Progress.{Put, Before, Follows, Goes as Leads
 use Rattle.histories.specs.Invariant.{share, Fact, Flight, Within, within, no-padding}
 use Rattle.histories.specs.World.{Taken, Tracks, SlotInv, Inv, room, segments-lie, data-length, leave-waits, enter-waits}
 use Rattle.histories.specs.Renewing.{set-same, set-other, renewed-inv}
-use Rattle.histories.specs.Beginning.{fill-length, fill-other, fill-own, filled-none, filled-put, bounced-puts, opened-fact}
+use Rattle.histories.specs.Beginning.{source-long, fill-length, fill-other, fill-own, filled-none, filled-put, bounced-puts, opened-fact}
 
 -- ---- jobs and their steps
 
@@ -104,6 +110,44 @@ wrote-put ds r new k y h l = among-put (wrote r 0 new) y k (rw (le-leb (r .start
 
 zeroed-put : (ds : List Did) (r : Range) → Among (zeroed r 0) ds → Put ds (r .start .0) (r .end .0)
 zeroed-put ds r k y h l = among-put (zeroed r 0) y k (rw (le-leb (r .start .0) y h, lt-ltb y (r .end .0) l))
+
+-- what follows a stage of a zero job is no further phase of the same stage
+abbrev noStay : Step → Bool
+noStay (Stays y) = false
+noStay (Ends y) = true
+noStay (Enters y) = true
+
+later-on : (x : State) (p : Plan) → noStay (laterStage x p) ≡ true
+later-on x NothingToDo = refl
+later-on x (Started y) = refl
+later-on x (PlanRefused r) = refl
+
+chunk-by-on : (s : Settings) (x : State) (k : Chunk) → noStay (chunkBy s x k) ≡ true
+chunk-by-on s x NoChunk = refl
+chunk-by-on s x (Next r) = later-on x (zeroesPlan s (x .job) (x .range) (x .middle) Chunks r)
+chunk-by-on s x (ChunkRefused r) = refl
+
+chunk-goes-on : (s : Settings) (x : State) (o : StoreOffset) → noStay (chunkNext s x o) ≡ true
+unfolding chunkNext
+chunk-goes-on s x o = chunk-by-on s x (chunkOf s (record { start = o; end = x .range .end }))
+
+some-on : (t : Bool) (a b : Step) → noStay a ≡ true → noStay b ≡ true → noStay (pick t a b) ≡ true
+some-on true a b e f = e
+some-on false a b e f = f
+
+tail-on : (s : Settings) (x : State) → noStay (tailNext s x) ≡ true
+unfolding tailNext
+tail-on s x = some-on (ltb 0 (x .range .end .0 - x .middle .end .0)) _ (Ends (endedWith 0 x)) (later-on x (zeroesPlan s (x .job) (x .range) (x .middle) Last (record { start = x .middle .end; end = x .range .end }))) refl
+
+head-on : (s : Settings) (x : State) → noStay (headNext s x) ≡ true
+unfolding headNext
+head-on s x = some-on (ltb 0 (x .middle .start .0 - x .range .start .0)) _ (tailNext s x) (later-on x (zeroesPlan s (x .job) (x .range) (x .middle) Head (record { start = x .range .start; end = x .middle .start }))) (tail-on s x)
+
+done-goes-on : (s : Settings) (x : State) (c : Course) → noStay (stageDone c s x) ≡ true
+done-goes-on s x Last = refl
+done-goes-on s x Middle = head-on s x
+done-goes-on s x Head = tail-on s x
+done-goes-on s x Chunks = chunk-goes-on s x (x .stage .asked .end)
 
 -- ---- the slot whose request is told
 
@@ -218,3 +262,215 @@ module _ (w : World) (m : Plain) (I : Inv w m) (p : ℕ) (h : p < 8) (pending : 
           let k : i < sizeOf (x .stage .asked) = omega (arith, src-long, l) in
           let o : p * N + x .stage .head .0 + i ≡ p * N + (x .stage .head .0 + i) = omega arith in
           getD-take (sizeOf (x .stage .asked)) (drop (p * N + x .stage .head .0) (w .scratch)) i 0 k ∙ getD-drop (p * N + x .stage .head .0) (w .scratch) i 0 ∙ ap (λ (n : ℕ). getD (w .scratch) n 0) o ∙ f .3 i k)
+
+  -- ---- a write is done
+
+  owed-write : isWriteJob (x .job) ≡ true → Among (wrote (x .stage .asked) 0 (newBytes (x .job) (x .stage .asked .start .0) (T .j .bytes))) (T .j .steps) → (memory : List ℕ) → OwedBy (x .job) job' v memory
+  owed-write u k memory =
+      subst (λ (o : Job). OwedBy o job' v memory) (sym (write-is (x .job) u))
+      (newBytes (x .job) (x .stage .asked .start .0) (T .j .bytes), subst (λ (r : Range). Among (wrote r 0 (newBytes (x .job) (x .stage .asked .start .0) (T .j .bytes))) (T .j .steps)) (sym range-same) k, λ y i. byte y)
+    where
+      range-same : T .j .first .range ≡ x .stage .asked
+      range-same = T .flight .range ∙ sym (S .sole taken (write-vector (x .job) u))
+
+      byte : (y : ℕ) → newBytes (x .job) (x .stage .asked .start .0) (T .j .bytes) y ≡ getD (T .j .bytes) (y - T .j .first .range .start .0) 0
+      byte y =
+          ap (λ (o : Job). newBytes o (x .stage .asked .start .0) (T .j .bytes) y) (write-is (x .job) u)
+          ∙ ap (λ (r : Range). getD (T .j .bytes) (y - r .start .0) 0) (sym range-same)
+
+  -- ---- a stage of a zero job is done, or its zero request is unsupported
+
+  zone : isZeroJob (x .job) ≡ true → Zone (x .course) (x .stage .asked) (x .range) (x .middle)
+  zone z = T .flight .zoned pending (zero-no-discard (x .job) z)
+
+  owed-zero : isZeroJob (x .job) ≡ true → Put (T .j .steps) (x .range .start .0) (x .range .end .0) → (memory : List ℕ) → OwedBy (x .job) job' v memory
+  owed-zero z f memory = zero-owed (x .job) job' v memory z (subst (λ (r : Range). Put (T .j .steps) (r .start .0) (r .end .0)) (sym (T .flight .range)) f)
+
+  good-of : isZeroJob (x .job) ≡ true → (t : Step) → Leads (T .j .steps) x t → noStay t ≡ true → Good t
+  good-of z (Stays y) k e = never e
+  good-of z (Ends y) k e = λ a. owed-zero z (k a) handing
+  good-of z (Enters y) k e = k
+
+  good-zero : isZeroJob (x .job) ≡ true → (c : Course) → x .course ≡ c → Put (T .j .steps) (x .stage .asked .start .0) (x .stage .asked .end .0) → Good (stageDone c (w .dock .settings) x)
+  good-zero z c e f =
+      good-of z (stageDone c (w .dock .settings) x)
+      (done-goes (w .dock .settings) fit (T .j .steps) x c (omega (arith, place .asked-some)) (subst (λ (k : Course). Zone k (x .stage .asked) (x .range) (x .middle)) e (zone z))
+      (subst (λ (k : Course). Before k (x .stage .asked) (x .range) (x .middle) (T .j .steps)) e (T .flight .before pending z)) f)
+      (done-goes-on (w .dock .settings) x c)
+
+  good-chunks : isZeroJob (x .job) ≡ true → Good (chunkNext (w .dock .settings) x (x .range .start))
+  good-chunks z =
+      good-of z (chunkNext (w .dock .settings) x (x .range .start))
+      (chunk-goes (w .dock .settings) fit (T .j .steps) x (x .range .start) (omega arith) (λ y a b. absurd (omega arith))) (chunk-goes-on (w .dock .settings) x (x .range .start))
+
+  good-bounced-write : x .phase ≡ BouncedWrite → code ≡ 0 → Good (stageDone (x .course) (w .dock .settings) x)
+  good-bounced-write e z = by (x .course) refl (suited x (S .regular) BouncedWrite e)
+    where
+      wrote-it : Among (wrote (x .stage .asked) 0 (newBytes (x .job) (x .stage .asked .start .0) (T .j .bytes))) (T .j .steps)
+      wrote-it = fact-at BouncedWrite e z .2 refl
+
+      put-it : Put (T .j .steps) (x .stage .asked .start .0) (x .stage .asked .end .0)
+      put-it = wrote-put (T .j .steps) (x .stage .asked) (newBytes (x .job) (x .stage .asked .start .0) (T .j .bytes)) wrote-it
+
+      by : (c : Course) → x .course ≡ c → puts c (x .job) ≡ true → Good (stageDone c (w .dock .settings) x)
+      by Last i k = ⊎-elim (λ u. λ a. owed-write u wrote-it handing) (λ u. good-zero u Last i put-it) (or-cases (isWriteJob (x .job)) (isZeroJob (x .job)) k)
+      by Middle i k = never k
+      by Head i k = good-zero k Head i put-it
+      by Chunks i k = good-zero k Chunks i put-it
+
+  zero-phase : x .phase ≡ ZeroRequest → isZeroJob (x .job) ≡ true
+  zero-phase e = and-right (isMiddle (x .course)) _ (suited x (S .regular) ZeroRequest e)
+
+  good-zero-request : x .phase ≡ ZeroRequest → code ≡ 0 → Good (stageDone (x .course) (w .dock .settings) x)
+  good-zero-request e z =
+      let as-asked : x .stage .asked ≡ x .stage .request = subst (λ (ph : Phase). AsAsked ph (x .stage)) e (T .flight .as-asked) in
+      good-zero (zero-phase e) (x .course) refl
+      (subst (λ (r : Range). Put (T .j .steps) (r .start .0) (r .end .0)) (sym as-asked) (zeroed-put (T .j .steps) (x .stage .request) (fact-at ZeroRequest e z refl)))
+
+  owed-discard : x .phase ≡ DiscardRequest → (memory : List ℕ) → OwedBy (x .job) job' v memory
+  owed-discard e memory = subst (λ (o : Job). OwedBy o job' v memory) (sym (discard-is (x .job) (and-right (isLast (x .course)) _ (suited x (S .regular) DiscardRequest e)))) tt
+
+  -- ---- a padded write has read
+
+  fits : isWriteJob (x .job) ≡ true → copies (w .memory) v (sizeOf (x .stage .asked)) ≡ true
+  fits u = has-bytes (write-vector (x .job) u)
+
+  -- once all is read: what is beside the asked bytes is the store's, and the asked ones are filled in
+  good-filled : usesBounce (x .phase) ≡ true → isRegular (inPhase BouncedWrite x) ≡ true → ((i : ℕ) → i < sizeOf (x .stage .request) → Beside (x .stage) i → share (w .scratch) N p i ≡ w .store (x .stage .request .start .0 + i))
+      → Good (Stays (inPhase BouncedWrite x))
+  good-filled u k f =
+      ((λ i l. fill-own N p h (inPhase BouncedWrite x) v (w .memory) (w .scratch) (room w m I) (λ b. inside) fits refl (T .j .bytes) (T .flight .source) (bounced-puts (inPhase BouncedWrite x) BouncedWrite refl k refl) (x .stage .asked .start .0) i l),
+      (λ i l b. kept i l b ∙ f i l b), λ c. none-some c)
+    where
+      inside : x .stage .head .0 + sizeOf (x .stage .asked) ≤ N
+      inside = within N x (S .sound) u .whole
+
+      none-some : {A : Type 0} → _≡_ {A = Option ℕ} none (some 0) → A
+      none-some e = let z : _≡_ {A = ℕ} 0 1 = cc in absurd (omega arith)
+
+      src : List ℕ
+      src = sourceOf (x .job) v (sizeOf (x .stage .asked)) (w .memory)
+
+      src-long : length src ≡ sizeOf (x .stage .asked)
+      src-long = source-long (x .job) v (sizeOf (x .stage .asked)) (w .memory) fits
+
+      kept : (i : ℕ) → i < sizeOf (x .stage .request) → Beside (x .stage) i → share (filling (inPhase BouncedWrite x)) N p i ≡ share (w .scratch) N p i
+      kept i l b =
+          ap (λ (t : List ℕ). share t N p i) (filled-put N p (inPhase BouncedWrite x) v (w .memory) (w .scratch) fits refl)
+          ∙ share-put-off (w .scratch) N p (x .stage .head .0) src h (room w m I) (omega (arith, src-long, inside)) i (side i b)
+        where
+          side : (i : ℕ) → Beside (x .stage) i → (i < x .stage .head .0) ⊎ (x .stage .head .0 + length src ≤ i)
+          side i b = elim (decLt i (x .stage .head .0)) [
+            | yes a ↦ inl a
+            | no a ↦ elim (decLt i (x .stage .head .0 + sizeOf (x .stage .asked))) [
+              | yes c ↦ absurd (b (omega arith) c)
+              | no c ↦ inr (omega (arith, src-long, c))
+            ]
+          ]
+
+  regular-written : (ph : Phase) → x .phase ≡ ph → (suits ph (x .course) (x .job) ≡ true → puts (x .course) (x .job) ≡ true) → isRegular (inPhase BouncedWrite x) ≡ true
+  unfolding isRegular
+  regular-written ph e f = simp (f (suited x (S .regular) ph e))
+
+  good-second : x .phase ≡ SecondRead → code ≡ 0 → Good (Stays (inPhase BouncedWrite x))
+  good-second e z =
+      good-filled (ap usesBounce e) (regular-written SecondRead e (λ k. k)) (λ i l b. fact-at SecondRead e z .1 refl i l (T .flight .geo .cover i l b))
+
+  good-first : x .phase ≡ FirstRead → code ≡ 0 → (t : Bool) → ltb 0 (sizeOf (x .stage .second)) ≡ t → Good (Stays (inPhase (pick t SecondRead BouncedWrite) x))
+  good-first e z true k = ((λ c i l. ap (λ (t : List ℕ). share t N p i) (filled-none N p (inPhase SecondRead x) v (w .memory) (w .scratch) fits refl) ∙ fact-at FirstRead e z refl i l), λ c. none-some c)
+    where
+      none-some : {A : Type 0} → _≡_ {A = Option ℕ} none (some 0) → A
+      none-some e = let z : _≡_ {A = ℕ} 0 1 = cc in absurd (omega arith)
+  good-first e z false k =
+      good-filled (ap usesBounce e) (regular-written FirstRead e (λ k. k)) (λ i l b.
+      ⊎-elim (λ a. fact-at FirstRead e z refl i a) (λ a. absurd (let n = ltb-false 0 (sizeOf (x .stage .second)) k in omega (arith, n, a .0))) (T .flight .geo .cover i l b))
+
+  -- ---- every code
+
+  good-done : (ph : Phase) → x .phase ≡ ph → isPending ph ≡ true → code ≡ 0 → Good (doneNext ph (w .dock .settings) x)
+  good-done Free e k z = never k
+  good-done Ended e k z = never k
+  good-done DirectRead e k z = λ a. good-direct-read e z
+  good-done BouncedRead e k z = λ a. good-read e z
+  good-done FirstRead e k z = good-first e z (ltb 0 (sizeOf (x .stage .second))) refl
+  good-done SecondRead e k z = good-second e z
+  good-done BouncedWrite e k z = good-bounced-write e z
+  good-done DirectWrite e k z = λ a. owed-write (and-right (isLast (x .course)) _ (suited x (S .regular) DirectWrite e)) (fact-at DirectWrite e z refl) handing
+  good-done ZeroRequest e k z = good-zero-request e z
+  good-done DiscardRequest e k z = λ a. owed-discard e handing
+
+  failed : {A : Type 0} → _≡_ {A = ℕ} 1 0 → A
+  failed e = absurd (omega arith)
+
+  good-unsupported : (ph : Phase) → x .phase ≡ ph → Good (unsupportedNext ph (w .dock .settings) x)
+  good-unsupported ZeroRequest e = good-chunks (zero-phase e)
+  good-unsupported DiscardRequest e = λ a. owed-discard e handing
+  good-unsupported Free e = λ a. failed a
+  good-unsupported Ended e = λ a. failed a
+  good-unsupported DirectRead e = λ a. failed a
+  good-unsupported BouncedRead e = λ a. failed a
+  good-unsupported FirstRead e = λ a. failed a
+  good-unsupported SecondRead e = λ a. failed a
+  good-unsupported BouncedWrite e = λ a. failed a
+  good-unsupported DirectWrite e = λ a. failed a
+
+  good : Good (toldOf (w .dock .settings) x code)
+  unfolding toldOf
+  good = go (eqb code 0) (eqb code 1) refl
+    where
+      go : (a b : Bool) → eqb code 0 ≡ a → Good (pick a (doneNext (x .phase) (w .dock .settings) x) (pick b (unsupportedNext (x .phase) (w .dock .settings) x) (Ends (endedWith code x))))
+      go true b e = good-done (x .phase) refl pending (eqb-true code 0 e)
+      go false true e = good-unsupported (x .phase) refl
+      go false false e = λ a. never (sym e ∙ eq-eqb code 0 a)
+
+  -- ---- the two sides after it
+
+  abbrev toldWorld : Step → World
+  toldWorld t = record { dock = after (w .dock) p x code (w .memory) (w .scratch) t .dock; store = w .store; memory = after (w .dock) p x code (w .memory) (w .scratch) t .memory; scratch = after (w .dock) p x code (w .memory) (w .scratch) t .scratch; carried = setAt (w .carried) p none }
+
+  abbrev toldPlain : Plain
+  toldPlain = record { settings = m .settings; buffers = m .buffers; bytes = m .bytes; jobs = setAt (m .jobs) p (some job') }
+
+  stands : (t : Step) → toldOf (w .dock .settings) x code ≡ t → standing (w .dock .settings) (T .j .first) (code ∷ T .j .codes) ≡ stateOf t
+  stands t e = ap (λ (y : State). stateOf (toldOf (w .dock .settings) y code)) (T .flight .stands) ∙ ap stateOf e
+
+  state-other : (y : State) (q : ℕ) → q ≢ p → getD (set (w .dock .states) p y) q noState ≡ stateAt (w .dock) q
+  state-other y q n = getD-set-other (w .dock .states) p q y noState n
+
+  state-own : (y : State) → getD (set (w .dock .states) p y) p noState ≡ y
+  state-own y = getD-set-same (w .dock .states) p y noState (rw (I .held .states) h)
+
+  -- the job's data is apart from that of others as before
+  still-apart : (y : State) → y .job ≡ x .job → (q : ℕ) → q < 8 → q ≢ p → Taken (w .dock) q → (isReadJob (y .job) || isReadJob (stateAt (w .dock) q .job)) ≡ true → overlapOf (segmentsOf v) (segmentsOf (vectorAt (w .dock) q)) ≡ false
+  still-apart y e q g n u r =
+      ⊎-elim (λ a. I .apart p q h g (λ z. n (sym z)) taken u (rw e at a)) (λ a. overlap-sym (segmentsOf v) (segmentsOf (vectorAt (w .dock) q)) ∙ I .apart q p g h n u taken a)
+      (or-cases (isReadJob (y .job)) (isReadJob (stateAt (w .dock) q .job)) r)
+
+  -- a slot with the job y, where its facts are given
+  module _ (t : Step) (y : State) (e : toldOf (w .dock .settings) x code ≡ t) (same-job : y .job ≡ x .job) (states : after (w .dock) p x code (w .memory) (w .scratch) t .dock .states ≡ set (w .dock .states) p y)
+      (vectors : after (w .dock) p x code (w .memory) (w .scratch) t .dock .vectors ≡ w .dock .vectors) (settings : after (w .dock) p x code (w .memory) (w .scratch) t .dock .settings ≡ w .dock .settings) (buffers : after (w .dock) p x code (w .memory) (w .scratch) t .dock .buffers ≡ w .dock .buffers)
+      (data-same : (q : ℕ) → q < 8 → q ≢ p → Taken (w .dock) q → hasVector (stateAt (w .dock) q .job) ≡ true → bytesOf (after (w .dock) p x code (w .memory) (w .scratch) t .memory) (segmentsOf (vectorAt (w .dock) q)) ≡ bytesOf (w .memory) (segmentsOf (vectorAt (w .dock) q)))
+      (share-same : (q i : ℕ) → q ≢ p → i < N → share (after (w .dock) p x code (w .memory) (w .scratch) t .scratch) N q i ≡ share (w .scratch) N q i)
+      (wait-less : (q : ℕ) → q < 8 → q ≢ p → waitsOf q (after (w .dock) p x code (w .memory) (w .scratch) t .dock .blockers) ≡ true → waitsOf q (w .dock .blockers) ≡ true)
+      (held : Held (after (w .dock) p x code (w .memory) (w .scratch) t .dock))
+      (fits-lent : lentFits (w .dock .buffers) (length (after (w .dock) p x code (w .memory) (w .scratch) t .memory)) (length (after (w .dock) p x code (w .memory) (w .scratch) t .scratch)) ≡ true)
+      (flies : Flight (w .dock .settings) (w .store) (after (w .dock) p x code (w .memory) (w .scratch) t .memory) (share (after (w .dock) p x code (w .memory) (w .scratch) t .scratch) N p) y v none (waitsOf p (after (w .dock) p x code (w .memory) (w .scratch) t .dock .blockers)) job') where
+    is-y : stateAt (toldWorld t .dock) p ≡ y
+    is-y = ap (λ (l : List State). getD l p noState) states ∙ state-own y
+
+    is-v : (q : ℕ) → vectorAt (toldWorld t .dock) q ≡ vectorAt (w .dock) q
+    is-v q = ap (λ (l : List IoVector). getD l q noVector) vectors
+
+    slot-inv : SlotInv (toldWorld t) toldPlain p
+    slot-inv = record {
+      idle = λ f. set-same (w .carried) p none;
+      tracks = λ f. record { j = job'; is = set-same (m .jobs) p (some job'); flight = rw (settings, is-y, is-v p, set-same (w .carried) p none) flies };
+    }
+
+    told-step : Inv (toldWorld t) toldPlain
+    told-step =
+        renewed-inv w (toldWorld t) m toldPlain I p h settings buffers refl refl
+        (λ q n. ap (λ (l : List State). getD l q noState) states ∙ state-other y q n) (λ q n. is-v q) (λ q n. set-other (w .carried) p q none n) (λ q n. set-other (m .jobs) p q (some job') n)
+        data-same share-same (λ q g n a b k i l. refl) wait-less held fits-lent (I .same) slot-inv
+        (λ q g n f u r. rw (is-v p) (still-apart y same-job q g n u (rw is-y at r)))
+        (λ f r. rw (is-v p) (I .alone p h taken (subst (λ (k : Job). isReadJob k ≡ true) same-job (rw is-y at r))))
