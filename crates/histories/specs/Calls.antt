@@ -124,7 +124,7 @@ read-vector Discard e = e
 pub direct-reads : (x : State) → isRegular x ≡ true → x .phase ≡ DirectRead → isReadJob (x .job) ≡ true
 direct-reads x k e = and-right (isLast (x .course)) _ (suited x k DirectRead e)
 
-bounced-reads : (ph : Phase) (x : State) → x .phase ≡ ph → isRegular x ≡ true → isBouncedRead ph ≡ true → isReadJob (x .job) ≡ true
+pub bounced-reads : (ph : Phase) (x : State) → x .phase ≡ ph → isRegular x ≡ true → isBouncedRead ph ≡ true → isReadJob (x .job) ≡ true
 bounced-reads BouncedRead x p k e = and-right (isLast (x .course)) _ (suited x k BouncedRead p)
 bounced-reads Free x p k e = never e
 bounced-reads Ended x p k e = never e

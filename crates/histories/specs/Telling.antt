@@ -40,13 +40,14 @@ use Rattle.stages.specs.declared.plan.Plan.{Plan}
 use Rattle.stages.specs.declared.plan.Plan.the-variants.{Done as NothingToDo, Started, Refused as PlanRefused}
 use Rattle.stages.specs.declared.told.Step.{Step}
 use Rattle.stages.specs.declared.told.Step.the-variants.{Stays, Ends, Enters}
-use Rattle.dock.specs.Dock.{noState, noVector, stateAt, vectorAt, lentFits, shareAt, isReadJob}
+use Rattle.dock.specs.Dock.{noState, noVector, vacant, stateAt, vectorAt, lentFits, shareAt, isReadJob}
 use Rattle.dock.specs.Begin.{isWriteJob, isBouncedWrite, sourceOf, filled, blockersWith}
 use Rattle.dock.specs.Tell.{Told, tells, accepted, blockersWithout, copiedAt, isBouncedRead, handed, stayed, ended, entered, after}
 use Rattle.dock.specs.declared.dock.Dock.{Dock}
 use Rattle.histories.specs.Courses.{isZeroJob, isDiscardJob, hasVector, isLast, isMiddle, puts, suits, isRegular, suited, never, Goes, stays-regular, enters-regular}
 use Rattle.histories.specs.Held.{Held, SlotOf}
-use Rattle.histories.specs.Calls.{write-vector, read-vector, direct-reads, pending-taken, copied, told-held}
+use Rattle.histories.specs.Calls.{write-vector, read-vector, direct-reads, bounced-reads, pending-taken, copied, told-held}
+use Rattle.histories.specs.Keeping.{Changes, leave-changes}
 use Rattle.histories.specs.Store.{Bytes, inRange}
 use Rattle.histories.specs.PlainStore.{Did, yielded, wrote, zeroed, Tracked, Plain, newBytes, standing, stateOf, setAt}
 use Rattle.histories.specs.Histories.{World, Among, here, later, puts as putsAt, putBy, OwedBy}
@@ -87,6 +88,24 @@ zero-no-discard AllocatedZeroes e = refl
 zero-no-discard Read e = refl
 zero-no-discard Write e = refl
 zero-no-discard Discard e = sym e
+
+read-no-write : (j : Job) → isReadJob j ≡ true → isWriteJob j ≡ false
+read-no-write Read e = refl
+read-no-write Write e = sym e
+read-no-write Zeroes e = refl
+read-no-write AllocatedZeroes e = refl
+read-no-write Discard e = refl
+
+zero-no-write : (j : Job) → isZeroJob j ≡ true → isWriteJob j ≡ false
+zero-no-write Read e = refl
+zero-no-write Write e = sym e
+zero-no-write Zeroes e = refl
+zero-no-write AllocatedZeroes e = refl
+zero-no-write Discard e = refl
+
+vacant-unblocked : isBlocking (vacant .phase) ≡ false
+unfolding vacant
+vacant-unblocked = refl
 
 -- what a zero job that has put its whole range is owed
 zero-owed : (k : Job) (j : Tracked) (v : IoVector) (memory : List ℕ) → isZeroJob k ≡ true → Put (j .steps) (j .first .range .start .0) (j .first .range .end .0) → OwedBy k j v memory
@@ -167,7 +186,7 @@ module _ (w : World) (m : Plain) (I : Inv w m) (p : ℕ) (h : p < 8) (pending : 
   taken : Taken (w .dock) p
   taken = pending-taken (x .phase) pending
 
-  T : Tracks w m p
+  pub T : Tracks w m p
   T = I .slots p h .tracks taken
 
   place : Placed (x .stage)
@@ -195,7 +214,7 @@ module _ (w : World) (m : Plain) (I : Inv w m) (p : ℕ) (h : p < 8) (pending : 
   filling y = filled (p * N) y v (w .memory) (w .scratch) .scratch
 
   abbrev Good : Step → Type 0
-  Good (Stays y) = Fact (y .phase) (w .store) (w .memory) (share (filling y) N p) y v none job'
+  Good (Stays y) = AsAsked (y .phase) (y .stage) × Fact (y .phase) (w .store) (w .memory) (share (filling y) N p) y v none job'
   Good (Ends y) = y .answer ≡ 0 → OwedBy (x .job) job' v handing
   Good (Enters y) = Follows (T .j .steps) y
 
@@ -339,8 +358,8 @@ module _ (w : World) (m : Plain) (I : Inv w m) (p : ℕ) (h : p < 8) (pending : 
   good-filled : usesBounce (x .phase) ≡ true → isRegular (inPhase BouncedWrite x) ≡ true → ((i : ℕ) → i < sizeOf (x .stage .request) → Beside (x .stage) i → share (w .scratch) N p i ≡ w .store (x .stage .request .start .0 + i))
       → Good (Stays (inPhase BouncedWrite x))
   good-filled u k f =
-      ((λ i l. fill-own N p h (inPhase BouncedWrite x) v (w .memory) (w .scratch) (room w m I) (λ b. inside) fits refl (T .j .bytes) (T .flight .source) (bounced-puts (inPhase BouncedWrite x) BouncedWrite refl k refl) (x .stage .asked .start .0) i l),
-      (λ i l b. kept i l b ∙ f i l b), λ c. none-some c)
+      (tt, ((λ i l. fill-own N p h (inPhase BouncedWrite x) v (w .memory) (w .scratch) (room w m I) (λ b. inside) fits refl (T .j .bytes) (T .flight .source) (bounced-puts (inPhase BouncedWrite x) BouncedWrite refl k refl) (x .stage .asked .start .0) i l),
+      (λ i l b. kept i l b ∙ f i l b), λ c. none-some c))
     where
       inside : x .stage .head .0 + sizeOf (x .stage .asked) ≤ N
       inside = within N x (S .sound) u .whole
@@ -377,7 +396,7 @@ module _ (w : World) (m : Plain) (I : Inv w m) (p : ℕ) (h : p < 8) (pending : 
       good-filled (ap usesBounce e) (regular-written SecondRead e (λ k. k)) (λ i l b. fact-at SecondRead e z .1 refl i l (T .flight .geo .cover i l b))
 
   good-first : x .phase ≡ FirstRead → code ≡ 0 → (t : Bool) → ltb 0 (sizeOf (x .stage .second)) ≡ t → Good (Stays (inPhase (pick t SecondRead BouncedWrite) x))
-  good-first e z true k = ((λ c i l. ap (λ (t : List ℕ). share t N p i) (filled-none N p (inPhase SecondRead x) v (w .memory) (w .scratch) fits refl) ∙ fact-at FirstRead e z refl i l), λ c. none-some c)
+  good-first e z true k = (tt, ((λ c i l. ap (λ (t : List ℕ). share t N p i) (filled-none N p (inPhase SecondRead x) v (w .memory) (w .scratch) fits refl) ∙ fact-at FirstRead e z refl i l), λ c. none-some c))
     where
       none-some : {A : Type 0} → _≡_ {A = Option ℕ} none (some 0) → A
       none-some e = let z : _≡_ {A = ℕ} 0 1 = cc in absurd (omega arith)
@@ -474,3 +493,132 @@ module _ (w : World) (m : Plain) (I : Inv w m) (p : ℕ) (h : p < 8) (pending : 
         data-same share-same (λ q g n a b k i l. refl) wait-less held fits-lent (I .same) slot-inv
         (λ q g n f u r. rw (is-v p) (still-apart y same-job q g n u (rw is-y at r)))
         (λ f r. rw (is-v p) (I .alone p h taken (subst (λ (k : Job). isReadJob k ≡ true) same-job (rw is-y at r))))
+
+  held-after : (t : Step) → toldOf (w .dock .settings) x code ≡ t → Held (after (w .dock) p x code (w .memory) (w .scratch) t .dock)
+  held-after t e = subst (λ (k : Step). Held (after (w .dock) p x code (w .memory) (w .scratch) k .dock)) e (told-held (w .dock) (I .held) p h pending code (w .memory) (w .scratch) long)
+
+  -- ---- the stage goes on
+
+  stays-inv : (y : State) → toldOf (w .dock .settings) x code ≡ Stays y → Good (Stays y) → Inv (toldWorld (Stays y)) toldPlain
+  stays-inv y e k =
+      told-step (Stays y) y e (C .job) refl refl refl refl (λ q g n f u. refl) (λ q i n l. fill-other N p h y v (w .memory) (w .scratch) (room w m I) inside y-fits q i n l) (λ q g n a. a) (held-after (Stays y) e)
+      (rw (fill-length N p h y v (w .memory) (w .scratch) (room w m I) inside y-fits) (I .long))
+      (record {
+        stands = stands (Stays y) e;
+        job = T .flight .job ∙ sym (C .job);
+        range = T .flight .range ∙ sym (C .range);
+        source = λ u. T .flight .source (rw (C .job) at u);
+        geo = rw (C .stage) (T .flight .geo);
+        zoned = λ a d. rw (C .course, C .stage, C .range, C .middle) (T .flight .zoned pending (rw (C .job) at d));
+        as-asked = k .0;
+        before = λ a z. rw (C .course, C .stage, C .range, C .middle) (T .flight .before pending (rw (C .job) at z));
+        fact = k .1;
+        fresh = λ a. never (sym free ∙ a);
+      })
+    where
+      C : Continues (w .dock .settings .bounce) x y
+      C = told-stays (w .dock .settings) x code y e
+
+      inside : usesBounce (y .phase) ≡ true → y .stage .head .0 + sizeOf (y .stage .asked) ≤ N
+      inside u = within N y (C .sound (S .sound)) u .whole
+
+      y-fits : isWriteJob (y .job) ≡ true → copies (w .memory) v (sizeOf (y .stage .asked)) ≡ true
+      y-fits u = rw (C .stage) (fits (rw (C .job) at u))
+
+  -- ---- the job ends
+
+  handed-late : eqb code 0 ≡ false → handing ≡ w .memory
+  unfolding handed
+  handed-late e = go (isBouncedRead (x .phase)) (eqb code 0) e
+    where
+      go : (t c : Bool) → c ≡ false → pick (t && c) (copiedAt (p * N + x .stage .head .0) (sizeOf (x .stage .asked)) v (w .memory) (w .scratch)) (record { memory = w .memory; outcome = Done }) .memory ≡ w .memory
+      go true true e = never (sym e)
+      go true false e = refl
+      go false c e = refl
+
+  -- what is handed out goes into the segments of a read, and nowhere else
+  handed-cases : (P : List ℕ → Type 0) → P (w .memory) → (isReadJob (x .job) ≡ true → (src : List ℕ) → P (scatterOf (w .memory) (segmentsOf v) src)) → P handing
+  handed-cases P a b = go (isBouncedRead (x .phase)) (eqb code 0) refl refl
+    where
+      go : (t c : Bool) → isBouncedRead (x .phase) ≡ t → eqb code 0 ≡ c → P handing
+      go true true e f = let r = bounced-reads (x .phase) x refl (S .regular) e in subst P (sym (is-handed e (eqb-true code 0 f) (read-vector (x .job) r))) (b r _)
+      go true false e f = subst P (sym (handed-late f)) a
+      go false c e f = subst P (sym (not-handed e)) a
+
+  ends-inv : (y : State) → toldOf (w .dock .settings) x code ≡ Ends y → Good (Ends y) → Inv (toldWorld (Ends y)) toldPlain
+  ends-inv y e k =
+      told-step (Ends y) y e (F .job) refl refl refl refl
+      (λ q g n f u.
+      handed-cases (λ (l : List ℕ). bytesOf l (segmentsOf (vectorAt (w .dock) q)) ≡ bytesOf (w .memory) (segmentsOf (vectorAt (w .dock) q))) refl
+      (λ r src.
+      scatter-others (w .memory) (segmentsOf (vectorAt (w .dock) q)) (segmentsOf v) src (segments-lie w m I q g f u) (segments-lie w m I p h taken (read-vector (x .job) r))
+      (overlap-sym (segmentsOf (vectorAt (w .dock) q)) (segmentsOf v) ∙ I .apart p q h g (λ z. n (sym z)) taken f r)))
+      (λ q i n l. refl) (λ q g n. leave-waits (w .dock .blockers) (I .held .rank) (I .held .clock) (I .held .blockers) p q h g n x (S .entered)) (held-after (Ends y) e)
+      (handed-cases (λ (l : List ℕ). lentFits (w .dock .buffers) (length l) (length (w .scratch)) ≡ true) (I .long) (λ r src. rw (scatter-length (w .memory) (segmentsOf v) src (segments-lie w m I p h taken (read-vector (x .job) r))) (I .long)))
+      (record {
+        stands = stands (Ends y) e;
+        job = T .flight .job ∙ sym (F .job);
+        range = T .flight .range ∙ sym (F .range);
+        source = λ u.
+            let writes : isWriteJob (x .job) ≡ true = rw (F .job) at u in
+            handed-cases (λ (l : List ℕ). bytesOf l (segmentsOf v) ≡ T .j .bytes) (T .flight .source writes) (λ r src. never (sym (read-no-write (x .job) r) ∙ writes));
+        geo = rw (F .stage) (T .flight .geo);
+        zoned = λ a. never (sym (ap isPending (F .phase)) ∙ a);
+        as-asked = rw (F .phase) tt;
+        before = λ a. never (sym (ap isPending (F .phase)) ∙ a);
+        fact = subst (λ (ph : Phase). Fact ph (w .store) handing (share (w .scratch) N p) y v none job') (sym (F .phase)) (λ a. subst (λ (o : Job). OwedBy o job' v handing) (sym (F .job)) (k a));
+        fresh = λ a. (refl, rw (F .phase) tt);
+      })
+    where
+      F : Finishes x y
+      F = told-ends (w .dock .settings) x code y e
+
+  -- ---- the job enters its next stage
+
+  enters-inv : (y : State) → toldOf (w .dock .settings) x code ≡ Enters y → Good (Enters y) → Inv (toldWorld (Enters y)) toldPlain
+  enters-inv y e k =
+      told-step (Enters y) y e (O .job) refl refl refl refl (λ q g n f u. refl) (λ q i n l. fill-other N p h y v (w .memory) (w .scratch) (room w m I) inside y-fits q i n l) wait-less (held-after (Enters y) e)
+      (rw (fill-length N p h y v (w .memory) (w .scratch) (room w m I) inside y-fits) (I .long))
+      (record {
+        stands = stands (Enters y) e;
+        job = T .flight .job ∙ sym (O .job);
+        range = T .flight .range ∙ sym (O .range);
+        source = λ u. T .flight .source (rw (O .job) at u);
+        geo = k .shaped .geo;
+        zoned = λ a. k .shaped .zoned;
+        as-asked = k .shaped .as-asked;
+        before = λ a z. k .before;
+        fact =
+            opened-fact (w .dock .settings) N (w .store) (w .memory) (share (filling y) N p) y v job' (k .shaped .geo) (k .shaped .unread) (O .pending)
+            (λ b i l.
+            fill-own N p h y v (w .memory) (w .scratch) (room w m I) inside y-fits b (T .j .bytes) (λ u. T .flight .source (rw (O .job) at u)) (bounced-puts y (y .phase) refl (Z .1) b) (y .stage .asked .start .0) i l);
+        fresh = λ a. (refl, k .shaped .unread);
+      })
+    where
+      O : Opens (w .dock .settings) (x .job) (x .range) y
+      O = told-enters (w .dock .settings) x code y e
+
+      Z : (isZeroJob (x .job) ≡ true) × (isRegular y ≡ true)
+      Z = enters-regular (w .dock .settings) x (S .regular) code y e
+
+      inside : usesBounce (y .phase) ≡ true → y .stage .head .0 + sizeOf (y .stage .asked) ≤ N
+      inside u = within N y (O .sound) u .whole
+
+      y-fits : isWriteJob (y .job) ≡ true → copies (w .memory) v (sizeOf (y .stage .asked)) ≡ true
+      y-fits u = never (sym (zero-no-write (x .job) (Z .0)) ∙ (rw (O .job) at u))
+
+      gone : Changes (w .dock .blockers) p vacant (blockersWithout (w .dock .blockers) p x)
+      gone = leave-changes (w .dock .blockers) p vacant (I .held .rank) (I .held .clock) (I .held .blockers) h x (S .entered) vacant-unblocked
+
+      wait-less : (q : ℕ) → q < 8 → q ≢ p → waitsOf q (after (w .dock) p x code (w .memory) (w .scratch) (Enters y) .dock .blockers) ≡ true → waitsOf q (w .dock .blockers) ≡ true
+      wait-less q g n a =
+          leave-waits (w .dock .blockers) (I .held .rank) (I .held .clock) (I .held .blockers) p q h g n x (S .entered)
+          (enter-waits (blockersWithout (w .dock .blockers) p x .blockers) (gone .rank) (gone .clock) (gone .reached) p q h g n y (gone .entered ∙ vacant-unblocked) a)
+
+  by-step : (t : Step) → toldOf (w .dock .settings) x code ≡ t → Good t → Inv (toldWorld t) toldPlain
+  by-step (Stays y) e k = stays-inv y e k
+  by-step (Ends y) e k = ends-inv y e k
+  by-step (Enters y) e k = enters-inv y e k
+
+  pub told-inv : Inv (toldWorld (toldOf (w .dock .settings) x code)) toldPlain
+  told-inv = by-step (toldOf (w .dock .settings) x code) refl good
