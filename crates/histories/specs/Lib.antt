@@ -19,3 +19,4 @@ pub mod Beginning
 pub mod Carrying
 pub mod Serving
 pub mod Telling
+pub mod Theorem

@@ -166,7 +166,7 @@ module _ (d : Dock) (H : Held d) (p : ℕ) where
     there h l true false e = simp (kept-held h)
     there h l false u e = refl
 
-    tell-is : tellOf d p code memory scratch ≡ tellRule d p code memory scratch
+    pub tell-is : tellOf d p code memory scratch ≡ tellRule d p code memory scratch
     unfolding tellOf tellAt isOut
     tell-is = go (lentFits (d .buffers) (length memory) (length scratch)) (ltb p 8) refl refl
       where

@@ -85,7 +85,7 @@ refused-some NoAnswer e = absurd (omega arith)
 refused-some Unaligned e = absurd (omega arith)
 
 -- a plan that is refused or starts a stage
-abbrev Opening : (State → Type 0) → Plan → Type 0
+abbrev pub Opening : (State → Type 0) → Plan → Type 0
 Opening P Done = ⊥
 Opening P (Started x) = P x
 Opening P (Refused r) = Unit {0}
@@ -115,7 +115,7 @@ module _ (s : Settings) (fit : settingsFit s ≡ true) (ds : List Did) where
         shape false f = tt
     zeroes-by (NoTransfer x) f = tt
 
-    zeroes-follow : Opening (Follows ds) (zeroesPlan s j w m c r)
+    pub zeroes-follow : Opening (Follows ds) (zeroesPlan s j w m c r)
     unfolding zeroesPlan
     zeroes-follow = zeroes-by (transferOf (s .align) (r .start) (sizeOf r) (isMultiple (sizeOf r) (lengthAlign (s .align)))) (λ y e. rw e at (zeroes-shaped s fit j w m c r z))
 
