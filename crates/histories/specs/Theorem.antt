@@ -1,6 +1,6 @@
 -- THE THEOREM, demand 3: on every lawful list of events from an opened dock, over a store of any content, the claim holds. Assumes nothing.
 use mathlib.Core.Path.{_≡_, refl, sym, ap, _∙_, subst}
-use mathlib.Core.Bool.{Bool, true, false, _&&_, _||_}
+use mathlib.Core.Bool.{Bool, true, false, _&&_, not}
 use mathlib.Core.List.{List, [], _∷_}
 use mathlib.Core.Option.{Option, none, some}
 use Prim.Native.Nat.{ℕ, _<_, _≤_}
@@ -25,7 +25,7 @@ use Rattle.arithmetic.specs.declared.zeroes.ZeroCut.{ZeroCut}
 use Rattle.arithmetic.specs.declared.zeroes.ZeroCut.the-variants.{Nothing as NoCut, Whole, Split, Refused as CutRefused}
 use Rattle.vectors.specs.Vectors.{segmentsOf, bytesOf, isValid, vectorOf, alignmentOf}
 use Rattle.vectors.specs.declared.vector.IoVector.{IoVector}
-use Rattle.stages.specs.Stages.{sizeOf, asked, hasEnded, isPending, readPlan, writePlan, zeroJob, zeroBy, zeroPlan, discardPlan, zeroesPlan, toldOf}
+use Rattle.stages.specs.Stages.{isFree, hasEnded, isPending, readPlan, writePlan, zeroJob, zeroBy, zeroPlan, discardPlan, zeroesPlan, toldOf}
 use Rattle.stages.specs.Laws.{Starts, read-opens, write-opens, zero-opens, discard-opens}
 use Rattle.stages.specs.declared.state.Job.{Job}
 use Rattle.stages.specs.declared.state.Job.the-variants.{Read, Write, Zeroes, AllocatedZeroes, Discard}
@@ -36,6 +36,9 @@ use Rattle.stages.specs.declared.state.Request.{Request}
 use Rattle.stages.specs.declared.state.State.{State}
 use Rattle.stages.specs.declared.plan.Plan.{Plan}
 use Rattle.stages.specs.declared.plan.Plan.the-variants.{Done as NothingToDo, Started, Refused as PlanRefused}
+use Rattle.blockers.specs.Blockers.{waitsOf}
+use Rattle.stages.specs.declared.told.Step.{Step}
+use Rattle.stages.specs.declared.told.Step.the-variants.{Stays, Ends, Enters}
 use Rattle.dock.specs.Dock.{stateAt, vectorAt, vacant, lentFits, lentBy, lentOf, isOutBy, isOut, overlapsOf, firstFree, isReadJob, openOf, openProfileOf}
 use Rattle.dock.specs.Begin.{isWriteJob, isAligned, Begins, withJob, placed, placedAt, onlyIf, refusedBegin, vectorThen, begunBy, beginReadOf, beginWriteOf, beginZeroesOf, beginDiscardOf}
 use Rattle.dock.specs.Tell.{Told, after, refusedTell, tellOf, collectOf}
@@ -43,6 +46,7 @@ use Rattle.dock.specs.declared.dock.Dock.{Dock}
 use Rattle.dock.specs.declared.begin.Begun.{Begun}
 use Rattle.dock.specs.declared.begin.Begun.the-variants.{Done as NoRequest, Placed, Refused as BeginRefused}
 use Rattle.dock.specs.declared.tell.Collects.{Collects}
+use Rattle.dock.specs.declared.tell.Collected.{Collected}
 use Rattle.dock.specs.declared.tell.Collected.the-variants.{Final, Refused as NotCollected}
 use Rattle.histories.specs.Courses.{isZeroJob, never}
 use Rattle.histories.specs.Held.{Held}
@@ -202,3 +206,193 @@ module _ (w : World) (m : Plain) (I : Inv w m) where
   discard-keeps : (o : StoreOffset) (n : ℕ) → Keeps (beginDiscardOf (w .dock) o n (w .memory) (w .scratch)) (discardPlan (w .dock .settings) o n) []
   unfolding beginDiscardOf
   discard-keeps o n = past-lent _ _ [] (begun-keeps Discard (vectorOf []) [] (discardPlan (w .dock .settings) o n) (discard-start (w .dock) fits (w .memory) o n))
+
+-- ---- an event
+
+module _ (d : Dock) (memory scratch : List ℕ) (e : lentOf (d .settings) (d .buffers) (length memory) (length scratch) ≡ Refused Buffer) where
+  refuses-lent : (k : Begins) → onlyIf d scratch (lentOf (d .settings) (d .buffers) (length memory) (length scratch)) k .answer ≡ BeginRefused Buffer
+  refuses-lent k = ap (λ (o : Outcome). onlyIf d scratch o k .answer) e
+
+  read-refused : (o : StoreOffset) (v : IoVector) → beginReadOf d o v memory scratch .answer ≡ BeginRefused Buffer
+  unfolding beginReadOf
+  read-refused o v = refuses-lent _
+
+  write-refused : (o : StoreOffset) (v : IoVector) → beginWriteOf d o v memory scratch .answer ≡ BeginRefused Buffer
+  unfolding beginWriteOf
+  write-refused o v = refuses-lent _
+
+  zeroes-refused : (t : Bool) (o : StoreOffset) (n : ℕ) → beginZeroesOf d t o n memory scratch .answer ≡ BeginRefused Buffer
+  unfolding beginZeroesOf
+  zeroes-refused t o n = refuses-lent _
+
+  discard-refused : (o : StoreOffset) (n : ℕ) → beginDiscardOf d o n memory scratch .answer ≡ BeginRefused Buffer
+  unfolding beginDiscardOf
+  discard-refused o n = refuses-lent _
+
+after-done : (d : Dock) (p : ℕ) (x : State) (code : ℕ) (memory scratch : List ℕ) (t : Step) → after d p x code memory scratch t .outcome ≡ Done
+after-done d p x code memory scratch (Stays y) = refl
+after-done d p x code memory scratch (Ends y) = refl
+after-done d p x code memory scratch (Enters y) = refl
+
+ended-taken : (ph : Phase) → hasEnded ph ≡ true → isFree ph ≡ false
+ended-taken Free e = sym e
+ended-taken Ended e = refl
+ended-taken DirectRead e = refl
+ended-taken BouncedRead e = refl
+ended-taken FirstRead e = refl
+ended-taken SecondRead e = refl
+ended-taken BouncedWrite e = refl
+ended-taken DirectWrite e = refl
+ended-taken ZeroRequest e = refl
+ended-taken DiscardRequest e = refl
+
+ended-owes : (s : Bytes) (memory : List ℕ) (sh : ℕ → ℕ) (x : State) (v : IoVector) (car : Option ℕ) (j : Tracked) → x .phase ≡ Ended → Fact (x .phase) s memory sh x v car j → x .answer ≡ 0 → OwedBy (x .job) j v memory
+ended-owes s memory sh x v car j e f z = (subst (λ (ph : Phase). Fact ph s memory sh x v car j) e f) z
+
+final-zero : (a : ℕ) → _≡_ {A = Collected} (Final a) (Final 0) → a ≡ 0
+final-zero a e = cc
+
+refused-final : {A : Type 0} {r : Refusal} → _≡_ {A = Collected} (NotCollected r) (Final 0) → A
+refused-final e = let z : _≡_ {A = ℕ} 0 1 = cc in absurd (omega arith)
+
+module _ (w : World) (m : Plain) (I : Inv w m) (l : Lends) (lent : LentOf w l) where
+  -- buffers of other lengths: 205
+  lent-other : fitsLent w l ≡ false → lentOf (w .dock .settings) (w .dock .buffers) (length (l .memory)) (length (l .scratch)) ≡ Refused Buffer
+  unfolding lentOf
+  lent-other e = simp (I .held .opened, e)
+
+  begin-event : (call : List ℕ → List ℕ → Begins) (plan asked-plan : Plan) (bs : List ℕ) → (fitsLent w l ≡ false → call (l .memory) (l .scratch) .answer ≡ BeginRefused Buffer)
+      → (Inv (withData w (l .memory)) m → Inv (begunWorld (withData w (l .memory)) (call (l .memory) (w .scratch))) (entersBy (call (l .memory) (w .scratch) .answer) m plan bs)) → asked-plan ≡ plan
+      → Inv (afterBegin w l (call (l .memory) (l .scratch))) (entersBy (call (l .memory) (l .scratch) .answer) m asked-plan bs)
+  begin-event call plan asked-plan bs other own e = go (fitsLent w l) refl
+    where
+      fitting : fitsLent w l ≡ true → Inv (begunWorld (withData w (l .memory)) (call (l .memory) (l .scratch))) (entersBy (call (l .memory) (l .scratch) .answer) m asked-plan bs)
+      fitting f =
+          subst (λ (k : Plan). Inv (begunWorld (withData w (l .memory)) (call (l .memory) (l .scratch))) (entersBy (call (l .memory) (l .scratch) .answer) m k bs)) (sym e)
+          (subst (λ (s : List ℕ). Inv (begunWorld (withData w (l .memory)) (call (l .memory) s)) (entersBy (call (l .memory) s .answer) m plan bs)) (sym (lent-scratch w m I l f lent)) (own (lent-keeps w m I l f lent)))
+
+      go : (t : Bool) → fitsLent w l ≡ t
+          → Inv (pick t (record { dock = call (l .memory) (l .scratch) .dock; store = w .store; memory = l .memory; scratch = call (l .memory) (l .scratch) .scratch; carried = w .carried }) w) (entersBy (call (l .memory) (l .scratch) .answer) m asked-plan bs)
+      go true f = fitting f
+      go false f = subst (λ (a : Begun). Inv w (entersBy a m asked-plan bs)) (sym (other f)) I
+
+  plan-of : (plan : Settings → Bool → Plan) (v : IoVector) → plan (m .settings) (alignedIn m v) ≡ plan (w .dock .settings) (isAligned (alignmentOf (w .dock .settings .align) (w .dock .buffers .«data») v))
+  plan-of plan v = let a = I .settings in let b = I .buffers in λ i. plan (a i) (isAligned (alignmentOf (a i .align) (b i .«data») v))
+
+  read-event : (o : StoreOffset) (v : IoVector) → Inv (afterBegin w l (beginReadOf (w .dock) o v (l .memory) (l .scratch))) (entersBy (beginReadOf (w .dock) o v (l .memory) (l .scratch) .answer) m (readPlan (m .settings) o (v .total) (alignedIn m v)) [])
+  read-event o v =
+      begin-event (λ memory scratch. beginReadOf (w .dock) o v memory scratch) (readPlan (w .dock .settings) o (v .total) (isAligned (alignmentOf (w .dock .settings .align) (w .dock .buffers .«data») v))) _ []
+      (λ e. read-refused (w .dock) (l .memory) (l .scratch) (lent-other e) o v) (λ J. read-keeps (withData w (l .memory)) m J o v) (plan-of (λ s t. readPlan s o (v .total) t) v)
+
+  write-event : (o : StoreOffset) (v : IoVector) → Inv (afterBegin w l (beginWriteOf (w .dock) o v (l .memory) (l .scratch))) (entersBy (beginWriteOf (w .dock) o v (l .memory) (l .scratch) .answer) m (writePlan (m .settings) o (v .total) (alignedIn m v)) (bytesOf (l .memory) (segmentsOf v)))
+  write-event o v =
+      begin-event (λ memory scratch. beginWriteOf (w .dock) o v memory scratch) (writePlan (w .dock .settings) o (v .total) (isAligned (alignmentOf (w .dock .settings .align) (w .dock .buffers .«data») v))) _ (bytesOf (l .memory) (segmentsOf v))
+      (λ e. write-refused (w .dock) (l .memory) (l .scratch) (lent-other e) o v) (λ J. write-keeps (withData w (l .memory)) m J o v) (plan-of (λ s t. writePlan s o (v .total) t) v)
+
+  zeroes-event : (t : Bool) (o : StoreOffset) (n : ℕ) → Inv (afterBegin w l (beginZeroesOf (w .dock) t o n (l .memory) (l .scratch))) (entersBy (beginZeroesOf (w .dock) t o n (l .memory) (l .scratch) .answer) m (zeroPlan (m .settings) t o n) [])
+  zeroes-event t o n =
+      begin-event (λ memory scratch. beginZeroesOf (w .dock) t o n memory scratch) (zeroPlan (w .dock .settings) t o n) _ []
+      (λ e. zeroes-refused (w .dock) (l .memory) (l .scratch) (lent-other e) t o n) (λ J. zeroes-keeps (withData w (l .memory)) m J t o n) (ap (λ (s : Settings). zeroPlan s t o n) (I .settings))
+
+  discard-event : (o : StoreOffset) (n : ℕ) → Inv (afterBegin w l (beginDiscardOf (w .dock) o n (l .memory) (l .scratch))) (entersBy (beginDiscardOf (w .dock) o n (l .memory) (l .scratch) .answer) m (discardPlan (m .settings) o n) [])
+  discard-event o n =
+      begin-event (λ memory scratch. beginDiscardOf (w .dock) o n memory scratch) (discardPlan (w .dock .settings) o n) _ []
+      (λ e. discard-refused (w .dock) (l .memory) (l .scratch) (lent-other e) o n) (λ J. discard-keeps (withData w (l .memory)) m J o n) (ap (λ (s : Settings). discardPlan s o n) (I .settings))
+
+  -- ---- tell
+
+  abbrev after-tell : ℕ → ℕ → Told → Type 0
+  after-tell p code t = Inv (afterTell w p l t) (tellBy (t .outcome) m p code)
+
+  tell-event : (p code : ℕ) → (tellOf (w .dock) p code (l .memory) (l .scratch) .outcome ≡ Done → w .carried p ≡ some code) → Inv (afterTell w p l (tellOf (w .dock) p code (l .memory) (l .scratch))) (tellBy (tellOf (w .dock) p code (l .memory) (l .scratch) .outcome) m p code)
+  unfolding isOut isOutBy
+  tell-event p code hands =
+      subst (λ (t : Told). (t .outcome ≡ Done → w .carried p ≡ some code) → after-tell p code t) (sym (tell-is (w .dock) (I .held) p code (l .memory) (l .scratch)))
+      (go (fitsLent w l) (ltb p 8) (isPending (stateAt (w .dock) p .phase)) (waitsOf p (w .dock .blockers)) (ltb code 200) refl refl refl refl) hands
+    where
+      x : State
+      x = stateAt (w .dock) p
+
+      accepted : fitsLent w l ≡ true → p < 8 → isPending (x .phase) ≡ true → waitsOf p (w .dock .blockers) ≡ false → w .carried p ≡ some code
+          → Inv (told Done w p (after (w .dock) p x code (l .memory) (l .scratch) (toldOf (w .dock .settings) x code))) (toldBy (m .jobs p) m p code)
+      accepted f h k n c =
+          let J = lent-keeps w m I l f lent in
+          subst (λ (s : List ℕ). Inv (told Done w p (after (w .dock) p x code (l .memory) s (toldOf (w .dock .settings) x code))) (toldBy (m .jobs p) m p code)) (sym (lent-scratch w m I l f lent))
+          (subst (λ (o : Option Tracked). Inv (told Done w p (after (w .dock) p x code (l .memory) (w .scratch) (toldOf (w .dock .settings) x code))) (toldBy o m p code)) (sym (T (withData w (l .memory)) m J p h k n code c .is))
+          (told-inv (withData w (l .memory)) m J p h k n code c))
+
+      refused : (r : Refusal) → fitsLent w l ≡ true → Inv (told (Refused r) w p (refusedTell (w .dock) (l .memory) (l .scratch) r)) m
+      refused r f = subst (λ (s : List ℕ). Inv (record { dock = w .dock; store = w .store; memory = l .memory; scratch = s; carried = w .carried }) m) (sym (lent-scratch w m I l f lent)) (lent-keeps w m I l f lent)
+
+      rule : Bool → Bool → Bool → Bool → Bool → Told
+      rule a b c g u =
+          pick a (pick (b && (c && not g)) (pick u (after (w .dock) p x code (l .memory) (l .scratch) (toldOf (w .dock .settings) x code)) (refusedTell (w .dock) (l .memory) (l .scratch) NoAnswer)) (refusedTell (w .dock) (l .memory) (l .scratch) Slot)) (refusedTell (w .dock) (l .memory) (l .scratch) Buffer)
+
+      done : after (w .dock) p x code (l .memory) (l .scratch) (toldOf (w .dock .settings) x code) .outcome ≡ Done
+      done = after-done (w .dock) p x code (l .memory) (l .scratch) (toldOf (w .dock .settings) x code)
+
+      yes-case : fitsLent w l ≡ true → p < 8 → isPending (x .phase) ≡ true → waitsOf p (w .dock .blockers) ≡ false
+          → (after (w .dock) p x code (l .memory) (l .scratch) (toldOf (w .dock .settings) x code) .outcome ≡ Done → w .carried p ≡ some code)
+          → Inv (told (after (w .dock) p x code (l .memory) (l .scratch) (toldOf (w .dock .settings) x code) .outcome) w p (after (w .dock) p x code (l .memory) (l .scratch) (toldOf (w .dock .settings) x code))) (tellBy (after (w .dock) p x code (l .memory) (l .scratch) (toldOf (w .dock .settings) x code) .outcome) m p code)
+      yes-case f h k n c =
+          subst (λ (o : Outcome). Inv (told o w p (after (w .dock) p x code (l .memory) (l .scratch) (toldOf (w .dock .settings) x code))) (tellBy o m p code)) (sym done) (accepted f h k n (c done))
+
+      go : (a b c g u : Bool) → fitsLent w l ≡ a → ltb p 8 ≡ b → isPending (x .phase) ≡ c → waitsOf p (w .dock .blockers) ≡ g
+          → (rule a b c g u .outcome ≡ Done → w .carried p ≡ some code) → Inv (pick a (told (rule a b c g u .outcome) w p (rule a b c g u)) w) (tellBy (rule a b c g u .outcome) m p code)
+      go true true true false true f h k n c = yes-case f (ltb-true p 8 h) k n c
+      go true true true false false f h k n c = refused NoAnswer f
+      go true true true true u f h k n c = refused Slot f
+      go true true false g u f h k n c = refused Slot f
+      go true false c' g u f h k n c = refused Slot f
+      go false b c' g u f h k n c = I
+
+  -- ---- collect
+
+  abbrev answerOf : Bool → Bool → ℕ → Collects
+  answerOf a b p =
+      pick a (pick b (record { dock = withJob (w .dock) p (w .dock .blockers) vacant (vectorOf []); answer = Final (stateAt (w .dock) p .answer) }) (record { dock = w .dock; answer = NotCollected Slot })) (record { dock = w .dock; answer = NotCollected Buffer })
+
+  collect-event : (p : ℕ) → Inv (afterCollect w l (collectOf (w .dock) p (length (l .memory)) (length (l .scratch)))) (collectBy (collectOf (w .dock) p (length (l .memory)) (length (l .scratch)) .answer) m p)
+  unfolding collectOf
+  collect-event p = go (fitsLent w l) (ltb p 8) (hasEnded (stateAt (w .dock) p .phase)) refl refl refl
+    where
+      go : (a b c : Bool) → fitsLent w l ≡ a → ltb p 8 ≡ b → hasEnded (stateAt (w .dock) p .phase) ≡ c
+          → Inv (pick a (record { dock = answerOf a (b && c) p .dock; store = w .store; memory = l .memory; scratch = w .scratch; carried = w .carried }) w) (collectBy (answerOf a (b && c) p .answer) m p)
+      go true true true f h k = freed-inv (withData w (l .memory)) m (lent-keeps w m I l f lent) p (ltb-true p 8 h) k
+      go true true false f h k = lent-keeps w m I l f lent
+      go true false c f h k = lent-keeps w m I l f lent
+      go false b c f h k = I
+
+  -- what is owed at a collect that answers 0
+  ended-phase : (ph : Phase) → hasEnded ph ≡ true → ph ≡ Ended
+  ended-phase Ended e = refl
+  ended-phase Free e = never e
+  ended-phase DirectRead e = never e
+  ended-phase BouncedRead e = never e
+  ended-phase FirstRead e = never e
+  ended-phase SecondRead e = never e
+  ended-phase BouncedWrite e = never e
+  ended-phase DirectWrite e = never e
+  ended-phase ZeroRequest e = never e
+  ended-phase DiscardRequest e = never e
+
+  owed-at-collect : (p : ℕ) → collectOf (w .dock) p (length (l .memory)) (length (l .scratch)) .answer ≡ Final 0 → OwedTo (m .jobs p) (vectorAt (w .dock) p) (l .memory)
+  unfolding collectOf
+  owed-at-collect p e = go (fitsLent w l) (ltb p 8) (hasEnded (stateAt (w .dock) p .phase)) refl refl refl e
+    where
+      x : State
+      x = stateAt (w .dock) p
+
+      owed : fitsLent w l ≡ true → p < 8 → hasEnded (x .phase) ≡ true → x .answer ≡ 0 → OwedTo (m .jobs p) (vectorAt (w .dock) p) (l .memory)
+      owed f h k z =
+          let ph = ended-phase (x .phase) k in
+          let t = lent-keeps w m I l f lent .slots p h .tracks (ended-taken (x .phase) k) in
+          subst (λ (o : Option Tracked). OwedTo o (vectorAt (w .dock) p) (l .memory)) (sym (t .is))
+          (subst (λ (o : Job). OwedBy o (t .j) (vectorAt (w .dock) p) (l .memory)) (sym (t .flight .job))
+          (ended-owes (w .store) (l .memory) _ x (vectorAt (w .dock) p) (w .carried p) (t .j) ph (t .flight .fact) z))
+
+      go : (a b c : Bool) → fitsLent w l ≡ a → ltb p 8 ≡ b → hasEnded (x .phase) ≡ c → answerOf a (b && c) p .answer ≡ Final 0 → OwedTo (m .jobs p) (vectorAt (w .dock) p) (l .memory)
+      go true true true f h k e = owed f (ltb-true p 8 h) k (final-zero (x .answer) e)
+      go true true false f h k e = refused-final e
+      go true false c f h k e = refused-final e
+      go false b c f h k e = refused-final e
