@@ -396,3 +396,42 @@ module _ (w : World) (m : Plain) (I : Inv w m) (l : Lends) (lent : LentOf w l) w
       go true true false f h k e = refused-final e
       go true false c f h k e = refused-final e
       go false b c f h k e = refused-final e
+
+-- ---- carry
+
+carry-event : (w : World) (m : Plain) → Inv w m → (p code : ℕ) (c : Choice) (o : Option Request) → outIn w p ≡ o → Inv (afterCarry o w p code c) (plainStep m (carryItem o p code c))
+unfolding plainStep
+carry-event w m I p code c none e = I
+carry-event w m I p code c (some q) e = carried-inv w m I p q (out-of w p q e) code c
+
+-- ---- every event
+
+step-keeps : (w : World) (m : Plain) → Inv w m → (e : Event) → Allowed w e → Inv (step w e) (plainStep m (fed w e))
+unfolding step fed plainStep
+step-keeps w m I (begins-read o v l) a = read-event w m I l a o v
+step-keeps w m I (begins-write o v l) a = write-event w m I l a o v
+step-keeps w m I (begins-zeroes t o n l) a = zeroes-event w m I l a t o n
+step-keeps w m I (begins-discard o n l) a = discard-event w m I l a o n
+step-keeps w m I (carries p code c) a = carry-event w m I p code c (outIn w p) refl
+step-keeps w m I (tells p code l) a = tell-event w m I l (a .0) p code (a .1)
+step-keeps w m I (collects p l) a = collect-event w m I l a p
+
+owed-at : (w : World) (m : Plain) → Inv w m → (e : Event) → Allowed w e → Owed w m e
+owed-at w m I (begins-read o v l) a = tt
+owed-at w m I (begins-write o v l) a = tt
+owed-at w m I (begins-zeroes t o n l) a = tt
+owed-at w m I (begins-discard o n l) a = tt
+owed-at w m I (carries p code c) a = tt
+owed-at w m I (tells p code l) a = tt
+owed-at w m I (collects p l) a = owed-at-collect w m I l a p
+
+claimed : (w : World) (m : Plain) → Inv w m → (es : List Event) → Lawful w es → Claim w m es
+claimed w m I [] k = I .same
+claimed w m I (e ∷ es) k = (I .same, owed-at w m I e (k .0), claimed (step w e) (plainStep m (fed w e)) (step-keeps w m I e (k .0)) es (k .1))
+
+-- THE THEOREM: for all settings and buffers that open accepts, every content of the store, all data and scratch of these lengths, and every list
+-- of begin, carry, tell and collect, refused ones included
+pub every-list : (s : Settings) (b : Buffers) → openOf s b .outcome ≡ Done → (content : Bytes) (memory scratch : List ℕ) → lentFits b (length memory) (length scratch) ≡ true
+    → (es : List Event) → Lawful (opened s b content memory scratch) es → Claim (opened s b content memory scratch) (plainOpened s b content) es
+unfolding openOf
+every-list s b e content memory scratch l es k = claimed (opened s b content memory scratch) (plainOpened s b content) (opened-inv s b content memory scratch e l) es k
