@@ -1,7 +1,7 @@
 -- Lists of events in which every call is lent the buffers as they are: each such list is lawful where its tells hand in the codes of their carries. Assumes nothing.
 use mathlib.Core.Path.{_≡_, refl, sym, _∙_}
 use mathlib.Core.Bool.{Bool, true, false, _&&_, false≢true}
-use mathlib.Core.List.{List, [], _∷_}
+use mathlib.Core.List.{List, [], _∷_, _++_}
 use mathlib.Core.Option.{Option, none, some}
 use Prim.Native.Nat.{ℕ}
 use native.Mathlib.Omega.{arith}
@@ -103,3 +103,14 @@ allowed w (collect p) e = lent-own w
 pub lawful : (w : World) (rest : List Act) → allAllowed w rest ≡ true → Lawful w (eventsOf w rest)
 lawful w [] e = tt
 lawful w (a ∷ rest) e = (allowed w a (and-left _ _ e), lawful (step w (eventOf w a)) rest (and-right (isAllowed w a) _ e))
+
+-- ---- a lawful list goes on
+
+-- the real side after a list
+abbrev pub after : World → List Event → World
+after w [] = w
+after w (e ∷ es) = after (step w e) es
+
+pub extends : (w : World) (es : List Event) (e : Event) → Lawful w es → Allowed (after w es) e → Lawful w (es ++ (e ∷ []))
+extends w [] e k a = (a, tt)
+extends w (d ∷ es) e k a = (k .0, extends (step w d) es e (k .1) a)

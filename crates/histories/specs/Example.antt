@@ -117,5 +117,13 @@ computed = record {
   is-lawful = refl;
 }
 
-pub example : Lawful world (eventsOf world all-done)
-example = lawful world all-done (computed .is-lawful)
+-- the four collects at the end too
+abbrev pub whole-list : List Act
+whole-list = all-done ++ (collect 0 ∷ (collect 1 ∷ (collect 2 ∷ (collect 3 ∷ []))))
+
+pub all-lawful : allAllowed world whole-list ≡ true
+unfolding fits isMultiple roundDown roundUp sumOf upOf inBufferOf onStoreOf isAlignment alignmentsFit lengthAlign bounceFits settingsFit buffersFit openingOf profiles profileOf paddedStart roundedEnd paddedLength paddingFits spanOf paddedOf paddingOf isDirect transferOf readsOf isRead cutFits hasMiddle cutOf zeroCutOf discardCutOf chunkLength chunkOf anyBelow sizeOf liesIn allSegments anySegment segmentsFit vectorOf isValid changedTo pushOf insertOf appendOf headOf tailOf splitOf splitTailOf put bytesOf scatterOf fillOf copies owns ownedOf shares overlapOf selfOverlapOf allAligned isAlignedOf alignmentOf blockers-overlaps conflict notes notesOf noBlockers enteredOf forgetting leftOf waitsOf directStage paddedStage firstPhase readPlan writePlan zeroesPlan zeroPlan discardPlan chunkNext tailNext headNext toldOf requestOf stages-liesIn isSound vacant fresh openOf openProfileOf lentFits lentOf isOutBy isOut meetsOf meetsAt overlapsOf firstFree sourceOf sourceFits mergedAt filled blockersWith placedAt beginReadOf beginWriteOf beginZeroesOf beginDiscardOf nextOf isKeptBy blockersWithout copiedAt handed staysOf endsOf entersOf tellAt tellOf collectOf pieceOf partOf isKept changed window piecesFrom gathered landed carriedOut plainStep step fed
+all-lawful = refl
+
+pub example : Lawful world (eventsOf world whole-list)
+example = lawful world whole-list all-lawful

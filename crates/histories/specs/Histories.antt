@@ -20,7 +20,7 @@ use Rattle.stages.specs.Stages.{sizeOf, isFree}
 use Rattle.stages.specs.declared.state.Job.{Job}
 use Rattle.stages.specs.declared.state.Job.the-variants.{Read, Write, Zeroes, AllocatedZeroes, Discard}
 use Rattle.stages.specs.declared.state.Request.{Request}
-use Rattle.dock.specs.Dock.{fresh, stateAt, vectorAt, lentFits}
+use Rattle.dock.specs.Dock.{openOf, fresh, stateAt, vectorAt, lentFits}
 use Rattle.dock.specs.Begin.{Begins, beginReadOf, beginWriteOf, beginZeroesOf, beginDiscardOf}
 use Rattle.dock.specs.Next.{nextOf}
 use Rattle.dock.specs.Tell.{Told, tellOf, collectOf}
@@ -216,3 +216,12 @@ Owed w m (collects p l) =
 abbrev pub Claim : World → Plain → List Event → Type 0
 Claim w m [] = Same w m
 Claim w m (e ∷ es) = Same w m × Owed w m e × Claim (step w e) (plainStep m (fed w e)) es
+
+-- ---- THE THEOREM
+
+-- for all settings and buffers that open accepts, every content of the store, all data and scratch of these lengths, and every list of begin, carry,
+-- tell and collect, refused ones included: a lawful list has the claim. Proved in proofs/Theorem.antt.
+abbrev pub EveryList : Type 0
+EveryList =
+    (s : Settings) (b : Buffers) → openOf s b .outcome ≡ Done → (content : Bytes) (memory scratch : List ℕ) → lentFits b (length memory) (length scratch) ≡ true → (es : List Event)
+    → Lawful (opened s b content memory scratch) es → Claim (opened s b content memory scratch) (plainOpened s b content) es

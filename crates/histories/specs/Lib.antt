@@ -1,4 +1,4 @@
--- What holds of a dock after any list of calls from an opened one; and the plain byte store that document 01 holds it against.
+-- What holds of a dock after any list of calls from an opened one, and the theorem on every list of events: the statement is at the end of Histories.
 pub mod Courses
 pub mod Held
 pub mod Keeping
@@ -9,14 +9,4 @@ pub mod PlainStore
 pub mod Histories
 pub mod Acts
 pub mod Example
-pub mod Lists
-pub mod Geometry
-pub mod Progress
-pub mod Invariant
-pub mod World
-pub mod Renewing
-pub mod Beginning
-pub mod Carrying
-pub mod Serving
-pub mod Telling
-pub mod Theorem
+pub mod StarredLists

@@ -36,8 +36,8 @@ use Rattle.histories.specs.Held.{SlotHeld, SlotOf, Held}
 use Rattle.histories.specs.Store.{Bytes, inRange}
 use Rattle.histories.specs.PlainStore.{Tracked, Plain}
 use Rattle.histories.specs.Histories.{Lends, World, fitsLent, LentOf, Same}
-use Rattle.histories.specs.Lists.{bytes-agree}
-use Rattle.histories.specs.Invariant.{share, Flight, flight-frame}
+use Rattle.histories.proofs.Lists.{bytes-agree}
+use Rattle.histories.proofs.Invariant.{share, Flight, flight-frame}
 
 abbrev pub Taken : Dock → ℕ → Type 0
 Taken d p = isFree (stateAt d p .phase) ≡ false

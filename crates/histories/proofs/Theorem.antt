@@ -54,16 +54,16 @@ use Rattle.histories.specs.Calls.{Ready, starts-from, read-ready, write-
 use Rattle.histories.specs.MadeLaws.{tellRule, tell-is}
 use Rattle.histories.specs.Store.{Bytes, Choice}
 use Rattle.histories.specs.PlainStore.{Tracked, Plain, plainOpened, plainStep, tracked, entersBy, alignedIn, carriedBy, toldBy, tellBy, collectBy}
-use Rattle.histories.specs.Histories.{Lends, Event, begins-read, begins-write, begins-zeroes, begins-discard, carries, tells, collects, World, opened, fitsLent, afterBegin, told, afterTell, afterCollect, outIn, afterCarry, step, carryItem, fed, LentOf, Allowed, Lawful, Same, OwedBy, OwedTo, Owed, Claim}
-use Rattle.histories.specs.Geometry.{Shaped, read-shaped, write-shaped, zero-shaped, discard-shaped}
-use Rattle.histories.specs.Progress.{Before, Follows, Opening, zeroes-follow}
-use Rattle.histories.specs.Invariant.{Fact}
-use Rattle.histories.specs.World.{Taken, Tracks, SlotInv, Inv, data-length, withData, lent-keeps, lent-scratch}
-use Rattle.histories.specs.Renewing.{opened-inv, freed-inv}
-use Rattle.histories.specs.Beginning.{Start, begun-inv}
-use Rattle.histories.specs.Carrying.{Out, out-of}
-use Rattle.histories.specs.Serving.{carried-inv}
-use Rattle.histories.specs.Telling.{told-inv, T}
+use Rattle.histories.specs.Histories.{Lends, Event, begins-read, begins-write, begins-zeroes, begins-discard, carries, tells, collects, World, opened, fitsLent, afterBegin, told, afterTell, afterCollect, outIn, afterCarry, step, carryItem, fed, LentOf, Allowed, Lawful, Same, OwedBy, OwedTo, Owed, Claim, EveryList}
+use Rattle.histories.proofs.Geometry.{Shaped, read-shaped, write-shaped, zero-shaped, discard-shaped}
+use Rattle.histories.proofs.Progress.{Before, Follows, Opening, zeroes-follow}
+use Rattle.histories.proofs.Invariant.{Fact}
+use Rattle.histories.proofs.World.{Taken, Tracks, SlotInv, Inv, data-length, withData, lent-keeps, lent-scratch}
+use Rattle.histories.proofs.Renewing.{opened-inv, freed-inv}
+use Rattle.histories.proofs.Beginning.{Start, begun-inv}
+use Rattle.histories.proofs.Carrying.{Out, out-of}
+use Rattle.histories.proofs.Serving.{carried-inv}
+use Rattle.histories.proofs.Telling.{told-inv, T}
 
 -- ---- begin
 
@@ -429,9 +429,6 @@ claimed : (w : World) (m : Plain) → Inv w m → (es : List Event) → Lawful w
 claimed w m I [] k = I .same
 claimed w m I (e ∷ es) k = (I .same, owed-at w m I e (k .0), claimed (step w e) (plainStep m (fed w e)) (step-keeps w m I e (k .0)) es (k .1))
 
--- THE THEOREM: for all settings and buffers that open accepts, every content of the store, all data and scratch of these lengths, and every list
--- of begin, carry, tell and collect, refused ones included
-pub every-list : (s : Settings) (b : Buffers) → openOf s b .outcome ≡ Done → (content : Bytes) (memory scratch : List ℕ) → lentFits b (length memory) (length scratch) ≡ true
-    → (es : List Event) → Lawful (opened s b content memory scratch) es → Claim (opened s b content memory scratch) (plainOpened s b content) es
+pub every-list : EveryList
 unfolding openOf
 every-list s b e content memory scratch l es k = claimed (opened s b content memory scratch) (plainOpened s b content) (opened-inv s b content memory scratch e l) es k

@@ -33,8 +33,8 @@ use Rattle.histories.specs.Calls.{freed-held}
 use Rattle.histories.specs.Store.{Bytes}
 use Rattle.histories.specs.PlainStore.{Plain, plainOpened, setAt} 
 use Rattle.histories.specs.Histories.{World, opened, Same}
-use Rattle.histories.specs.Invariant.{share}
-use Rattle.histories.specs.World.{Taken, Tracks, SlotInv, Inv, slot-frame}
+use Rattle.histories.proofs.Invariant.{share}
+use Rattle.histories.proofs.World.{Taken, Tracks, SlotInv, Inv, slot-frame}
 
 -- ---- one slot anew
 

@@ -37,7 +37,7 @@ use Rattle.stages.specs.declared.told.Step.the-variants.{Stays, Ends, Enters}
 use Rattle.histories.specs.Courses.{never}
 use Rattle.histories.specs.PlainStore.{Did}
 use Rattle.histories.specs.Histories.{putBy}
-use Rattle.histories.specs.Geometry.{Zone, Shaped, zeroes-shaped}
+use Rattle.histories.proofs.Geometry.{Zone, Shaped, zeroes-shaped}
 
 -- every byte from a up to b was put
 abbrev pub Put : List Did → ℕ → ℕ → Type 0

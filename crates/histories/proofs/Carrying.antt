@@ -44,10 +44,10 @@ use Rattle.histories.specs.MadeLaws.{kept-held}
 use Rattle.histories.specs.Store.{Bytes, Choice, piecesFrom, gathered, landed, window, yields}
 use Rattle.histories.specs.PlainStore.{Did, Tracked, Plain, setAt}
 use Rattle.histories.specs.Histories.{World, Same, carriesOut, unless, made, outIn, putBy}
-use Rattle.histories.specs.Progress.{Put, Before}
-use Rattle.histories.specs.Invariant.{share, Fact, Flight}
-use Rattle.histories.specs.World.{Taken, Tracks, SlotInv, Inv}
-use Rattle.histories.specs.Renewing.{set-same, set-other, renewed-inv}
+use Rattle.histories.proofs.Progress.{Put, Before}
+use Rattle.histories.proofs.Invariant.{share, Fact, Flight}
+use Rattle.histories.proofs.World.{Taken, Tracks, SlotInv, Inv}
+use Rattle.histories.proofs.Renewing.{set-same, set-other, renewed-inv}
 
 -- ---- which request is out
 

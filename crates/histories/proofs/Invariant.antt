@@ -32,8 +32,8 @@ use Rattle.histories.specs.Calls.{write-vector, read-vector, direct-read
 use Rattle.histories.specs.Store.{Bytes}
 use Rattle.histories.specs.PlainStore.{Did, yielded, wrote, zeroed, discarded, Tracked, Plain, newBytes, standing}
 use Rattle.histories.specs.Histories.{World, Same, Among, here, later, puts, putBy, OwedBy}
-use Rattle.histories.specs.Geometry.{Beside, ReadBy, Geo, Unread, AsAsked, Zoned}
-use Rattle.histories.specs.Progress.{Put, Before}
+use Rattle.histories.proofs.Geometry.{Beside, ReadBy, Geo, Unread, AsAsked, Zoned}
+use Rattle.histories.proofs.Progress.{Put, Before}
 
 -- ---- one slot
 

@@ -51,13 +51,13 @@ use Rattle.histories.specs.Keeping.{Changes, leave-changes}
 use Rattle.histories.specs.Store.{Bytes, inRange}
 use Rattle.histories.specs.PlainStore.{Did, yielded, wrote, zeroed, Tracked, Plain, newBytes, standing, stateOf, setAt}
 use Rattle.histories.specs.Histories.{World, Among, here, later, puts as putsAt, putBy, OwedBy}
-use Rattle.histories.specs.Lists.{list-ext, share-room, share-put-off}
-use Rattle.histories.specs.Geometry.{Beside, ReadBy, Geo, Unread, AsAsked, Zone, Shaped}
-use Rattle.histories.specs.Progress.{Put, Before, Follows, Goes as Leads, done-goes, chunk-goes}
-use Rattle.histories.specs.Invariant.{share, Fact, Flight, Within, within, no-padding}
-use Rattle.histories.specs.World.{Taken, Tracks, SlotInv, Inv, room, segments-lie, data-length, leave-waits, enter-waits}
-use Rattle.histories.specs.Renewing.{set-same, set-other, renewed-inv}
-use Rattle.histories.specs.Beginning.{source-long, fill-length, fill-other, fill-own, filled-none, filled-put, bounced-puts, opened-fact}
+use Rattle.histories.proofs.Lists.{list-ext, share-room, share-put-off}
+use Rattle.histories.proofs.Geometry.{Beside, ReadBy, Geo, Unread, AsAsked, Zone, Shaped}
+use Rattle.histories.proofs.Progress.{Put, Before, Follows, Goes as Leads, done-goes, chunk-goes}
+use Rattle.histories.proofs.Invariant.{share, Fact, Flight, Within, within, no-padding}
+use Rattle.histories.proofs.World.{Taken, Tracks, SlotInv, Inv, room, segments-lie, data-length, leave-waits, enter-waits}
+use Rattle.histories.proofs.Renewing.{set-same, set-other, renewed-inv}
+use Rattle.histories.proofs.Beginning.{source-long, fill-length, fill-other, fill-own, filled-none, filled-put, bounced-puts, opened-fact}
 
 -- ---- jobs and their steps
 

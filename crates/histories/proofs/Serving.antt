@@ -46,11 +46,11 @@ use Rattle.histories.specs.Calls.{pending-taken, read-vector, write-vect
 use Rattle.histories.specs.Store.{Bytes, Choice, Buffered, inRange, changed, becomesNew, window, laidAt, piecesFrom, gathered, landed, yields, stored, fetched}
 use Rattle.histories.specs.PlainStore.{Did, yielded, wrote, zeroed, discarded, Tracked, Plain, newBytes, standing, withStep, noStep, stepBy, carriedOut, carriedBy, Carried, setAt}
 use Rattle.histories.specs.Histories.{World, carriesOut, puts, putBy, Among, here, later, OwedBy}
-use Rattle.histories.specs.Lists.{list-ext, window-length, window-at, share-room, share-put-length, share-put-other, share-put-off, share-put-on}
-use Rattle.histories.specs.Geometry.{Beside, ReadBy, Geo, AsAsked}
-use Rattle.histories.specs.Invariant.{share, Fact, Flight, Within, within}
-use Rattle.histories.specs.World.{Taken, Tracks, SlotInv, Inv, room, segments-lie, data-length, shared-overlap}
-use Rattle.histories.specs.Carrying.{Out, scratch-piece, dataPieces, landed-data, gathered-data, data-pieces, carry-inv}
+use Rattle.histories.proofs.Lists.{list-ext, window-length, window-at, share-room, share-put-length, share-put-other, share-put-off, share-put-on}
+use Rattle.histories.proofs.Geometry.{Beside, ReadBy, Geo, AsAsked}
+use Rattle.histories.proofs.Invariant.{share, Fact, Flight, Within, within}
+use Rattle.histories.proofs.World.{Taken, Tracks, SlotInv, Inv, room, segments-lie, data-length, shared-overlap}
+use Rattle.histories.proofs.Carrying.{Out, scratch-piece, dataPieces, landed-data, gathered-data, data-pieces, carry-inv}
 
 -- ---- bytes of a range
 

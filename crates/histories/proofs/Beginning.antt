@@ -39,12 +39,12 @@ use Rattle.histories.specs.Calls.{Ready, free-idle, write-vector, copied
 use Rattle.histories.specs.Store.{Bytes}
 use Rattle.histories.specs.PlainStore.{Tracked, Plain, newBytes, setAt}
 use Rattle.histories.specs.Histories.{World}
-use Rattle.histories.specs.Lists.{share-put-length, share-put-other, share-put-on}
-use Rattle.histories.specs.Geometry.{Beside, Geo, Unread, Shaped}
-use Rattle.histories.specs.Progress.{Before}
-use Rattle.histories.specs.Invariant.{share, Fact, Flight, Within, within, no-padding}
-use Rattle.histories.specs.World.{Taken, Tracks, SlotInv, Inv, room, enter-waits, data-length}
-use Rattle.histories.specs.Renewing.{set-same, set-other, renewed-inv}
+use Rattle.histories.proofs.Lists.{share-put-length, share-put-other, share-put-on}
+use Rattle.histories.proofs.Geometry.{Beside, Geo, Unread, Shaped}
+use Rattle.histories.proofs.Progress.{Before}
+use Rattle.histories.proofs.Invariant.{share, Fact, Flight, Within, within, no-padding}
+use Rattle.histories.proofs.World.{Taken, Tracks, SlotInv, Inv, room, enter-waits, data-length}
+use Rattle.histories.proofs.Renewing.{set-same, set-other, renewed-inv}
 
 -- ---- what is filled in
 
