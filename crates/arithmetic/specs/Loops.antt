@@ -1,30 +1,10 @@
--- Loops as definitions on numbers and lists, and the laws that a loop's proof cites. Assumes nothing.
---     turns step n s          s after step 0, step 1, .., step (n - 1)
---     anyBelow n test         whether test holds of one of 0, .., n - 1
-use Prim.Native.Nat.{ℕ, zero, suc, _+_, _-_, _≤_, _<_}
+-- A loop that looks for a number, and the laws that its proof cites: `anyBelow n test` is whether test holds of one of 0, .., n - 1. Assumes nothing.
+use Prim.Native.Nat.{ℕ, zero, suc, _-_, _<_}
 use native.Mathlib.Nat.{eq-or-lt-of-le, le-of-suc-le-suc}
-use native.Mathlib.Numerals.{add-one}
 use native.Mathlib.Omega.{arith}
-use mathlib.Core.Path.{_≡_, refl, sym, ap, _∙_}
+use mathlib.Core.Path.{_≡_, refl}
 use mathlib.Core.Bool.{Bool, true, false, _||_, or-true}
 use mathlib.Core.Logic.{⊎-elim}
-
-unfoldable pub turns : {S : Type 0} → (ℕ → S → S) → ℕ → S → S
-turns step zero s = s
-turns step (suc n) s = step n (turns step n s)
-
-pub turns-none : {S : Type 0} (step : ℕ → S → S) (s : S) → s ≡ turns step 0 s
-unfolding turns
-turns-none step s = refl
-
--- one turn more
-pub turns-more : {S : Type 0} (step : ℕ → S → S) (i : ℕ) (s t : S) → t ≡ turns step i s → step i t ≡ turns step (i + 1) s
-unfolding turns
-turns-more step i s t e = rw (e, add-one)
-
--- a loop over 0, .., n - 1 that has left its test at i
-pub turns-all : {S : Type 0} (step : ℕ → S → S) (n i : ℕ) (s t : S) → t ≡ turns step i s → i ≤ n → n ≤ i → t ≡ turns step n s
-turns-all step n i s t e h g = let same : i ≡ n = omega arith in rw same at e
 
 unfoldable pub anyBelow : ℕ → (ℕ → Bool) → Bool
 anyBelow zero test = false

@@ -7,7 +7,7 @@ use native.Mathlib.Nat.{not-suc-le-zero, le-of-suc-le-suc}
 use native.Mathlib.Numerals.{add-one}
 use native.Mathlib.Omega.{arith}
 use lib.Dec.{ltb, leb, eqb}
-use lib.ListN.{length, take, drop, getD, replicate, length-append, length-replicate, take-append-drop}
+use lib.ListN.{length, take, drop, getD, replicate, take-append-drop}
 use lib.Seq.{take-append-seam, drop-cons}
 use borrow.Author.Tests.{ltb-true, leb-true, eqb-true, lt-ltb, le-leb, eq-eqb}
 use Rattle.arithmetic.specs.SettingsLaws.{and-left, and-right}
@@ -116,10 +116,6 @@ valid-true n v w = both _ _ (le-leb _ _ (w .few)) (both _ _ (fit-true n (segment
 pub segments-of : (ps : List Segment) → segmentsOf (vectorOf ps) ≡ ps
 unfolding vectorOf
 segments-of ps = take-append-seam ps (replicate (16 - length ps) none)
-
-pub vector-long : (ps : List Segment) → length ps ≤ 16 → length (vectorOf ps .segments) ≡ 16
-unfolding vectorOf
-vector-long ps h = length-append ps (replicate (16 - length ps) none) ∙ (rw length-replicate (omega arith))
 
 pub vector-valid : (n : ℕ) (ps : List Segment) → segmentsFit n ps ≡ true → isValid n (vectorOf ps) ≡ true
 unfolding vectorOf
