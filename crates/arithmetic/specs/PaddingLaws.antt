@@ -1,13 +1,13 @@
 -- Laws of padding: the padded range holds the asked one, its length is the least multiple of L that holds h + length, H and T are 0 or L, and the reads cover what is not asked; a transfer is refused for its alignments or for a sum. Assumes nothing.
-use mathlib.Core.Path.{_≡_, refl, sym, ap, _∙_}
+use mathlib.Core.Path.{_≡_, refl, ap, _∙_}
 use mathlib.Core.Bool.{Bool, true, false, _&&_, _||_, or-true}
 use mathlib.Core.Logic.{_⊎_, inl, inr, ⊎-elim}
-use Prim.Native.Nat.{ℕ, _+_, _-_, _*_, _%_, _^_, _<_, _≤_}
+use Prim.Native.Nat.{ℕ, _+_, _-_, _%_, _^_, _<_, _≤_}
 use native.Mathlib.Nat.{mod-eq-of-lt, mod-self, zero-mod}
 use native.Mathlib.Decide.{decLt, ℕ-discrete}
 use borrow.Author.Tests.{le-leb, lt-ltb, eq-eqb, ne-eqb, eqb-true}
 use native.Mathlib.Omega.{arith}
-use Rattle.arithmetic.specs.Rounding.{pick, fits, isMultiple, roundDown, roundUp}
+use Rattle.arithmetic.specs.Rounding.{pick, fits, isMultiple, roundUp}
 use Rattle.arithmetic.specs.Offsets.{rangeOf}
 use lib.Dec.{eqb}
 use Rattle.arithmetic.specs.RoundingLaws.{multiple-add, multiple-sub, multiple-trans, multiple-le, down-le, down-near, down-multiple, up-ge, up-near, up-multiple, up-least, up-same, true-fits}

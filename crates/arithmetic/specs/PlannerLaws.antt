@@ -1,10 +1,9 @@
 -- Laws of the planner: chunks are adjacent, at most the share, each of the share but the last, and together the range; past the count they are empty, at the end. Assumes nothing.
-use mathlib.Core.Path.{_≡_, refl, sym, ap, _∙_}
+use mathlib.Core.Path.{_≡_, refl, sym}
 use mathlib.Core.Bool.{Bool, true, false, _&&_}
 use Prim.Native.Nat.{ℕ, suc, _+_, _-_, _*_, _/_, _%_, _<_, _≤_, min}
 use native.Mathlib.Nat.{div-eq-of-lt-le, div-add-mod', mod-lt, mul-le-mul-right, le-div-iff-mul-le, div-lt-iff-lt-mul}
 use native.Mathlib.Omega.{arith}
-use Rattle.arithmetic.specs.Offsets.{rangeOf}
 use Rattle.arithmetic.specs.Rounding.{pick, fits, isMultiple}
 use Rattle.arithmetic.specs.Settings.{settingsFit}
 use Rattle.arithmetic.specs.Planner.{planOutcome, chunkCount, plannedChunk}

@@ -1,14 +1,13 @@
 -- Laws of sums that fit, of multiples and of rounding, for any multiple. Assumes nothing.
-use mathlib.Core.Path.{_≡_, refl, sym, ap, _∙_}
+use mathlib.Core.Path.{_≡_, refl, sym, _∙_}
 use mathlib.Core.Bool.{Bool, true, false}
 use Prim.Native.Nat.{ℕ, _+_, _-_, _*_, _/_, _%_, _^_, _<_, _≤_}
-use native.Mathlib.Nat.{mod-lt, mod-le, mod-zero, div-add-mod', mul-mod-left, mod-eq-sub-div-mul, add-mul-mod-self-right, le-div-iff-mul-le, div-lt-iff-lt-mul, mul-le-mul-right, dvd-of-mod-eq-zero, mod-eq-zero-of-dvd, dvd-trans, dvd-add, dvd-sub, le-of-dvd}
+use native.Mathlib.Nat.{mod-lt, mod-zero, div-add-mod', mul-mod-left, le-div-iff-mul-le, div-lt-iff-lt-mul, mul-le-mul-right, dvd-of-mod-eq-zero, mod-eq-zero-of-dvd, dvd-trans, dvd-add, dvd-sub, le-of-dvd}
 use native.Mathlib.Omega.{arith}
 use native.Mathlib.Decide.{decLt, ℕ-discrete}
-use lib.Dec.{ltb, leb, eqb}
-use borrow.Author.Tests.{ltb-true, ltb-false, lt-ltb, le-ltb, le-leb, lt-leb, eq-eqb, ne-eqb}
-use Rattle.arithmetic.specs.Rounding.{pick, fits, isMultiple, roundDown, roundUp, sumOf, upOf}
-use Rattle.arithmetic.specs.declared.offsets.Sum.{Sum}
+use lib.Dec.{leb, eqb}
+use borrow.Author.Tests.{ltb-true, lt-ltb, le-ltb, le-leb, lt-leb, eq-eqb, ne-eqb}
+use Rattle.arithmetic.specs.Rounding.{pick, fits, roundDown, roundUp, sumOf, upOf}
 use Rattle.arithmetic.specs.declared.offsets.Sum.the-variants.{Fits, Over}
 
 -- ---- what fits

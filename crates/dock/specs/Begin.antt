@@ -7,7 +7,7 @@ use lib.Dec.{ltb}
 use lib.ListN.{length, set, replicate}
 use Rattle.arithmetic.specs.Rounding.{pick}
 use Rattle.arithmetic.specs.declared.refusals.Refusal.{Refusal}
-use Rattle.arithmetic.specs.declared.refusals.Refusal.the-variants.{Segment, Overlap, Full, Slot}
+use Rattle.arithmetic.specs.declared.refusals.Refusal.the-variants.{Segment, Overlap, Full}
 use Rattle.arithmetic.specs.declared.refusals.Outcome.{Outcome}
 use Rattle.arithmetic.specs.declared.refusals.Outcome.the-variants.{Done, Refused}
 use Rattle.arithmetic.specs.declared.offsets.StoreOffset.{StoreOffset}

@@ -1,14 +1,13 @@
 -- The dock: settings, lent buffers, blockers, and for each of the 8 slots a job's state and vector. Document 01, "Settings" and "Events".
 use mathlib.Core.Bool.{Bool, true, false, _&&_, _||_, not}
 use mathlib.Core.List.{List, [], _∷_}
-use Prim.Native.Nat.{ℕ, suc, _+_, _*_}
-use lib.Dec.{ltb, leb, eqb}
-use lib.ListN.{length, getD, set, replicate}
+use Prim.Native.Nat.{ℕ, suc, _*_}
+use lib.Dec.{ltb, eqb}
+use lib.ListN.{length, getD, replicate}
 use Rattle.arithmetic.specs.Rounding.{pick}
 use Rattle.arithmetic.specs.Loops.{anyBelow}
 use Rattle.arithmetic.specs.Offsets.{bufferAt, rangeOf}
 use Rattle.arithmetic.specs.Settings.{openingOf, profileOf, alignments}
-use Rattle.arithmetic.specs.declared.refusals.Refusal.{Refusal}
 use Rattle.arithmetic.specs.declared.refusals.Refusal.the-variants.{Buffer}
 use Rattle.arithmetic.specs.declared.refusals.Outcome.{Outcome}
 use Rattle.arithmetic.specs.declared.refusals.Outcome.the-variants.{Done, Refused}

@@ -23,7 +23,7 @@ use Rattle.stages.specs.declared.plan.Plan.the-variants.{Done as NothingToDo, S
 use Rattle.stages.specs.declared.told.Step.{Step}
 use Rattle.stages.specs.declared.told.Step.the-variants.{Stays, Ends, Enters}
 use Rattle.dock.specs.Dock.{vacant, stateAt, vectorAt, shareAt, lentFits, lentOf, isOutBy, overlapsOf, firstFree}
-use Rattle.dock.specs.Begin.{filled, blockersWith, Begins, withJob, onlyIf, thenDo, placed, placedAt, refusedBegin, begunBy, isAligned, vectorThen, beginReadOf, beginWriteOf, beginZeroesOf, beginDiscardOf}
+use Rattle.dock.specs.Begin.{filled, blockersWith, Begins, withJob, onlyIf, thenDo, placed, placedAt, refusedBegin, begunBy, isAligned, beginReadOf, beginWriteOf, beginZeroesOf, beginDiscardOf}
 use Rattle.dock.specs.Next.{isKeptBy}
 use Rattle.dock.specs.Tell.{Told, tellIf, refusedTell, blockersWithout, handed, stayed, ended, entered, staysOf, endsOf, entersOf, stepped, tellAt, tellOf, collectOf}
 use Rattle.dock.specs.declared.dock.Dock.{Dock}

@@ -26,7 +26,6 @@ use Rattle.dock.specs.Begin.{filled, blockersWith, thenDo, withJob}
 use Rattle.dock.specs.Next.{isKeptBy}
 use Rattle.dock.specs.declared.dock.Dock.{Dock}
 use Rattle.dock.specs.declared.tell.Telling.{Telling}
-use Rattle.dock.specs.declared.tell.Collected.{Collected}
 use Rattle.dock.specs.declared.tell.Collected.the-variants.{Final, Refused as NotCollected}
 use Rattle.dock.specs.declared.tell.Collects.{Collects}
 

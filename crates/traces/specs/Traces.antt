@@ -1,6 +1,6 @@
 -- Document 01, "Traced jobs": a job run through the dock's own definitions, with the store's codes given: which requests come, and the answer.
 use mathlib.Core.Path.{_≡_, refl}
-use mathlib.Core.Bool.{Bool, true, false}
+use mathlib.Core.Bool.{false}
 use mathlib.Core.List.{List, [], _∷_, _++_}
 use Prim.Native.Nat.{ℕ, _*_, _-_, _^_}
 use lib.ListN.{length, replicate}
