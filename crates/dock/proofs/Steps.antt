@@ -1,7 +1,7 @@
 -- The branches of begin and tell: what each leaves is what the definition says. Assumes nothing.
 use mathlib.Core.Path.{_≡_, refl, sym, ap, _∙_}
 use mathlib.Core.Bool.{Bool, true, false, _&&_}
-use mathlib.Core.List.{List}
+use mathlib.Core.List.{List, []}
 use Prim.Native.Nat.{ℕ, _+_, _*_, _<_, _≤_}
 use native.Mathlib.Omega.{arith}
 use lib.Dec.{ltb, leb, eqb}
@@ -16,7 +16,8 @@ use Rattle.arithmetic.specs.Settings.{openingOf}
 use Rattle.arithmetic.specs.SettingsLaws.{and-left, and-right, opened}
 use Rattle.arithmetic.specs.declared.settings.Settings.{Settings}
 use Rattle.arithmetic.specs.declared.settings.Buffers.{Buffers}
-use Rattle.vectors.specs.Vectors.{isValid}
+use Rattle.vectors.specs.Vectors.{sizeOf, allSegments, segmentsFit, vectorOf, isValid}
+use Rattle.vectors.specs.SegmentLaws.{vector-valid}
 use Rattle.vectors.specs.declared.vector.IoVector.{IoVector}
 use Rattle.stages.specs.Stages.{isSound, toldOf}
 use Rattle.stages.specs.Laws.{told-stays, told-enters}
@@ -197,6 +198,28 @@ vector-refused d v memory scratch K e = simp e
 
 pub vector-done : (d : Dock) (v : IoVector) (memory scratch : List ℕ) (K : Begins) → isValid (length memory) v ≡ true → K ≡ vectorThen d v memory scratch K
 vector-done d v memory scratch K e = simp e
+
+-- the empty vector is one over any data
+empty-valid : (n : ℕ) → isValid n (vectorOf []) ≡ true
+unfolding segmentsFit allSegments sizeOf
+empty-valid n = vector-valid n [] refl
+
+-- a begin of the job j by its plan: by the definition's, which is the same
+module _ (d : Dock) (j : Job) (memory scratch : List ℕ) where
+  abbrev Lends : Begins → Begins
+  Lends k = onlyIf d scratch (lentOf (d .settings) (d .buffers) (length memory) (length scratch)) k
+
+  abbrev Plans : IoVector → Plan → Begins
+  Plans v q = Lends (vectorThen d v memory scratch (begunBy d j v memory scratch q))
+
+  pub planned : (v : IoVector) (q p : Plan) → q ≡ p → (r : Begins) → r ≡ Plans v q → r ≡ Plans v p
+  planned v q p e r k = k ∙ ap (λ (x : Plan). Plans v x) e
+
+  -- of zeroes and of a discard, whose vector is empty: 202 is never its answer
+  pub planned-empty : (v : IoVector) → v ≡ vectorOf [] → (q p : Plan) → q ≡ p → (r : Begins) → r ≡ Plans v q → r ≡ Lends (begunBy d j (vectorOf []) memory scratch p)
+  planned-empty v w q p e r k =
+      planned (vectorOf []) q p e r (k ∙ ap (λ (x : IoVector). Plans x q) w) ∙
+      ap Lends (sym (vector-done d (vectorOf []) memory scratch (begunBy d j (vectorOf []) memory scratch p) (empty-valid (length memory))))
 
 pub plan-sound : (n : ℕ) (plan : Plan) → ((x : State) → plan ≡ Started x → isSound n x ≡ true) → PlanSound n plan
 plan-sound n NothingToDo f = tt

@@ -27,7 +27,8 @@ ghost use mathlib.Core.Bool.{true};
 ghost use Prim.Native.Nat.{_*_, _<_, _≤_};
 ghost use lib.ListN.{length};
 ghost use Rattle.stages.specs.Stages.{isSound};
-ghost use Rattle.dock.specs.Begin.{PlanSound, begins, blockersWith, isAligned, placedAt, begunBy, beginReadOf, beginWriteOf, beginZeroesOf, beginDiscardOf};
+ghost use Rattle.dock.specs.Dock.{lentOf};
+ghost use Rattle.dock.specs.Begin.{PlanSound, begins, blockersWith, isAligned, placedAt, onlyIf, vectorThen, begunBy, beginReadOf, beginWriteOf, beginZeroesOf, beginDiscardOf};
 ghost use Rattle.vectors.specs.Vectors.{alignmentOf};
 
 // What a begin answers.
@@ -157,15 +158,17 @@ impl Dock {
         self.place(slot, x, vector, data, scratch)
     }
 
-    // Begin a read of the vector's length at `offset` into the data.
-    pub fn begin_read(
+    // A planned job: what it is lent (201, 205), its vector (202), then 203, 204 and its slot.
+    fn begin_planned(
         self,
-        offset: StoreOffset,
+        job: Job,
+        plan: Plan,
         vector: IoVector,
         data: &[u8],
         scratch: &mut [u8],
     ) -> Beginning
-        ensures { λ r. ⌜ begins r (now (scratch .exit)) ≡ beginReadOf self offset vector (now («data» .entry)) (now (scratch .entry)) ⌝ }
+        requires { ⌜ PlanSound (self .settings .bounce) plan ⌝ }
+        ensures { λ r. ⌜ begins r (now (scratch .exit)) ≡ onlyIf self (now (scratch .entry)) (lentOf (self .settings) (self .buffers) (length (now («data» .entry))) (length (now (scratch .entry)))) (vectorThen self vector (now («data» .entry)) (now (scratch .entry)) (begunBy self job vector (now («data» .entry)) (now (scratch .entry)) plan)) ⌝ }
     {
         let settings = self.settings;
         let buffers = self.buffers;
@@ -181,9 +184,24 @@ impl Dock {
                 answer: Begun::Refused(Refusal::Segment),
             };
         }
+        self.begun(job, plan, vector, data, scratch)
+    }
+
+    // Begin a read of the vector's length at `offset` into the data.
+    pub fn begin_read(
+        self,
+        offset: StoreOffset,
+        vector: IoVector,
+        data: &[u8],
+        scratch: &mut [u8],
+    ) -> Beginning
+        ensures { λ r. ⌜ begins r (now (scratch .exit)) ≡ beginReadOf self offset vector (now («data» .entry)) (now (scratch .entry)) ⌝ }
+    {
+        let settings = self.settings;
+        let buffers = self.buffers;
         let aligned = is_aligned(vector, settings.align, buffers.data);
         let plan = read_plan(settings, offset, vector.total, aligned);
-        self.begun(Job::Read, plan, vector, data, scratch)
+        self.begin_planned(Job::Read, plan, vector, data, scratch)
     }
 
     // Begin a write of the vector's bytes at `offset`.
@@ -198,21 +216,9 @@ impl Dock {
     {
         let settings = self.settings;
         let buffers = self.buffers;
-        if let Outcome::Refused(r) = lent(settings, buffers, data.len(), scratch.len()) {
-            return Beginning {
-                dock: self,
-                answer: Begun::Refused(r),
-            };
-        }
-        if !vector.valid(data.len()) {
-            return Beginning {
-                dock: self,
-                answer: Begun::Refused(Refusal::Segment),
-            };
-        }
         let aligned = is_aligned(vector, settings.align, buffers.data);
         let plan = write_plan(settings, offset, vector.total, aligned);
-        self.begun(Job::Write, plan, vector, data, scratch)
+        self.begin_planned(Job::Write, plan, vector, data, scratch)
     }
 
     // Begin zeroes over n bytes at `offset`, plain or allocating.
@@ -226,16 +232,8 @@ impl Dock {
     ) -> Beginning
         ensures { λ r. ⌜ begins r (now (scratch .exit)) ≡ beginZeroesOf self allocate offset n (now («data» .entry)) (now (scratch .entry)) ⌝ }
     {
-        let settings = self.settings;
-        let buffers = self.buffers;
-        if let Outcome::Refused(r) = lent(settings, buffers, data.len(), scratch.len()) {
-            return Beginning {
-                dock: self,
-                answer: Begun::Refused(r),
-            };
-        }
-        let plan = zero_plan(settings, allocate, offset, n);
-        self.begun(Job::Zeroes, plan, IoVector::new(), data, scratch)
+        let plan = zero_plan(self.settings, allocate, offset, n);
+        self.begin_planned(Job::Zeroes, plan, IoVector::new(), data, scratch)
     }
 
     // Begin a discard of n bytes at `offset`.
@@ -248,15 +246,7 @@ impl Dock {
     ) -> Beginning
         ensures { λ r. ⌜ begins r (now (scratch .exit)) ≡ beginDiscardOf self offset n (now («data» .entry)) (now (scratch .entry)) ⌝ }
     {
-        let settings = self.settings;
-        let buffers = self.buffers;
-        if let Outcome::Refused(r) = lent(settings, buffers, data.len(), scratch.len()) {
-            return Beginning {
-                dock: self,
-                answer: Begun::Refused(r),
-            };
-        }
-        let plan = discard_plan(settings, offset, n);
-        self.begun(Job::Discard, plan, IoVector::new(), data, scratch)
+        let plan = discard_plan(self.settings, offset, n);
+        self.begin_planned(Job::Discard, plan, IoVector::new(), data, scratch)
     }
 }

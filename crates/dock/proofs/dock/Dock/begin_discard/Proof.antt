@@ -1,31 +1,13 @@
--- `dock::dock::Dock::begin_discard` meets its contract: 201 and 205, then the discard's plan, whose first stage is sound. Assumes nothing.
+-- `dock::dock::Dock::begin_discard` meets its contract: a discard is begun by the plan, whose first stage is sound, with the empty vector. Assumes nothing.
 use denote.Ref.{now}
-use mathlib.Core.Path.{sym, ap, _∙_}
-use lib.ListN.{length}
+use mathlib.Core.Path.{sym, _∙_}
 use Rattle.stages.specs.Laws.{discard-opens}
-use Rattle.dock.specs.Begin.{beginDiscardOf, begunBy}
 use Rattle.stages.specs.declared.state.Job.the-variants.{Discard}
-use Rattle.stages.specs.declared.plan.Plan.{Plan}
-use Rattle.vectors.specs.declared.vector.IoVector.{IoVector}
-use Rattle.vectors.specs.Vectors.{vectorOf}
-use mathlib.Core.List.{[]}
-use Rattle.dock.proofs.Steps.{lent-room, lent-refused, lent-done, plan-sound}
+use Rattle.dock.specs.Begin.{beginDiscardOf}
+use Rattle.dock.proofs.Steps.{planned-empty, plan-sound}
 use borrow.Author.Needs.{needs}
 use Rattle.dock.proofs.dock.Dock.begin_discard.Statement.{statement}
 use Rattle.dock.proofs.dock.Dock.begin_discard.Tie as tie
-
-lent-requires : tie.Need-lent-requires
-lent-requires c κs = search needs
-
-enum-known-r : tie.Need-enum-known-r
-enum-known-r c = search needs
-
-returns : tie.Need-returns
-unfolding beginDiscardOf
-returns c = let a = c .before .before .before .before .before .before .before .before .args in lent-refused (a .self) (now (a .«data»)) (now (a .scratch)) _ (c .before .before .before .lent .ensures) _ _ (c .before .r .given .1)
-
-enum-told : tie.Need-enum-told
-enum-told c = search needs
 
 discard-plan-requires : tie.Need-discard-plan-requires
 discard-plan-requires c κs = search needs
@@ -33,26 +15,17 @@ discard-plan-requires c κs = search needs
 new-requires : tie.Need-new-requires
 new-requires c κs = search needs
 
-begun-requires : tie.Need-begun-requires
-begun-requires c κs = let a = c .before .before .before .before .before .before .before .before .before .before .args in (plan-sound (a .self .settings .bounce) _ (λ x e. discard-opens (a .self .settings) (a .offset) (a .n) x (sym (c .before .before .discard-plan .ensures) ∙ e) .sound), lent-room (a .self .settings) (a .self .buffers) (length (now (a .«data»))) (length (now (a .scratch))) _ (c .before .before .before .before .before .lent .ensures) (c .before .before .before .enum-told .given .1))
+begin-planned-requires : tie.Need-begin-planned-requires
+begin-planned-requires c κs = let a = c .before .before .before .before .before .args in plan-sound (a .self .settings .bounce) _ (λ x e. discard-opens (a .self .settings) (a .offset) (a .n) x (sym (c .before .before .discard-plan .ensures) ∙ e) .sound)
 
 same-length : tie.Need-same-length
 same-length c = search needs
 
-returns-2 : tie.Need-returns-2
+returns : tie.Need-returns
 unfolding beginDiscardOf
-returns-2 c = let a = c .before .before .before .before .before .before .before .before .before .before .before .before .before .args in (c .before .before .begun .ensures) ∙ ap (λ (v : IoVector). begunBy (a .self) Discard v (now (a .«data»)) (now (a .scratch)) (c .before .before .before .before .before .discard-plan .result)) (c .before .before .before .before .new .ensures) ∙ ap (λ (q : Plan). begunBy (a .self) Discard (vectorOf []) (now (a .«data»)) (now (a .scratch)) q) (c .before .before .before .before .before .discard-plan .ensures) ∙ lent-done (a .self) (now (a .«data»)) (now (a .scratch)) _ (c .before .before .before .before .before .before .before .before .lent .ensures) _ (c .before .before .before .before .before .before .enum-told .given .1)
+returns c = let a = c .before .before .before .before .before .before .before .before .args in planned-empty (a .self) Discard (now (a .«data»)) (now (a .scratch)) _ (c .before .before .before .before .new .ensures) _ _ (c .before .before .before .before .before .discard-plan .ensures) _ (c .before .before .begin-planned .ensures)
 
 pub begin-discard-spec : {M : Type 1} → statement M
 begin-discard-spec =
     tie.close
-    (tie.spec
-    lent-requires
-    enum-known-r
-    returns
-    enum-told
-    discard-plan-requires
-    new-requires
-    begun-requires
-    same-length
-    returns-2)
+    (tie.spec discard-plan-requires new-requires begin-planned-requires same-length returns)
