@@ -32,7 +32,7 @@ fn is_bounced_write(p: Phase) -> bool
         Phase::Ended => false,
         Phase::DirectRead => false,
         Phase::BouncedRead => false,
-        Phase::FirstRead => false,
+        Phase::FirstRead => false, // filled once its reads are done
         Phase::SecondRead => false,
         Phase::BouncedWrite => true,
         Phase::DirectWrite => false,

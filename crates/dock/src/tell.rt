@@ -228,8 +228,10 @@ impl Dock {
                 answer: Collected::Refused(Refusal::Slot),
             };
         }
-        self.states[slot] = vacant();
-        self.vectors[slot] = IoVector::new();
+        let free = vacant();
+        let none = IoVector::new();
+        self.states[slot] = free;
+        self.vectors[slot] = none;
         Collects {
             dock: self,
             answer: Collected::Final(x.answer),
