@@ -1,26 +1,25 @@
 -- A begin that gets a slot keeps the invariant: the new job's bytes are those of the rules, and the others are left as they are. Assumes nothing.
-use mathlib.Core.Path.{_≡_, refl, sym, ap, _∙_, subst}
+use mathlib.Core.Path.{_≡_, refl, sym, ap, _∙_}
 use mathlib.Core.Bool.{Bool, true, false, _&&_, _||_, not}
-use mathlib.Core.Logic.{_⊎_, inl, inr, ⊎-elim, _≢_}
+use mathlib.Core.Logic.{_⊎_, inr, ⊎-elim, _≢_}
 use mathlib.Core.List.{List, []}
 use mathlib.Core.Option.{Option, none, some}
 use Prim.Native.Nat.{ℕ, _+_, _-_, _*_, _<_, _≤_}
 use native.Mathlib.Omega.{arith}
-use lib.Dec.{ltb, leb, eqb}
-use lib.ListN.{length, getD, set, replicate, length-replicate, getD-replicate}
+use lib.Dec.{eqb}
+use lib.ListN.{length, getD, replicate, length-replicate, getD-replicate}
 use lib.Seq.{getD-set-same, getD-set-other}
 use borrow.Author.Tests.{eqb-true}
 use Rattle.arithmetic.specs.Rounding.{pick}
 use Rattle.arithmetic.specs.Loops.{anyBelow, any-here}
 use Rattle.arithmetic.specs.SettingsLaws.{and-left, and-right}
-use Rattle.arithmetic.specs.declared.refusals.Refusal.the-variants.{Segment}
-use Rattle.arithmetic.specs.declared.refusals.Outcome.the-variants.{Done, Refused}
-use Rattle.vectors.specs.Vectors.{sizeOf as sizeOfAll, segmentsOf, bytesOf, overlapOf, selfOverlapOf, isValid, copies, put}
+use Rattle.arithmetic.specs.declared.refusals.Outcome.the-variants.{Done}
+use Rattle.vectors.specs.Vectors.{segmentsOf, bytesOf, overlapOf, selfOverlapOf, isValid, copies, put}
 use Rattle.vectors.specs.ByteLaws.{bytes-length}
 use Rattle.vectors.specs.SegmentLaws.{valid}
 use Rattle.vectors.specs.OverlapLaws.{or-left, or-right, or-cases}
 use Rattle.vectors.specs.declared.vector.IoVector.{IoVector}
-use Rattle.blockers.specs.Blockers.{isEntered, blockerAt, waitsOf}
+use Rattle.blockers.specs.Blockers.{waitsOf}
 use Rattle.stages.specs.Stages.{sizeOf, isFree, isPending, usesBounce}
 use Rattle.stages.specs.declared.state.Job.{Job}
 use Rattle.stages.specs.declared.state.Job.the-variants.{Read, Write, Zeroes, AllocatedZeroes, Discard}
@@ -30,20 +29,20 @@ use Rattle.stages.specs.declared.state.Course.{Course}
 use Rattle.stages.specs.declared.state.Course.the-variants.{Last, Middle, Head, Chunks}
 use Rattle.stages.specs.declared.state.State.{State}
 use Rattle.arithmetic.specs.declared.settings.Settings.{Settings}
-use Rattle.dock.specs.Dock.{noState, noVector, stateAt, vectorAt, lentFits, shareAt, isReadJob, meetsOf, meetsAt, overlapsOf, firstFree}
-use Rattle.dock.specs.Begin.{isWriteJob, isBouncedWrite, sourceOf, sourceFits, mergedAt, filled, blockersWith, withJob, placed}
+use Rattle.dock.specs.Dock.{noState, noVector, stateAt, vectorAt, isReadJob, meetsOf, meetsAt, overlapsOf, firstFree}
+use Rattle.dock.specs.Begin.{isWriteJob, isBouncedWrite, sourceOf, sourceFits, mergedAt, filled, placed}
 use Rattle.dock.specs.declared.dock.Dock.{Dock}
-use Rattle.histories.specs.Courses.{isZeroJob, hasVector, puts, isRegular, suited, never}
-use Rattle.histories.specs.Held.{Held}
-use Rattle.histories.specs.Calls.{Ready, free-idle, write-vector, copied, pending-taken, first-free, free-there, place-held}
+use Rattle.histories.specs.Courses.{isZeroJob, puts, isRegular, suited, never}
+use Rattle.histories.specs.Calls.{Ready, free-idle, write-vector, copied, first-free, free-there, place-held}
+use Rattle.histories.specs.MadeLaws.{data-long}
 use Rattle.histories.specs.Store.{Bytes}
 use Rattle.histories.specs.PlainStore.{Tracked, Plain, newBytes, setAt}
 use Rattle.histories.specs.Histories.{World}
 use Rattle.histories.proofs.Lists.{share-put-length, share-put-other, share-put-on}
-use Rattle.histories.proofs.Geometry.{Beside, Geo, Unread, Shaped}
+use Rattle.histories.proofs.Geometry.{Geo, Unread, Shaped}
 use Rattle.histories.proofs.Progress.{Before}
-use Rattle.histories.proofs.Invariant.{share, Fact, Flight, Within, within, no-padding}
-use Rattle.histories.proofs.World.{Taken, Tracks, SlotInv, Inv, room, enter-waits, data-length}
+use Rattle.histories.proofs.Invariant.{share, Fact, Flight, within, no-padding}
+use Rattle.histories.proofs.World.{Taken, SlotInv, Inv, room, enter-waits}
 use Rattle.histories.proofs.Renewing.{set-same, set-other, renewed-inv}
 
 -- ---- what is filled in
@@ -207,7 +206,7 @@ module _ (w : World) (m : Plain) (I : Inv w m) (j : Job) (v : IoVector) (bs : Li
   entered = record { settings = m .settings; buffers = m .buffers; bytes = m .bytes; jobs = setAt (m .jobs) p (some job) }
 
   long : length (w .memory) ≡ d .buffers .«data» .length
-  long = data-length (d .buffers) (length (w .memory)) (length (w .scratch)) (I .long)
+  long = data-long (d .buffers) (length (w .memory)) (length (w .scratch)) (I .long)
 
   was-free : isFree (stateAt d p .phase) ≡ true
   was-free = first-free (d .states) (rw (I .held .states) h)

@@ -1,52 +1,45 @@
 -- A request that is carried out keeps the invariant: on both sides the same bytes change, a read's share or segments hold what it yielded, and no other slot is touched. Assumes nothing.
-use mathlib.Core.Path.{_≡_, refl, sym, ap, _∙_, subst}
-use mathlib.Core.Bool.{Bool, true, false, _&&_, _||_, not}
-use mathlib.Core.Logic.{_⊎_, inl, inr, ⊎-elim, _≢_}
-use mathlib.Core.List.{List, [], _∷_, _++_, map}
+use mathlib.Core.Path.{_≡_, refl, sym, ap, _∙_}
+use mathlib.Core.Bool.{Bool, true, false, _||_}
+use mathlib.Core.Logic.{_⊎_, ⊎-elim, _≢_}
+use mathlib.Core.List.{List, [], _∷_, _++_}
 use mathlib.Core.Option.{Option, none, some}
-use Prim.Native.Nat.{ℕ, zero, suc, _+_, _-_, _*_, _<_, _≤_}
+use Prim.Native.Nat.{ℕ, zero, suc, _+_, _-_, _<_, _≤_}
 use native.Mathlib.Omega.{arith}
-use lib.Dec.{ltb, leb, eqb}
+use lib.Dec.{ltb}
 use lib.ListN.{length, getD, take, drop}
-use lib.Seq.{take-nil, take-length, drop-drop, getD-drop}
-use borrow.Author.Tests.{lt-ltb, le-leb, ltb-true, leb-true, eqb-true}
+use lib.Seq.{take-nil, drop-drop, getD-drop}
+use borrow.Author.Tests.{lt-ltb, le-leb, ltb-true}
 use Rattle.arithmetic.specs.Rounding.{pick}
 use Rattle.arithmetic.specs.SettingsLaws.{and-left, and-right}
-use Rattle.arithmetic.specs.Offsets.{rangeOf}
 use Rattle.arithmetic.specs.declared.refusals.Refusal.the-variants.{Buffer, Slot}
 use Rattle.arithmetic.specs.declared.offsets.Range.{Range}
-use Rattle.arithmetic.specs.declared.settings.Settings.{Settings}
 use Rattle.vectors.specs.Vectors.{segment, none as noSegment, liesIn, allSegments, segmentsOf, bytesOf, scatterOf, put, isValid, overlapOf}
-use Rattle.vectors.specs.SegmentLaws.{lies, valid}
+use Rattle.vectors.specs.SegmentLaws.{lies}
 use Rattle.vectors.specs.OverlapLaws.{or-cases, overlap-sym}
 use Rattle.vectors.specs.declared.vector.Segment.{Segment}
 use Rattle.vectors.specs.declared.vector.IoVector.{IoVector}
 use Rattle.blockers.specs.Blockers.{waitsOf}
-use Rattle.stages.specs.Stages.{sizeOf, isFree, hasEnded, isPending, isBlocking, request, requestBy, requestOf, secondAt}
-use Rattle.stages.specs.declared.state.Kind.the-variants.{Read as KRead, Write as KWrite}
+use Rattle.stages.specs.Stages.{sizeOf, isFree, hasEnded, isPending, isBlocking, request, requestOf}
 use Rattle.stages.specs.declared.state.Phase.{Phase}
-use Rattle.stages.specs.declared.state.Phase.the-variants.{Free, Ended, DirectRead, BouncedRead, FirstRead, SecondRead, BouncedWrite, DirectWrite, ZeroRequest, DiscardRequest}
 use Rattle.stages.specs.declared.state.Course.{Course}
 use Rattle.stages.specs.declared.state.Course.the-variants.{Last, Middle, Head, Chunks}
 use Rattle.stages.specs.declared.state.Request.{Request}
 use Rattle.stages.specs.declared.state.State.{State}
 use Rattle.dock.specs.Dock.{stateAt, vectorAt, lentFits, isOutBy, isOut, shareAt, isReadJob}
 use Rattle.dock.specs.Begin.{isWriteJob}
-use Rattle.dock.specs.Next.{dueBy, nextOf, isKept, inData, inScratch, pieceBy, pieceOf, partOf}
-use Rattle.dock.specs.declared.dock.Dock.{Dock}
-use Rattle.dock.specs.declared.next.Due.{Due}
+use Rattle.dock.specs.Next.{nextOf, inData, inScratch, pieceBy, pieceOf, partOf}
 use Rattle.dock.specs.declared.next.Due.the-variants.{Waiting, Make, Answer, Refused as NotDue}
 use Rattle.dock.specs.declared.next.Piece.{Piece}
-use Rattle.dock.specs.declared.next.Piece.the-variants.{InData, InScratch, Refused as NoPiece}
-use Rattle.histories.specs.Courses.{isZeroJob, hasVector, never}
-use Rattle.histories.specs.Held.{Held, SlotOf}
+use Rattle.dock.specs.declared.next.Piece.the-variants.{InData, InScratch}
+use Rattle.histories.specs.Courses.{hasVector, never}
 use Rattle.histories.specs.MadeLaws.{kept-held}
-use Rattle.histories.specs.Store.{Bytes, Choice, piecesFrom, gathered, landed, window, yields}
+use Rattle.histories.specs.Store.{Bytes, piecesFrom, gathered, landed}
 use Rattle.histories.specs.PlainStore.{Did, Tracked, Plain, setAt}
-use Rattle.histories.specs.Histories.{World, Same, carriesOut, unless, made, outIn, putBy}
-use Rattle.histories.proofs.Progress.{Put, Before}
-use Rattle.histories.proofs.Invariant.{share, Fact, Flight}
-use Rattle.histories.proofs.World.{Taken, Tracks, SlotInv, Inv}
+use Rattle.histories.specs.Histories.{World, unless, made, outIn, putBy}
+use Rattle.histories.proofs.Progress.{Before}
+use Rattle.histories.proofs.Invariant.{share, Fact}
+use Rattle.histories.proofs.World.{Taken, Tracks, Inv}
 use Rattle.histories.proofs.Renewing.{set-same, set-other, renewed-inv}
 
 -- ---- which request is out

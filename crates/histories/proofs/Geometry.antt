@@ -1,11 +1,11 @@
 -- Where the bytes of a stage lie: every byte of a padded range beside the asked one is read, a stage as it opens has read nothing, and what its asked range is of the job's. Assumes nothing.
-use mathlib.Core.Path.{_≡_, refl, sym, ap, _∙_, subst}
-use mathlib.Core.Bool.{Bool, true, false, _&&_, _||_}
+use mathlib.Core.Path.{_≡_, refl, sym}
+use mathlib.Core.Bool.{Bool, true, false}
 use mathlib.Core.Logic.{_⊎_, inl, inr, ⊎-elim}
 use Prim.Native.Nat.{ℕ, _+_, _-_, _<_, _≤_}
 use native.Mathlib.Omega.{arith}
 use native.Mathlib.Decide.{decLt}
-use lib.Dec.{ltb, leb, eqb}
+use lib.Dec.{ltb, eqb}
 use borrow.Author.Tests.{ltb-true, ltb-false, eqb-true, eqb-false}
 use Rattle.arithmetic.specs.Rounding.{pick, isMultiple}
 use Rattle.arithmetic.specs.RoundingLaws.{up-ge}
@@ -14,8 +14,8 @@ use Rattle.arithmetic.specs.Settings.{settingsFit, lengthAlign}
 use Rattle.arithmetic.specs.SettingsLaws.{accepted}
 use Rattle.arithmetic.specs.Padding.{transferOf, readsOf}
 use Rattle.arithmetic.specs.PaddingLaws.{Spans, Transfers, transfers}
-use Rattle.arithmetic.specs.Zeroes.{middleStart, middleEnd, hasMiddle, cutOf, zeroCutOf, discardCutOf, chunkLength, chunkOf}
-use Rattle.arithmetic.specs.ZeroesLaws.{tiled, chunk-within}
+use Rattle.arithmetic.specs.Zeroes.{middleStart, middleEnd, hasMiddle, cutOf, zeroCutOf, discardCutOf}
+use Rattle.arithmetic.specs.ZeroesLaws.{tiled}
 use Rattle.arithmetic.specs.declared.offsets.StoreOffset.{StoreOffset}
 use Rattle.arithmetic.specs.declared.offsets.Range.{Range}
 use Rattle.arithmetic.specs.declared.settings.Alignments.{Alignments}
@@ -28,9 +28,9 @@ use Rattle.arithmetic.specs.declared.zeroes.ZeroCut.{ZeroCut}
 use Rattle.arithmetic.specs.declared.zeroes.ZeroCut.the-variants.{Nothing as NoCut, Whole, Split, Refused as CutRefused}
 use Rattle.arithmetic.specs.declared.zeroes.DiscardCut.{DiscardCut}
 use Rattle.arithmetic.specs.declared.zeroes.DiscardCut.the-variants.{Nothing as NoDiscard, Middle as DiscardMiddle, Refused as DiscardRefused}
-use Rattle.stages.specs.Stages.{sizeOf, directStage, firstOf, secondOf, paddedStage, firstPhase, stateOf, asked, bouncedPhase, vectorBy, readPlan, writePlan, zeroesBy, zeroesPlan, zeroJob, zeroBy, zeroPlan, discardBy, discardPlan, secondAt}
+use Rattle.stages.specs.Stages.{sizeOf, directStage, firstOf, secondOf, paddedStage, firstPhase, asked, bouncedPhase, vectorBy, readPlan, writePlan, zeroesBy, zeroesPlan, zeroJob, zeroBy, zeroPlan, discardBy, discardPlan, secondAt}
 use Rattle.stages.specs.Laws.{Starts, starts-within, starts-some}
-use Rattle.stages.specs.Transfers.{splits, wholes}
+use Rattle.stages.specs.Transfers.{splits}
 use Rattle.stages.specs.declared.state.Job.{Job}
 use Rattle.stages.specs.declared.state.Job.the-variants.{Read, Write, Zeroes, AllocatedZeroes, Discard}
 use Rattle.stages.specs.declared.state.Phase.{Phase}

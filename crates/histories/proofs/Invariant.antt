@@ -1,22 +1,19 @@
 -- What holds of the two sides after every list of events: of each slot by itself, by which request is out; and that it stays where only other slots change. Assumes nothing.
-use mathlib.Core.Path.{_≡_, refl, sym, ap, _∙_, subst}
-use mathlib.Core.Bool.{Bool, true, false, _&&_, _||_, not}
-use mathlib.Core.Logic.{_⊎_, inl, inr, ⊎-elim, _≢_}
-use mathlib.Core.List.{List, [], _∷_}
+use mathlib.Core.Path.{_≡_, refl, sym, ap, _∙_}
+use mathlib.Core.Bool.{Bool, true, false, _&&_}
+use mathlib.Core.Logic.{_⊎_, ⊎-elim}
+use mathlib.Core.List.{List}
 use mathlib.Core.Option.{Option, none, some}
 use Prim.Native.Nat.{ℕ, _+_, _-_, _*_, _<_, _≤_}
 use native.Mathlib.Omega.{arith}
-use lib.Dec.{ltb, leb, eqb}
+use lib.Dec.{leb}
 use lib.ListN.{length, getD}
-use borrow.Author.Tests.{leb-true, ltb-true}
-use Rattle.arithmetic.specs.Rounding.{pick}
+use borrow.Author.Tests.{leb-true}
 use Rattle.arithmetic.specs.SettingsLaws.{and-left, and-right}
 use Rattle.arithmetic.specs.declared.settings.Settings.{Settings}
-use Rattle.arithmetic.specs.declared.offsets.Range.{Range}
-use Rattle.vectors.specs.Vectors.{segmentsOf, bytesOf, overlapOf, selfOverlapOf}
+use Rattle.vectors.specs.Vectors.{segmentsOf, bytesOf}
 use Rattle.vectors.specs.declared.vector.IoVector.{IoVector}
-use Rattle.blockers.specs.Blockers.{waitsOf}
-use Rattle.stages.specs.Stages.{sizeOf, isFree, isPending, isBlocking, usesBounce, secondAt, liesIn, isSound}
+use Rattle.stages.specs.Stages.{sizeOf, isPending, isBlocking, usesBounce, secondAt, liesIn, isSound}
 use Rattle.stages.specs.Laws.{Placed}
 use Rattle.stages.specs.declared.state.Job.{Job}
 use Rattle.stages.specs.declared.state.Job.the-variants.{Read, Write, Zeroes, AllocatedZeroes, Discard}
@@ -24,16 +21,14 @@ use Rattle.stages.specs.declared.state.Phase.{Phase}
 use Rattle.stages.specs.declared.state.Phase.the-variants.{Free, Ended, DirectRead, BouncedRead, FirstRead, SecondRead, BouncedWrite, DirectWrite, ZeroRequest, DiscardRequest}
 use Rattle.stages.specs.declared.state.Stage.{Stage}
 use Rattle.stages.specs.declared.state.State.{State}
-use Rattle.dock.specs.Dock.{stateAt, vectorAt, lentFits, isReadJob}
 use Rattle.dock.specs.Begin.{isWriteJob}
-use Rattle.histories.specs.Courses.{isZeroJob, hasVector, isRegular, never}
-use Rattle.histories.specs.Held.{Held}
+use Rattle.histories.specs.Courses.{isZeroJob, hasVector, isRegular}
 use Rattle.histories.specs.Calls.{write-vector, read-vector, direct-reads}
 use Rattle.histories.specs.Store.{Bytes}
-use Rattle.histories.specs.PlainStore.{Did, yielded, wrote, zeroed, discarded, Tracked, Plain, newBytes, standing}
-use Rattle.histories.specs.Histories.{World, Same, Among, here, later, puts, putBy, OwedBy}
+use Rattle.histories.specs.PlainStore.{yielded, wrote, zeroed, Tracked, newBytes, standing}
+use Rattle.histories.specs.Histories.{Among, OwedBy}
 use Rattle.histories.proofs.Geometry.{Beside, ReadBy, Geo, Unread, AsAsked, Zoned}
-use Rattle.histories.proofs.Progress.{Put, Before}
+use Rattle.histories.proofs.Progress.{Before}
 
 -- ---- one slot
 
@@ -128,9 +123,6 @@ module _ (t : Settings) (s s' : Bytes) (memory memory' : List ℕ) (sh sh' : ℕ
     (store-same : wait ≡ false → x .stage .strong ≡ true → isBlocking (x .phase) ≡ true → (i : ℕ) → i < sizeOf (x .stage .request) → s' (x .stage .request .start .0 + i) ≡ s (x .stage .request .start .0 + i))
     (wait-less : wait' ≡ true → wait ≡ true)
     (F : Flight t s memory sh x v car wait j) where
-  g : Stage
-  g = x .stage
-
   -- a byte of the store that a fact of this job speaks of
   agree : isBlocking (x .phase) ≡ true → (i : ℕ) → i < sizeOf (x .stage .request) → (wait ≡ true → ⊥) → (x .stage .strong ≡ false → ⊥) → s (x .stage .request .start .0 + i) ≡ s' (x .stage .request .start .0 + i)
   agree p i h a b = go wait (x .stage .strong) refl refl
@@ -160,25 +152,27 @@ module _ (t : Settings) (s s' : Bytes) (memory memory' : List ℕ) (sh sh' : ℕ
     where
       w : Within (t .bounce) (x .stage)
       w = within (t .bounce) x sound (ap usesBounce e)
-  by-phase SecondRead e f =
-      (λ c i h.
-      share-same i (omega (arith, w .first)) ∙ f .0 c i h
-      ∙ agree (ap isBlocking e) i (first-within (placed (ap isPending e)) i h) (λ a. let z : sizeOf (x .stage .first) ≡ 0 = unread a in omega (arith, z, h)) (λ a. omega (arith, F .geo .weak a .2, h)),
-      λ c i h r.
-      share-same i (omega (arith, w .size)) ∙ f .1 c i h r
-      ∙ agree (ap isBlocking e) i h (λ a. some-none car 0 (F .fresh a .0) c) (λ a. ⊎-elim (λ l. omega (arith, F .geo .weak a .2, l)) (λ l. omega (arith, F .geo .weak a .3, l .0)) r))
+  by-phase SecondRead e f = (
+    λ c i h.
+        share-same i (omega (arith, w .first)) ∙ f .0 c i h
+        ∙ agree (ap isBlocking e) i (first-within (placed (ap isPending e)) i h) (λ a. let z : sizeOf (x .stage .first) ≡ 0 = unread a in omega (arith, z, h)) (λ a. omega (arith, F .geo .weak a .2, h)),
+    λ c i h r.
+        share-same i (omega (arith, w .size)) ∙ f .1 c i h r
+        ∙ agree (ap isBlocking e) i h (λ a. some-none car 0 (F .fresh a .0) c) (λ a. ⊎-elim (λ l. omega (arith, F .geo .weak a .2, l)) (λ l. omega (arith, F .geo .weak a .3, l .0)) r),
+  )
     where
       w : Within (t .bounce) (x .stage)
       w = within (t .bounce) x sound (ap usesBounce e)
 
       unread : wait ≡ true → sizeOf (x .stage .first) ≡ 0
       unread a = rw e at (F .fresh a .1)
-  by-phase BouncedWrite e f =
-      (λ i h. share-same (x .stage .head .0 + i) (omega (arith, w .whole)) ∙ f .0 i h,
-      (λ i h b.
-      share-same i (omega (arith, w .size)) ∙ f .1 i h b
-      ∙ agree (ap isBlocking e) i h (λ a. no-padding (x .stage) (F .geo) (unread a .0) (unread a .1) i h b) (λ a. no-padding (x .stage) (F .geo) (F .geo .weak a .2) (F .geo .weak a .3) i h b)),
-      f .2)
+  by-phase BouncedWrite e f = (
+    λ i h. share-same (x .stage .head .0 + i) (omega (arith, w .whole)) ∙ f .0 i h,
+    (λ i h b.
+        share-same i (omega (arith, w .size)) ∙ f .1 i h b
+        ∙ agree (ap isBlocking e) i h (λ a. no-padding (x .stage) (F .geo) (unread a .0) (unread a .1) i h b) (λ a. no-padding (x .stage) (F .geo) (F .geo .weak a .2) (F .geo .weak a .3) i h b)),
+    f .2,
+  )
     where
       w : Within (t .bounce) (x .stage)
       w = within (t .bounce) x sound (ap usesBounce e)

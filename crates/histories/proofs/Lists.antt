@@ -1,13 +1,13 @@
 -- Laws of bytes in lists: windows of a store, shares of the scratch, and segments whose bytes stay. Assumes nothing.
 use mathlib.Core.Path.{_≡_, refl, sym, ap, _∙_}
-use mathlib.Core.Bool.{Bool, true, false}
+use mathlib.Core.Bool.{true}
 use mathlib.Core.Logic.{_⊎_, inl, inr, ⊎-elim, _≢_}
-use mathlib.Core.List.{List, [], _∷_, _++_, map}
+use mathlib.Core.List.{List, [], _∷_}
 use Prim.Native.Nat.{ℕ, zero, suc, _+_, _-_, _*_, _<_, _≤_}
 use native.Mathlib.Omega.{arith}
 use native.Mathlib.Decide.{decLt}
 use native.Mathlib.Nat.{mul-le-mul-right}
-use lib.ListN.{length, getD, take, drop}
+use lib.ListN.{length, getD}
 use Rattle.vectors.specs.Vectors.{sizeOf, liesIn, allSegments, put, bytesOf}
 use Rattle.vectors.specs.Places.{covered, placeOf}
 use Rattle.vectors.specs.ByteLaws.{length-put, put-off, put-on, bytes-length, bytes-at, place-covered}

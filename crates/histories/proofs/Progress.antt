@@ -1,18 +1,17 @@
 -- What a zero job has put so far: each stage's bytes join those before it, and where it ends with 0 its whole range is put. Assumes nothing.
-use mathlib.Core.Path.{_≡_, refl, sym, ap, _∙_, subst}
-use mathlib.Core.Bool.{Bool, true, false, _&&_}
-use mathlib.Core.List.{List, [], _∷_}
+use mathlib.Core.Path.{_≡_, refl, sym, subst}
+use mathlib.Core.Bool.{Bool, true, false}
+use mathlib.Core.List.{List}
 use Prim.Native.Nat.{ℕ, _+_, _-_, _<_, _≤_}
 use native.Mathlib.Omega.{arith}
 use native.Mathlib.Decide.{decLt}
-use lib.Dec.{ltb, leb, eqb}
+use lib.Dec.{ltb, leb}
 use borrow.Author.Tests.{ltb-true, ltb-false}
 use Rattle.arithmetic.specs.Rounding.{pick, isMultiple}
 use Rattle.arithmetic.specs.Refusals.{numberOf}
 use Rattle.arithmetic.specs.Offsets.{rangeOf}
 use Rattle.arithmetic.specs.Settings.{settingsFit, lengthAlign}
 use Rattle.arithmetic.specs.Padding.{transferOf}
-use Rattle.arithmetic.specs.PaddingLaws.{Transfers, transfers}
 use Rattle.arithmetic.specs.Zeroes.{chunkLength, chunkOf}
 use Rattle.arithmetic.specs.ZeroesLaws.{chunk-within}
 use Rattle.arithmetic.specs.declared.refusals.Refusal.{Refusal}
@@ -22,7 +21,6 @@ use Rattle.arithmetic.specs.declared.offsets.Range.{Range}
 use Rattle.arithmetic.specs.declared.settings.Settings.{Settings}
 use Rattle.arithmetic.specs.declared.padding.Transfer.{Transfer}
 use Rattle.arithmetic.specs.declared.padding.Transfer.the-variants.{Direct, Bounced, Refused as NoTransfer}
-use Rattle.arithmetic.specs.declared.zeroes.Chunk.{Chunk}
 use Rattle.arithmetic.specs.declared.zeroes.Chunk.the-variants.{Nothing as NoChunk, Next, Refused as ChunkRefused}
 use Rattle.stages.specs.Stages.{sizeOf, directStage, paddedStage, firstPhase, stateOf, zeroesBy, zeroesPlan, endedWith, laterStage, zeroesNext, chunkBy, chunkNext, tailNext, headNext, stageDone}
 use Rattle.stages.specs.declared.state.Job.{Job}
@@ -48,9 +46,6 @@ put-join ds a b c f g y h k = elim (decLt y b) [
   | yes l ↦ f y h l
   | no l ↦ g y (omega arith) k
 ]
-
-put-none : (ds : List Did) (a b : ℕ) → b ≤ a → Put ds a b
-put-none ds a b l y h k = absurd (omega arith)
 
 put-less : (ds : List Did) (a b c d : ℕ) → a ≤ c → d ≤ b → Put ds a b → Put ds c d
 put-less ds a b c d l m f y h k = f y (omega arith) (omega arith)
@@ -92,13 +87,6 @@ Opening P (Refused r) = Unit {0}
 
 module _ (s : Settings) (fit : settingsFit s ≡ true) (ds : List Did) where
   module _ (j : Job) (w m : Range) (c : Course) (r : Range) (z : Zone c r w m) (b : Before c r w m ds) where
-    within : (n : ℕ) (p : Plan) → Opening (Follows ds) p → Opening (Follows ds) (pick (leb n (s .bounce)) p (Refused TooLong))
-    within n p k = go (leb n (s .bounce))
-      where
-        go : (t : Bool) → Opening (Follows ds) (pick t p (Refused TooLong))
-        go true = k
-        go false = tt
-
     zeroes-by : (x : Transfer) → ((y : State) → zeroesBy s j w m c r x ≡ Started y → Shaped y) → Opening (Follows ds) (zeroesBy s j w m c r x)
     unfolding directStage paddedStage
     zeroes-by (Direct x) f = shape (leb (sizeOf r) (s .bounce)) f

@@ -1,17 +1,14 @@
 -- An event that changes one slot keeps the invariant where that slot has it anew; and so it holds at opening and is kept by collect. Assumes nothing.
 use mathlib.Core.Path.{_≡_, refl, sym, ap, _∙_, subst}
-use mathlib.Core.Bool.{Bool, true, false, _&&_, _||_, or-true}
+use mathlib.Core.Bool.{true, false, _||_, or-true}
 use mathlib.Core.Logic.{_≢_}
 use mathlib.Core.List.{List, []}
-use mathlib.Core.Option.{Option, none, some}
-use Prim.Native.Nat.{ℕ, _+_, _*_, _<_, _≤_}
-use native.Mathlib.Omega.{arith}
+use mathlib.Core.Option.{none}
+use Prim.Native.Nat.{ℕ, _+_, _<_}
 use native.Mathlib.Decide.{ℕ-discrete}
-use lib.Dec.{eqb}
-use lib.ListN.{length, getD, set, replicate, getD-replicate}
+use lib.ListN.{length, getD-replicate}
 use lib.Seq.{getD-set-same, getD-set-other}
 use borrow.Author.Tests.{eq-eqb, ne-eqb}
-use Rattle.arithmetic.specs.Rounding.{pick}
 use Rattle.arithmetic.specs.Settings.{openingOf}
 use Rattle.arithmetic.specs.declared.refusals.Outcome.the-variants.{Done}
 use Rattle.arithmetic.specs.declared.settings.Settings.{Settings}
@@ -23,18 +20,17 @@ use Rattle.stages.specs.Stages.{sizeOf, isFree, isPending, isBlocking, hasEnded
 use Rattle.stages.specs.declared.state.Phase.{Phase}
 use Rattle.stages.specs.declared.state.Phase.the-variants.{Free, Ended, DirectRead, BouncedRead, FirstRead, SecondRead, BouncedWrite, DirectWrite, ZeroRequest, DiscardRequest}
 use Rattle.stages.specs.declared.state.State.{State}
-use Rattle.dock.specs.Dock.{noState, noVector, vacant, fresh, stateAt, vectorAt, lentFits, isReadJob}
+use Rattle.dock.specs.Dock.{noState, noVector, vacant, fresh, openOf, stateAt, vectorAt, lentFits, isReadJob}
 use Rattle.dock.specs.Begin.{withJob}
-use Rattle.dock.specs.declared.dock.Dock.{Dock}
 use Rattle.histories.specs.Courses.{hasVector, never}
 use Rattle.histories.specs.Held.{Held}
 use Rattle.histories.specs.Keeping.{fresh-held}
 use Rattle.histories.specs.Calls.{freed-held}
 use Rattle.histories.specs.Store.{Bytes}
-use Rattle.histories.specs.PlainStore.{Plain, plainOpened, setAt} 
+use Rattle.histories.specs.PlainStore.{Plain, plainOpened, setAt}
 use Rattle.histories.specs.Histories.{World, opened, Same}
 use Rattle.histories.proofs.Invariant.{share}
-use Rattle.histories.proofs.World.{Taken, Tracks, SlotInv, Inv, slot-frame}
+use Rattle.histories.proofs.World.{Taken, SlotInv, Inv, slot-frame}
 
 -- ---- one slot anew
 
@@ -111,7 +107,7 @@ fresh-free s b p h = ap (λ (x : State). isFree (x .phase)) (getD-replicate 8 p 
 
 pub opened-inv : (s : Settings) (b : Buffers) (content : Bytes) (memory scratch : List ℕ) → openingOf s b ≡ Done → lentFits b (length memory) (length scratch) ≡ true
     → Inv (opened s b content memory scratch) (plainOpened s b content)
-unfolding fresh
+unfolding fresh openOf
 opened-inv s b content memory scratch e l = record {
   held = fresh-held s b e;
   long = l;

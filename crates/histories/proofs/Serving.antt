@@ -1,56 +1,54 @@
 -- Each request, carried out with any code, does on the real store and on the plain byte store the same; by which request is out. Assumes nothing.
 use mathlib.Core.Path.{_≡_, refl, sym, ap, _∙_, subst}
-use mathlib.Core.Bool.{Bool, true, false, _&&_, _||_, not, and-false}
+use mathlib.Core.Bool.{Bool, true, false, _&&_, and-false}
 use mathlib.Core.Logic.{_⊎_, inl, inr, ⊎-elim, _≢_}
 use mathlib.Core.List.{List, [], _∷_, _++_}
 use mathlib.Core.Option.{Option, none, some}
 use Prim.Native.Nat.{ℕ, zero, suc, _+_, _-_, _*_, _<_, _≤_}
 use native.Mathlib.Omega.{arith}
 use native.Mathlib.Decide.{decLt}
-use lib.Dec.{ltb, leb, eqb}
+use lib.Dec.{leb, eqb}
 use lib.ListN.{length, getD, take, drop, length-drop, List·getD-append}
 use lib.Seq.{take-length, length-take-le, getD-take, getD-drop}
-use borrow.Author.Tests.{lt-ltb, le-leb, le-ltb, lt-leb, ltb-true, leb-true, eqb-true, eq-eqb}
+use borrow.Author.Tests.{lt-ltb, le-leb, le-ltb, lt-leb, ltb-true, leb-true, eq-eqb}
 use Rattle.arithmetic.specs.Rounding.{pick}
 use Rattle.arithmetic.specs.SettingsLaws.{and-left, and-right}
 use Rattle.arithmetic.specs.Offsets.{rangeOf}
 use Rattle.arithmetic.specs.declared.offsets.Range.{Range}
 use Rattle.arithmetic.specs.declared.settings.Settings.{Settings}
-use Rattle.vectors.specs.Vectors.{sizeOf as sizeOfAll, liesIn, allSegments, segment, segmentsOf, bytesOf, scatterOf, put, isValid, overlapOf}
+use Rattle.vectors.specs.Vectors.{sizeOf as sizeOfAll, liesIn, allSegments, segment, segmentsOf, bytesOf, scatterOf, put, isValid}
 use Rattle.vectors.specs.SegmentLaws.{valid}
 use Rattle.vectors.specs.ByteLaws.{scatter-length, scatter-others, gather-scatter}
 use Rattle.vectors.specs.OverlapLaws.{overlap-sym}
 use Rattle.vectors.specs.declared.vector.IoVector.{IoVector}
-use Rattle.blockers.specs.Blockers.{present, blockerAt, overlaps, waitsOf}
+use Rattle.blockers.specs.Blockers.{blockerAt, overlaps, waitsOf}
 use Rattle.blockers.specs.Laws.{free-apart}
-use Rattle.blockers.specs.declared.Kind.the-variants.{Strong}
-use Rattle.stages.specs.Stages.{sizeOf, isFree, isPending, isBlocking, usesBounce, zeroKind, request, requestBy, requestOf, secondAt}
+use Rattle.stages.specs.Stages.{sizeOf, isPending, isBlocking, usesBounce, zeroKind, request, requestBy, requestOf, secondAt}
 use Rattle.stages.specs.Laws.{Placed}
 use Rattle.stages.specs.declared.state.Job.{Job}
 use Rattle.stages.specs.declared.state.Job.the-variants.{Read, Write, Zeroes, AllocatedZeroes, Discard}
-use Rattle.stages.specs.declared.state.Kind.{Kind}
-use Rattle.stages.specs.declared.state.Kind.the-variants.{Read as KRead, Write as KWrite, Zero as KZero, AllocatedZero as KAllocatedZero, Discard as KDiscard}
+use Rattle.stages.specs.declared.state.Kind.the-variants.{Read as KRead}
 use Rattle.stages.specs.declared.state.Phase.{Phase}
 use Rattle.stages.specs.declared.state.Phase.the-variants.{Free, Ended, DirectRead, BouncedRead, FirstRead, SecondRead, BouncedWrite, DirectWrite, ZeroRequest, DiscardRequest}
 use Rattle.stages.specs.declared.state.Request.{Request}
 use Rattle.stages.specs.declared.state.State.{State}
-use Rattle.dock.specs.Dock.{stateAt, vectorAt, lentFits, shareAt, isReadJob}
+use Rattle.dock.specs.Dock.{stateAt, vectorAt, isReadJob}
 use Rattle.dock.specs.Begin.{isWriteJob, strength}
 use Rattle.dock.specs.Next.{partOf}
-use Rattle.dock.specs.declared.dock.Dock.{Dock}
 use Rattle.dock.specs.declared.next.Piece.{Piece}
-use Rattle.dock.specs.declared.next.Piece.the-variants.{InData, InScratch}
-use Rattle.histories.specs.Courses.{isLast, hasVector, suits, hasRead, isRegular, suited, never}
-use Rattle.histories.specs.Held.{Held, SlotOf}
-use Rattle.histories.specs.Calls.{pending-taken, read-vector, write-vector, direct-reads}
+use Rattle.dock.specs.declared.next.Piece.the-variants.{InScratch}
+use Rattle.histories.specs.Courses.{isLast, hasVector, suits, isRegular, suited, never}
+use Rattle.histories.specs.Held.{SlotOf}
+use Rattle.histories.specs.Calls.{read-no-write, pending-taken, read-vector, write-vector, direct-reads}
+use Rattle.histories.specs.MadeLaws.{data-long}
 use Rattle.histories.specs.Store.{Bytes, Choice, Buffered, inRange, changed, becomesNew, window, laidAt, piecesFrom, gathered, landed, yields, stored, fetched}
 use Rattle.histories.specs.PlainStore.{Did, yielded, wrote, zeroed, discarded, Tracked, Plain, newBytes, standing, withStep, noStep, stepBy, carriedOut, carriedBy, Carried, setAt}
-use Rattle.histories.specs.Histories.{World, carriesOut, puts, putBy, Among, here, later, OwedBy}
-use Rattle.histories.proofs.Lists.{list-ext, window-length, window-at, share-room, share-put-length, share-put-other, share-put-off, share-put-on}
-use Rattle.histories.proofs.Geometry.{Beside, ReadBy, Geo, AsAsked}
-use Rattle.histories.proofs.Invariant.{share, Fact, Flight, Within, within}
-use Rattle.histories.proofs.World.{Taken, Tracks, SlotInv, Inv, room, segments-lie, data-length, shared-overlap}
-use Rattle.histories.proofs.Carrying.{Out, scratch-piece, dataPieces, landed-data, gathered-data, data-pieces, carry-inv}
+use Rattle.histories.specs.Histories.{World, carriesOut, puts, putBy, Among, here, OwedBy}
+use Rattle.histories.proofs.Lists.{window-length, window-at, share-room, share-put-length, share-put-other, share-put-off, share-put-on}
+use Rattle.histories.proofs.Geometry.{Beside, ReadBy, AsAsked}
+use Rattle.histories.proofs.Invariant.{share, Fact, within}
+use Rattle.histories.proofs.World.{Taken, Tracks, Inv, room, segments-lie, shared-overlap}
+use Rattle.histories.proofs.Carrying.{Out, scratch-piece, landed-data, gathered-data, data-pieces, carry-inv}
 
 -- ---- bytes of a range
 
@@ -116,13 +114,6 @@ window-same : (s t : Bytes) (o n : ℕ) → ((y : ℕ) → s y ≡ t y) → wind
 unfolding window
 window-same s t o zero f = refl
 window-same s t o (suc n) f = let a = f o in let b = window-same s t (suc o) n f in λ i. a i ∷ b i
-
-read-no-write : (j : Job) → isReadJob j ≡ true → isWriteJob j ≡ false
-read-no-write Read e = refl
-read-no-write Write e = sym e
-read-no-write Zeroes e = refl
-read-no-write AllocatedZeroes e = refl
-read-no-write Discard e = refl
 
 new-write : (j : Job) (o : ℕ) (bs : List ℕ) → isWriteJob j ≡ true → newBytes j o bs ≡ laidAt o bs
 new-write Write o bs e = refl
@@ -394,7 +385,7 @@ module _ (w : World) (m : Plain) (I : Inv w m) (p : ℕ) (q : Request) (O : Out 
   -- ---- a read into the segments
 
   long : length (w .memory) ≡ w .dock .buffers .«data» .length
-  long = data-length (w .dock .buffers) (length (w .memory)) (length (w .scratch)) (I .long)
+  long = data-long (w .dock .buffers) (length (w .memory)) (length (w .scratch)) (I .long)
 
   valid-vector : hasVector (x .job) ≡ true → isValid (length (w .memory)) v ≡ true
   valid-vector u = rw long (S .vector taken u .0)

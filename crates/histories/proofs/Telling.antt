@@ -1,8 +1,8 @@
 -- An accepted tell keeps the invariant, whatever its code leads to. Assumes nothing.
 use mathlib.Core.Path.{_≡_, refl, sym, ap, _∙_, subst}
-use mathlib.Core.Bool.{Bool, true, false, _&&_, _||_, not}
+use mathlib.Core.Bool.{Bool, true, false, _&&_, _||_}
 use mathlib.Core.Logic.{_⊎_, inl, inr, ⊎-elim, _≢_}
-use mathlib.Core.List.{List, [], _∷_}
+use mathlib.Core.List.{List, _∷_}
 use mathlib.Core.Option.{Option, none, some}
 use Prim.Native.Nat.{ℕ, _+_, _-_, _*_, _<_, _≤_}
 use native.Mathlib.Omega.{arith}
@@ -10,7 +10,7 @@ use native.Mathlib.Decide.{decLt}
 use lib.Dec.{ltb, leb, eqb}
 use lib.ListN.{length, getD, set, take, drop, length-drop}
 use lib.Seq.{getD-set-same, getD-set-other, length-take-le, getD-take, getD-drop}
-use borrow.Author.Tests.{lt-ltb, le-leb, ltb-true, ltb-false, leb-true, eqb-true, eqb-false, eq-eqb}
+use borrow.Author.Tests.{lt-ltb, le-leb, ltb-true, ltb-false, leb-true, eqb-true, eq-eqb}
 use Rattle.arithmetic.specs.Rounding.{pick}
 use Rattle.arithmetic.specs.SettingsLaws.{and-left, and-right, opened}
 use Rattle.arithmetic.specs.Settings.{settingsFit}
@@ -21,13 +21,13 @@ use Rattle.arithmetic.specs.declared.offsets.StoreOffset.{StoreOffset}
 use Rattle.arithmetic.specs.declared.offsets.Range.{Range}
 use Rattle.arithmetic.specs.declared.settings.Settings.{Settings}
 use Rattle.arithmetic.specs.declared.refusals.Outcome.the-variants.{Done}
-use Rattle.vectors.specs.Vectors.{sizeOf as sizeOfAll, liesIn, allSegments, segmentsOf, bytesOf, scatterOf, isValid, copies, overlapOf}
+use Rattle.vectors.specs.Vectors.{sizeOf as sizeOfAll, liesIn, allSegments, segmentsOf, bytesOf, scatterOf, copies, overlapOf}
 use Rattle.vectors.specs.SegmentLaws.{valid}
 use Rattle.vectors.specs.ByteLaws.{scatter-length, scatter-others, gather-scatter}
 use Rattle.vectors.specs.OverlapLaws.{overlap-sym, or-cases}
 use Rattle.vectors.specs.declared.vector.IoVector.{IoVector}
 use Rattle.blockers.specs.Blockers.{waitsOf}
-use Rattle.stages.specs.Stages.{sizeOf, isFree, isPending, isBlocking, usesBounce, inPhase, endedWith, laterStage, zeroesPlan, chunkBy, chunkNext, tailNext, headNext, stageDone, doneNext, unsupportedNext, toldOf}
+use Rattle.stages.specs.Stages.{sizeOf, isPending, isBlocking, usesBounce, inPhase, endedWith, laterStage, zeroesPlan, chunkBy, chunkNext, tailNext, headNext, stageDone, doneNext, unsupportedNext, toldOf}
 use Rattle.stages.specs.Laws.{Placed, Opens, Continues, Finishes, told-stays, told-ends, told-enters}
 use Rattle.stages.specs.declared.state.Job.{Job}
 use Rattle.stages.specs.declared.state.Job.the-variants.{Read, Write, Zeroes, AllocatedZeroes, Discard}
@@ -40,22 +40,22 @@ use Rattle.stages.specs.declared.plan.Plan.{Plan}
 use Rattle.stages.specs.declared.plan.Plan.the-variants.{Done as NothingToDo, Started, Refused as PlanRefused}
 use Rattle.stages.specs.declared.told.Step.{Step}
 use Rattle.stages.specs.declared.told.Step.the-variants.{Stays, Ends, Enters}
-use Rattle.dock.specs.Dock.{noState, noVector, vacant, stateAt, vectorAt, lentFits, shareAt, isReadJob}
-use Rattle.dock.specs.Begin.{isWriteJob, isBouncedWrite, sourceOf, filled, blockersWith}
-use Rattle.dock.specs.Tell.{Told, tells, accepted, blockersWithout, copiedAt, isBouncedRead, handed, stayed, ended, entered, after}
-use Rattle.dock.specs.declared.dock.Dock.{Dock}
-use Rattle.histories.specs.Courses.{isZeroJob, isDiscardJob, hasVector, isLast, isMiddle, puts, suits, isRegular, suited, never, Goes, stays-regular, enters-regular}
+use Rattle.dock.specs.Dock.{noState, noVector, vacant, stateAt, vectorAt, lentFits, isReadJob}
+use Rattle.dock.specs.Begin.{isWriteJob, sourceOf, filled}
+use Rattle.dock.specs.Tell.{blockersWithout, copiedAt, isBouncedRead, handed, entered, after}
+use Rattle.histories.specs.Courses.{isZeroJob, isDiscardJob, hasVector, isLast, isMiddle, puts, suits, isRegular, suited, never, enters-regular}
 use Rattle.histories.specs.Held.{Held, SlotOf}
-use Rattle.histories.specs.Calls.{write-vector, read-vector, direct-reads, bounced-reads, pending-taken, copied, told-held}
+use Rattle.histories.specs.Calls.{read-no-write, write-vector, read-vector, direct-reads, bounced-reads, pending-taken, copied, told-held}
 use Rattle.histories.specs.Keeping.{Changes, leave-changes}
-use Rattle.histories.specs.Store.{Bytes, inRange}
+use Rattle.histories.specs.MadeLaws.{data-long}
+use Rattle.histories.specs.Store.{Bytes}
 use Rattle.histories.specs.PlainStore.{Did, yielded, wrote, zeroed, Tracked, Plain, newBytes, standing, stateOf, setAt}
 use Rattle.histories.specs.Histories.{World, Among, here, later, puts as putsAt, putBy, OwedBy}
 use Rattle.histories.proofs.Lists.{list-ext, share-room, share-put-off}
-use Rattle.histories.proofs.Geometry.{Beside, ReadBy, Geo, Unread, AsAsked, Zone, Shaped}
+use Rattle.histories.proofs.Geometry.{Beside, AsAsked, Zone}
 use Rattle.histories.proofs.Progress.{Put, Before, Follows, Goes as Leads, done-goes, chunk-goes}
-use Rattle.histories.proofs.Invariant.{share, Fact, Flight, Within, within, no-padding}
-use Rattle.histories.proofs.World.{Taken, Tracks, SlotInv, Inv, room, segments-lie, data-length, leave-waits, enter-waits}
+use Rattle.histories.proofs.Invariant.{share, Fact, Flight, within}
+use Rattle.histories.proofs.World.{Taken, Tracks, SlotInv, Inv, room, segments-lie, leave-waits, enter-waits}
 use Rattle.histories.proofs.Renewing.{set-same, set-other, renewed-inv}
 use Rattle.histories.proofs.Beginning.{source-long, fill-length, fill-other, fill-own, filled-none, filled-put, bounced-puts, opened-fact}
 
@@ -88,13 +88,6 @@ zero-no-discard AllocatedZeroes e = refl
 zero-no-discard Read e = refl
 zero-no-discard Write e = refl
 zero-no-discard Discard e = sym e
-
-read-no-write : (j : Job) → isReadJob j ≡ true → isWriteJob j ≡ false
-read-no-write Read e = refl
-read-no-write Write e = sym e
-read-no-write Zeroes e = refl
-read-no-write AllocatedZeroes e = refl
-read-no-write Discard e = refl
 
 zero-no-write : (j : Job) → isZeroJob j ≡ true → isWriteJob j ≡ false
 zero-no-write Read e = refl
@@ -193,7 +186,7 @@ module _ (w : World) (m : Plain) (I : Inv w m) (p : ℕ) (h : p < 8) (pending : 
   place = S .placed pending
 
   long : length (w .memory) ≡ w .dock .buffers .«data» .length
-  long = data-length (w .dock .buffers) (length (w .memory)) (length (w .scratch)) (I .long)
+  long = data-long (w .dock .buffers) (length (w .memory)) (length (w .scratch)) (I .long)
 
   fit : settingsFit (w .dock .settings) ≡ true
   fit = opened (w .dock .settings) (w .dock .buffers) (I .held .opened) .fit
@@ -357,9 +350,14 @@ module _ (w : World) (m : Plain) (I : Inv w m) (p : ℕ) (h : p < 8) (pending : 
   -- once all is read: what is beside the asked bytes is the store's, and the asked ones are filled in
   good-filled : usesBounce (x .phase) ≡ true → isRegular (inPhase BouncedWrite x) ≡ true → ((i : ℕ) → i < sizeOf (x .stage .request) → Beside (x .stage) i → share (w .scratch) N p i ≡ w .store (x .stage .request .start .0 + i))
       → Good (Stays (inPhase BouncedWrite x))
-  good-filled u k f =
-      (tt, ((λ i l. fill-own N p h (inPhase BouncedWrite x) v (w .memory) (w .scratch) (room w m I) (λ b. inside) fits refl (T .j .bytes) (T .flight .source) (bounced-puts (inPhase BouncedWrite x) BouncedWrite refl k refl) (x .stage .asked .start .0) i l),
-      (λ i l b. kept i l b ∙ f i l b), λ c. none-some c))
+  good-filled u k f = (
+    tt,
+    (
+      (λ i l. fill-own N p h (inPhase BouncedWrite x) v (w .memory) (w .scratch) (room w m I) (λ b. inside) fits refl (T .j .bytes) (T .flight .source) (bounced-puts (inPhase BouncedWrite x) BouncedWrite refl k refl) (x .stage .asked .start .0) i l),
+      (λ i l b. kept i l b ∙ f i l b),
+      λ c. none-some c,
+    ),
+  )
     where
       inside : x .stage .head .0 + sizeOf (x .stage .asked) ≤ N
       inside = within N x (S .sound) u .whole

@@ -3,24 +3,22 @@ use mathlib.Core.Path.{_≡_, refl, sym, ap, _∙_, subst}
 use mathlib.Core.Bool.{Bool, true, false, _&&_, not}
 use mathlib.Core.List.{List, [], _∷_}
 use mathlib.Core.Option.{Option, none, some}
-use Prim.Native.Nat.{ℕ, _<_, _≤_}
+use Prim.Native.Nat.{ℕ, _<_}
 use native.Mathlib.Omega.{arith}
-use lib.Dec.{ltb, eqb}
+use lib.Dec.{ltb}
 use lib.ListN.{length}
 use borrow.Author.Tests.{ltb-true}
 use Rattle.arithmetic.specs.Rounding.{pick}
-use Rattle.arithmetic.specs.SettingsLaws.{and-left, and-right, opened as opened-facts}
+use Rattle.arithmetic.specs.SettingsLaws.{opened as opened-facts}
 use Rattle.arithmetic.specs.Offsets.{rangeOf}
-use Rattle.arithmetic.specs.Settings.{openingOf, settingsFit}
+use Rattle.arithmetic.specs.Settings.{settingsFit}
 use Rattle.arithmetic.specs.Zeroes.{zeroCutOf}
 use Rattle.arithmetic.specs.declared.refusals.Refusal.{Refusal}
 use Rattle.arithmetic.specs.declared.refusals.Refusal.the-variants.{Segment, Overlap, Full, Buffer, Slot, NoAnswer}
 use Rattle.arithmetic.specs.declared.refusals.Outcome.{Outcome}
 use Rattle.arithmetic.specs.declared.refusals.Outcome.the-variants.{Done, Refused}
 use Rattle.arithmetic.specs.declared.offsets.StoreOffset.{StoreOffset}
-use Rattle.arithmetic.specs.declared.offsets.Range.{Range}
 use Rattle.arithmetic.specs.declared.settings.Settings.{Settings}
-use Rattle.arithmetic.specs.declared.settings.Buffers.{Buffers}
 use Rattle.arithmetic.specs.declared.zeroes.ZeroCut.{ZeroCut}
 use Rattle.arithmetic.specs.declared.zeroes.ZeroCut.the-variants.{Nothing as NoCut, Whole, Split, Refused as CutRefused}
 use Rattle.vectors.specs.Vectors.{segmentsOf, bytesOf, isValid, vectorOf, alignmentOf}
@@ -28,7 +26,7 @@ use Rattle.vectors.specs.declared.vector.IoVector.{IoVector}
 use Rattle.stages.specs.Stages.{isFree, hasEnded, isPending, readPlan, writePlan, zeroJob, zeroBy, zeroPlan, discardPlan, zeroesPlan, toldOf}
 use Rattle.stages.specs.Laws.{Starts, read-opens, write-opens, zero-opens, discard-opens}
 use Rattle.stages.specs.declared.state.Job.{Job}
-use Rattle.stages.specs.declared.state.Job.the-variants.{Read, Write, Zeroes, AllocatedZeroes, Discard}
+use Rattle.stages.specs.declared.state.Job.the-variants.{Read, Write, Zeroes, Discard}
 use Rattle.stages.specs.declared.state.Phase.{Phase}
 use Rattle.stages.specs.declared.state.Phase.the-variants.{Free, Ended, DirectRead, BouncedRead, FirstRead, SecondRead, BouncedWrite, DirectWrite, ZeroRequest, DiscardRequest}
 use Rattle.stages.specs.declared.state.Course.the-variants.{Last}
@@ -39,29 +37,28 @@ use Rattle.stages.specs.declared.plan.Plan.the-variants.{Done as NothingToDo, S
 use Rattle.blockers.specs.Blockers.{waitsOf}
 use Rattle.stages.specs.declared.told.Step.{Step}
 use Rattle.stages.specs.declared.told.Step.the-variants.{Stays, Ends, Enters}
-use Rattle.dock.specs.Dock.{stateAt, vectorAt, vacant, lentFits, lentBy, lentOf, isOutBy, isOut, overlapsOf, firstFree, isReadJob, openOf, openProfileOf}
-use Rattle.dock.specs.Begin.{isWriteJob, isAligned, Begins, withJob, placed, placedAt, onlyIf, refusedBegin, vectorThen, begunBy, beginReadOf, beginWriteOf, beginZeroesOf, beginDiscardOf}
+use Rattle.dock.specs.Dock.{stateAt, vectorAt, vacant, lentOf, isOutBy, isOut, overlapsOf, firstFree, isReadJob, openOf}
+use Rattle.dock.specs.Begin.{isWriteJob, isAligned, Begins, withJob, placedAt, onlyIf, refusedBegin, vectorThen, begunBy, beginReadOf, beginWriteOf, beginZeroesOf, beginDiscardOf}
 use Rattle.dock.specs.Tell.{Told, after, refusedTell, tellOf, collectOf}
 use Rattle.dock.specs.declared.dock.Dock.{Dock}
 use Rattle.dock.specs.declared.begin.Begun.{Begun}
-use Rattle.dock.specs.declared.begin.Begun.the-variants.{Done as NoRequest, Placed, Refused as BeginRefused}
+use Rattle.dock.specs.declared.begin.Begun.the-variants.{Refused as BeginRefused}
 use Rattle.dock.specs.declared.tell.Collects.{Collects}
 use Rattle.dock.specs.declared.tell.Collected.{Collected}
 use Rattle.dock.specs.declared.tell.Collected.the-variants.{Final, Refused as NotCollected}
-use Rattle.histories.specs.Courses.{isZeroJob, never}
-use Rattle.histories.specs.Held.{Held}
-use Rattle.histories.specs.Calls.{Ready, starts-from, read-ready, write-ready, zero-ready, discard-ready, place-done}
-use Rattle.histories.specs.MadeLaws.{tellRule, tell-is}
+use Rattle.histories.specs.Courses.{never}
+use Rattle.histories.specs.Calls.{starts-from, read-ready, write-ready, zero-ready, discard-ready, place-done}
+use Rattle.histories.specs.MadeLaws.{data-long, tell-is}
 use Rattle.histories.specs.Store.{Bytes, Choice}
-use Rattle.histories.specs.PlainStore.{Tracked, Plain, plainOpened, plainStep, tracked, entersBy, alignedIn, carriedBy, toldBy, tellBy, collectBy}
-use Rattle.histories.specs.Histories.{Lends, Event, begins-read, begins-write, begins-zeroes, begins-discard, carries, tells, collects, World, opened, fitsLent, afterBegin, told, afterTell, afterCollect, outIn, afterCarry, step, carryItem, fed, LentOf, Allowed, Lawful, Same, OwedBy, OwedTo, Owed, Claim, EveryList}
-use Rattle.histories.proofs.Geometry.{Shaped, read-shaped, write-shaped, zero-shaped, discard-shaped}
+use Rattle.histories.specs.PlainStore.{Tracked, Plain, plainOpened, plainStep, entersBy, alignedIn, toldBy, tellBy, collectBy}
+use Rattle.histories.specs.Histories.{Lends, Event, begins-read, begins-write, begins-zeroes, begins-discard, carries, tells, collects, World, opened, fitsLent, afterBegin, told, afterTell, afterCollect, outIn, afterCarry, step, carryItem, fed, LentOf, Allowed, Lawful, OwedBy, OwedTo, Owed, Claim, EveryList}
+use Rattle.histories.proofs.Geometry.{read-shaped, write-shaped, zero-shaped, discard-shaped}
 use Rattle.histories.proofs.Progress.{Before, Follows, Opening, zeroes-follow}
 use Rattle.histories.proofs.Invariant.{Fact}
-use Rattle.histories.proofs.World.{Taken, Tracks, SlotInv, Inv, data-length, withData, lent-keeps, lent-scratch}
+use Rattle.histories.proofs.World.{Inv, withData, lent-keeps, lent-scratch}
 use Rattle.histories.proofs.Renewing.{opened-inv, freed-inv}
 use Rattle.histories.proofs.Beginning.{Start, begun-inv}
-use Rattle.histories.proofs.Carrying.{Out, out-of}
+use Rattle.histories.proofs.Carrying.{out-of}
 use Rattle.histories.proofs.Serving.{carried-inv}
 use Rattle.histories.proofs.Telling.{told-inv, T}
 
@@ -144,7 +141,7 @@ begunWorld w b = record { dock = b .dock; store = w .store; memory = w .memory; 
 
 module _ (w : World) (m : Plain) (I : Inv w m) where
   long : length (w .memory) ≡ w .dock .buffers .«data» .length
-  long = data-length (w .dock .buffers) (length (w .memory)) (length (w .scratch)) (I .long)
+  long = data-long (w .dock .buffers) (length (w .memory)) (length (w .scratch)) (I .long)
 
   fits : settingsFit (w .dock .settings) ≡ true
   fits = opened-facts (w .dock .settings) (w .dock .buffers) (I .held .opened) .fit

@@ -1,13 +1,13 @@
 -- The invariant of the two sides, slot by slot and pair by pair; that a slot keeps it where others change; that lending other data keeps it; and who waits as others enter and leave. Assumes nothing.
-use mathlib.Core.Path.{_≡_, refl, sym, ap, _∙_, subst}
-use mathlib.Core.Bool.{Bool, true, false, _&&_, false≢true}
+use mathlib.Core.Path.{_≡_, refl, sym, ap, _∙_}
+use mathlib.Core.Bool.{Bool, true, false}
 use mathlib.Core.Logic.{_≢_}
 use mathlib.Core.List.{List}
-use mathlib.Core.Option.{Option, none, some}
+use mathlib.Core.Option.{none, some}
 use Prim.Native.Nat.{ℕ, _+_, _*_, _<_, _≤_}
 use native.Mathlib.Omega.{arith}
 use native.Mathlib.Decide.{ℕ-discrete}
-use lib.Dec.{ltb, leb, eqb}
+use lib.Dec.{leb, eqb}
 use lib.ListN.{length, getD}
 use borrow.Author.Tests.{eqb-true, lt-ltb, ltb-true, leb-true}
 use Rattle.arithmetic.specs.Rounding.{pick}
@@ -15,16 +15,13 @@ use Rattle.arithmetic.specs.SettingsLaws.{and-left, and-right, opened}
 use Rattle.arithmetic.specs.declared.settings.Buffers.{Buffers}
 use Rattle.arithmetic.specs.declared.offsets.Range.{Range}
 use Rattle.arithmetic.specs.declared.refusals.Outcome.the-variants.{Done}
-use Rattle.vectors.specs.Vectors.{liesIn, allSegments, segmentsOf, bytesOf, overlapOf, selfOverlapOf, isValid}
-use Rattle.vectors.specs.Places.{covered}
+use Rattle.vectors.specs.Vectors.{liesIn, allSegments, segmentsOf, bytesOf, overlapOf, selfOverlapOf}
 use Rattle.vectors.specs.SegmentLaws.{valid}
-use Rattle.vectors.specs.declared.vector.IoVector.{IoVector}
 use Rattle.blockers.specs.Blockers.{overlaps, isEntered, present, blockerAt, enteredOf, leftOf, hasNoted, waitsOf}
 use Rattle.blockers.specs.Reached.{Reached, Entered}
 use Rattle.blockers.specs.Laws.{entered-other, left-kind, left-note, left-notes, waits-here, waits-for}
 use Rattle.blockers.specs.declared.Blocker.{Blocker}
 use Rattle.blockers.specs.declared.Blockers.{Blockers}
-use Rattle.blockers.specs.declared.Changed.{Changed}
 use Rattle.stages.specs.Stages.{sizeOf, isFree, isPending, isBlocking}
 use Rattle.stages.specs.declared.state.State.{State}
 use Rattle.dock.specs.Dock.{stateAt, vectorAt, lentFits, isReadJob}
@@ -32,8 +29,9 @@ use Rattle.dock.specs.Begin.{strength, blockersWith}
 use Rattle.dock.specs.Tell.{blockersWithout}
 use Rattle.dock.specs.declared.dock.Dock.{Dock}
 use Rattle.histories.specs.Courses.{hasVector, never}
-use Rattle.histories.specs.Held.{SlotHeld, SlotOf, Held}
-use Rattle.histories.specs.Store.{Bytes, inRange}
+use Rattle.histories.specs.Held.{SlotOf, Held}
+use Rattle.histories.specs.MadeLaws.{data-long}
+use Rattle.histories.specs.Store.{inRange}
 use Rattle.histories.specs.PlainStore.{Tracked, Plain}
 use Rattle.histories.specs.Histories.{Lends, World, fitsLent, LentOf, Same}
 use Rattle.histories.proofs.Lists.{bytes-agree}
@@ -67,10 +65,6 @@ pub record Inv (w : World) (m : Plain) : Type 0 where
 
 -- ---- lengths
 
-pub data-length : (b : Buffers) (m n : ℕ) → lentFits b m n ≡ true → m ≡ b .«data» .length
-unfolding lentFits
-data-length b m n e = eqb-true m (b .«data» .length) (and-left _ _ e)
-
 pub scratch-length : (b : Buffers) (m n : ℕ) → lentFits b m n ≡ true → n ≡ b .scratch .length
 unfolding lentFits
 scratch-length b m n e = eqb-true n (b .scratch .length) (and-right (eqb m (b .«data» .length)) _ e)
@@ -83,7 +77,7 @@ module _ (w : World) (m : Plain) (I : Inv w m) where
   -- the segments of a job in flight lie in the data
   pub segments-lie : (p : ℕ) → p < 8 → Taken (w .dock) p → hasVector (stateAt (w .dock) p .job) ≡ true → allSegments (liesIn (length (w .memory))) (segmentsOf (vectorAt (w .dock) p)) ≡ true
   segments-lie p h f u =
-      let e = data-length (w .dock .buffers) (length (w .memory)) (length (w .scratch)) (I .long) in
+      let e = data-long (w .dock .buffers) (length (w .memory)) (length (w .scratch)) (I .long) in
       rw e (valid (w .dock .buffers .«data» .length) (vectorAt (w .dock) p) (I .held .slots p h .vector f u .0) .fit .lie)
 
 -- ---- a slot that others leave as it is
@@ -128,7 +122,7 @@ module _ (w : World) (m : Plain) (I : Inv w m) (l : Lends) (fit : fitsLent w l �
   lent-scratch = lent fit .0
 
   lent-long : length (l .memory) ≡ length (w .memory)
-  lent-long = data-length (w .dock .buffers) (length (l .memory)) (length (l .scratch)) fit ∙ sym (data-length (w .dock .buffers) (length (w .memory)) (length (w .scratch)) (I .long))
+  lent-long = data-long (w .dock .buffers) (length (l .memory)) (length (l .scratch)) fit ∙ sym (data-long (w .dock .buffers) (length (w .memory)) (length (w .scratch)) (I .long))
 
   pub lent-keeps : Inv (withData w (l .memory)) m
   lent-keeps = record {

@@ -63,18 +63,6 @@ free-idle DirectWrite e = never e
 free-idle ZeroRequest e = never e
 free-idle DiscardRequest e = never e
 
-blocking-pending : (ph : Phase) → isBlocking ph ≡ true → isPending ph ≡ true
-blocking-pending Free e = e
-blocking-pending Ended e = e
-blocking-pending DirectRead e = refl
-blocking-pending BouncedRead e = refl
-blocking-pending FirstRead e = refl
-blocking-pending SecondRead e = refl
-blocking-pending BouncedWrite e = refl
-blocking-pending DirectWrite e = refl
-blocking-pending ZeroRequest e = refl
-blocking-pending DiscardRequest e = refl
-
 pub pending-taken : (ph : Phase) → isPending ph ≡ true → isFree ph ≡ false
 pending-taken Free e = sym e
 pending-taken Ended e = refl
@@ -119,6 +107,13 @@ read-vector Write e = refl
 read-vector Zeroes e = e
 read-vector AllocatedZeroes e = e
 read-vector Discard e = e
+
+pub read-no-write : (j : Job) → isReadJob j ≡ true → isWriteJob j ≡ false
+read-no-write Read e = refl
+read-no-write Write e = sym e
+read-no-write Zeroes e = refl
+read-no-write AllocatedZeroes e = refl
+read-no-write Discard e = refl
 
 -- a read's phases are a read job's
 pub direct-reads : (x : State) → isRegular x ≡ true → x .phase ≡ DirectRead → isReadJob (x .job) ≡ true

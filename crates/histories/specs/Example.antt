@@ -30,10 +30,10 @@ use Rattle.dock.specs.declared.tell.Collected.the-variants.{Final}
 use Rattle.dock.specs.declared.next.Due.{Due}
 use Rattle.dock.specs.declared.next.Due.the-variants.{Waiting}
 use Rattle.dock.specs.Next.{pieceOf, partOf, isKept}
-use Rattle.histories.specs.Store.{Bytes, Choice, changed, window, piecesFrom, gathered, landed}
+use Rattle.histories.specs.Store.{Choice, changed, window, piecesFrom, gathered, landed}
 use Rattle.histories.specs.PlainStore.{Plain, plainOpened, carriedOut, plainStep}
 use Rattle.histories.specs.Histories.{World, opened, step, fed, Lawful}
-use Rattle.histories.specs.Acts.{Act, reads, writes, zeroes, carry, tell, collect, eventsOf, Sides, run, allAllowed, lawful}
+use Rattle.histories.specs.Acts.{Act, reads, writes, zeroes, carry, tell, collect, eventsOf, run, allAllowed, lawful}
 
 -- a drive of blocks of 8 bytes, shares of 32; a store whose every byte is 9
 abbrev pub settings : Settings
@@ -53,7 +53,7 @@ abbrev pub plain : Plain
 plain = plainOpened settings buffers (λ x. 9)
 
 -- a healthy store
-abbrev healthy : Choice
+abbrev pub healthy : Choice
 healthy = record { isNew = λ x. false; left = λ x. 55 }
 
 -- a request of slot p is carried out and told

@@ -4,11 +4,10 @@ use mathlib.Core.Bool.{Bool, true, false, _&&_}
 use mathlib.Core.List.{List, [], _∷_}
 use mathlib.Core.Option.{Option, none, some}
 use Prim.Native.Nat.{ℕ, _-_, _<_}
-use lib.Dec.{ltb, eqb}
+use lib.Dec.{eqb}
 use lib.ListN.{length, getD}
 use Rattle.arithmetic.specs.Rounding.{pick}
 use Rattle.arithmetic.specs.declared.offsets.StoreOffset.{StoreOffset}
-use Rattle.arithmetic.specs.declared.offsets.Range.{Range}
 use Rattle.arithmetic.specs.declared.settings.Settings.{Settings}
 use Rattle.arithmetic.specs.declared.settings.Buffers.{Buffers}
 use Rattle.arithmetic.specs.declared.refusals.Outcome.{Outcome}
@@ -16,23 +15,20 @@ use Rattle.arithmetic.specs.declared.refusals.Outcome.the-variants.{Done, Refus
 use Rattle.vectors.specs.Vectors.{segmentsOf, bytesOf}
 use Rattle.vectors.specs.Places.{covered}
 use Rattle.vectors.specs.declared.vector.IoVector.{IoVector}
-use Rattle.stages.specs.Stages.{sizeOf, isFree}
+use Rattle.stages.specs.Stages.{isFree}
 use Rattle.stages.specs.declared.state.Job.{Job}
 use Rattle.stages.specs.declared.state.Job.the-variants.{Read, Write, Zeroes, AllocatedZeroes, Discard}
 use Rattle.stages.specs.declared.state.Request.{Request}
-use Rattle.dock.specs.Dock.{openOf, fresh, stateAt, vectorAt, lentFits}
+use Rattle.dock.specs.Dock.{openOf, stateAt, vectorAt, lentFits}
 use Rattle.dock.specs.Begin.{Begins, beginReadOf, beginWriteOf, beginZeroesOf, beginDiscardOf}
 use Rattle.dock.specs.Next.{nextOf}
 use Rattle.dock.specs.Tell.{Told, tellOf, collectOf}
 use Rattle.dock.specs.declared.dock.Dock.{Dock}
-use Rattle.dock.specs.declared.begin.Begun.{Begun}
-use Rattle.dock.specs.declared.begin.Begun.the-variants.{Done as NoRequest, Placed, Refused as BeginRefused}
 use Rattle.dock.specs.declared.next.Due.{Due}
 use Rattle.dock.specs.declared.next.Due.the-variants.{Waiting, Make, Answer, Refused as NotDue}
 use Rattle.dock.specs.declared.tell.Collects.{Collects}
-use Rattle.dock.specs.declared.tell.Collected.{Collected}
-use Rattle.dock.specs.declared.tell.Collected.the-variants.{Final, Refused as NotCollected}
-use Rattle.histories.specs.Store.{Bytes, Choice, Buffered, piecesFrom, gathered, rangeAsked, stored, fetched, inRange}
+use Rattle.dock.specs.declared.tell.Collected.the-variants.{Final}
+use Rattle.histories.specs.Store.{Bytes, Choice, piecesFrom, gathered, rangeAsked, stored, fetched, inRange}
 use Rattle.histories.specs.PlainStore.{Item, read, write, zeroes, discard, carry, tell, collect, nothing, Did, yielded, wrote, zeroed, discarded, Tracked, Plain, plainOpened, plainStep, setAt}
 
 -- ---- events
@@ -62,7 +58,7 @@ pub record World : Type 0 where
   pub carried : ℕ → Option ℕ
 
 abbrev pub opened : Settings → Buffers → Bytes → List ℕ → List ℕ → World
-opened s b content memory scratch = record { dock = fresh s b; store = content; memory = memory; scratch = scratch; carried = λ p. none }
+opened s b content memory scratch = record { dock = openOf s b .dock; store = content; memory = memory; scratch = scratch; carried = λ p. none }
 
 -- a call that is lent buffers of other lengths is refused (205), and touches none of these
 abbrev pub fitsLent : World → Lends → Bool

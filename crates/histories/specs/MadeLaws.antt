@@ -49,7 +49,7 @@ lent-fits s b m n e = go (openingOf s b) (lentFits b m n) e
     go Done false e = let z : _≡_ {A = ℕ} 0 1 = cc in absurd (omega arith)
     go (Refused r) t e = let z : _≡_ {A = ℕ} 0 1 = cc in absurd (omega arith)
 
-data-long : (b : Buffers) (m n : ℕ) → lentFits b m n ≡ true → m ≡ b .«data» .length
+pub data-long : (b : Buffers) (m n : ℕ) → lentFits b m n ≡ true → m ≡ b .«data» .length
 unfolding lentFits
 data-long b m n e = eqb-true m (b .«data» .length) (and-left _ _ e)
 

@@ -1,10 +1,9 @@
 -- Document 01's plain byte store: one byte for each offset, and each place's job with the codes told. It knows no blocker, no scratch, no waiting.
-use mathlib.Core.Bool.{Bool, true, false}
+use mathlib.Core.Bool.{Bool, true}
 use mathlib.Core.List.{List, [], _∷_}
 use mathlib.Core.Option.{Option, none, some}
 use Prim.Native.Nat.{ℕ}
 use lib.Dec.{eqb}
-use lib.ListN.{length}
 use Rattle.arithmetic.specs.Rounding.{pick}
 use Rattle.arithmetic.specs.declared.offsets.StoreOffset.{StoreOffset}
 use Rattle.arithmetic.specs.declared.offsets.Range.{Range}

@@ -2,8 +2,8 @@
 use mathlib.Core.Path.{_≡_, refl}
 use mathlib.Core.Bool.{true, false}
 use mathlib.Core.List.{List, [], _∷_, _++_}
-use Prim.Native.Nat.{ℕ}
-use lib.ListN.{length, take, drop, replicate}
+use Prim.Native.Nat.{ℕ, _*_, _-_, _^_}
+use lib.ListN.{length, replicate}
 use Rattle.vectors.specs.Vectors.{vectorOf}
 use Rattle.arithmetic.specs.Rounding.{fits, isMultiple, roundDown, roundUp, sumOf, upOf}
 use Rattle.arithmetic.specs.Offsets.{inBufferOf, onStoreOf}
@@ -23,19 +23,15 @@ use Rattle.dock.specs.Begin.{beginWriteOf, beginZeroesOf, beginDiscardOf}
 use Rattle.arithmetic.specs.Offsets.{storeAt}
 use Rattle.arithmetic.specs.Settings.{alignments}
 use Rattle.arithmetic.specs.declared.settings.Settings.{Settings}
-use Rattle.arithmetic.specs.declared.settings.Buffers.{Buffers}
 use Rattle.vectors.specs.Vectors.{segment}
-use Rattle.dock.specs.declared.tell.Collected.{Collected}
 use Rattle.dock.specs.declared.tell.Collected.the-variants.{Final}
-use Rattle.dock.specs.declared.next.Due.{Due}
-use Rattle.dock.specs.declared.next.Due.the-variants.{Waiting}
 use Rattle.dock.specs.Next.{pieceOf, partOf, isKept}
-use Rattle.histories.specs.Store.{Bytes, Choice, changed, window, piecesFrom, gathered, landed}
-use Rattle.histories.specs.PlainStore.{Plain, plainOpened, carriedOut, plainStep}
-use Rattle.histories.specs.Histories.{World, opened, step, fed, Lawful}
-use Rattle.histories.specs.Acts.{Act, writes, zeroes, carry, tell, collect, eventsOf, run, allAllowed, lawful}
+use Rattle.histories.specs.Store.{changed, window, piecesFrom, gathered, landed}
+use Rattle.histories.specs.PlainStore.{plainOpened, carriedOut, plainStep}
+use Rattle.histories.specs.Histories.{World, opened, step, fed}
+use Rattle.histories.specs.Example.{healthy}
+use Rattle.histories.specs.Acts.{Act, writes, zeroes, discards, carry, tell, collect, run, allAllowed}
 use Rattle.vectors.specs.declared.vector.Segment.{Segment}
-use Prim.Native.Nat.{_*_}
 
 -- data of 2048 bytes, at address 1
 abbrev pub memory : List ℕ
@@ -50,9 +46,6 @@ row-1 = worldOf 4096 (record { align = alignments 1 512 512 512; bounce = 4096 }
 
 abbrev pub row-4 : World
 row-4 = worldOf 12288 (record { align = alignments 4096 512 512 512; bounce = 12288 })
-
-abbrev healthy : Choice
-healthy = record { isNew = λ x. false; left = λ x. 55 }
 
 -- the codes told, each after its carry
 abbrev served : List ℕ → List Act
@@ -86,6 +79,10 @@ pub record StarredLists : Type 0 where
   pub zeroed : Well row-1 (zeroing 100 1000 (zeros 5))
   pub fallback : Well row-1 (zeroing 100 1000 (1 ∷ 0 ∷ 0 ∷ 0 ∷ 0 ∷ []))
   pub one-write : Well row-1 (zeroing 1 1022 (zeros 2))
+  -- the discards make no request, and take no place
+  pub discard : allAllowed row-1 (discards (storeAt 100) 400 ∷ []) ≡ true
+  pub discard-over : allAllowed row-1 (discards (storeAt (2 ^ 64 - 511)) 0 ∷ []) ≡ true
+  pub discard-last : allAllowed row-1 (discards (storeAt (2 ^ 64 - 512)) 0 ∷ []) ≡ true
 
 pub starred-lists : StarredLists
 unfolding fits isMultiple roundDown roundUp sumOf upOf inBufferOf onStoreOf isAlignment alignmentsFit lengthAlign bounceFits settingsFit buffersFit openingOf profiles profileOf paddedStart roundedEnd paddedLength paddingFits spanOf paddedOf paddingOf isDirect transferOf readsOf isRead cutFits hasMiddle cutOf zeroCutOf discardCutOf chunkLength chunkOf anyBelow sizeOf liesIn allSegments anySegment segmentsFit vectorOf isValid changedTo pushOf insertOf appendOf headOf tailOf splitOf splitTailOf put bytesOf scatterOf fillOf copies owns ownedOf shares overlapOf selfOverlapOf allAligned isAlignedOf alignmentOf blockers-overlaps conflict notes notesOf noBlockers enteredOf forgetting leftOf waitsOf directStage paddedStage firstPhase readPlan writePlan zeroesPlan zeroPlan discardPlan chunkNext tailNext headNext toldOf requestOf stages-liesIn isSound vacant fresh openOf openProfileOf lentFits lentOf isOutBy isOut meetsOf meetsAt overlapsOf firstFree sourceOf sourceFits mergedAt filled blockersWith placedAt beginReadOf beginWriteOf beginZeroesOf beginDiscardOf nextOf isKeptBy blockersWithout copiedAt handed staysOf endsOf entersOf tellAt tellOf collectOf pieceOf partOf isKept changed window piecesFrom gathered landed carriedOut plainStep step fed
@@ -100,4 +97,7 @@ starred-lists = record {
   zeroed = (refl, refl);
   fallback = (refl, refl);
   one-write = (refl, refl);
+  discard = refl;
+  discard-over = refl;
+  discard-last = refl;
 }
