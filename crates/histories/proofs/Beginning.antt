@@ -28,7 +28,6 @@ use Rattle.stages.specs.declared.state.Phase.the-variants.{Free, Ended, DirectR
 use Rattle.stages.specs.declared.state.Course.{Course}
 use Rattle.stages.specs.declared.state.Course.the-variants.{Last, Middle, Head, Chunks}
 use Rattle.stages.specs.declared.state.State.{State}
-use Rattle.arithmetic.specs.declared.settings.Settings.{Settings}
 use Rattle.dock.specs.Dock.{noState, noVector, stateAt, vectorAt, isReadJob, meetsOf, meetsAt, overlapsOf, firstFree}
 use Rattle.dock.specs.Begin.{isWriteJob, isBouncedWrite, sourceOf, sourceFits, mergedAt, filled, placed}
 use Rattle.dock.specs.declared.dock.Dock.{Dock}
@@ -167,10 +166,10 @@ bounced-puts x ZeroRequest p k e = never e
 bounced-puts x DiscardRequest p k e = never e
 
 -- a stage as it opens, its share filled where it reads nothing
-pub opened-fact : (t : Settings) (n : ℕ) (s : Bytes) (memory : List ℕ) (sh : ℕ → ℕ) (x : State) (v : IoVector) (j : Tracked) → Geo (x .stage) → Unread (x .phase) (x .stage) → isPending (x .phase) ≡ true
+pub opened-fact : (s : Bytes) (memory : List ℕ) (sh : ℕ → ℕ) (x : State) (v : IoVector) (j : Tracked) → Geo (x .stage) → Unread (x .phase) (x .stage) → isPending (x .phase) ≡ true
     → (isBouncedWrite (x .phase) ≡ true → (i : ℕ) → i < sizeOf (x .stage .asked) → sh (x .stage .head .0 + i) ≡ newBytes (x .job) (x .stage .asked .start .0) (j .bytes) (x .stage .asked .start .0 + i))
     → Fact (x .phase) s memory sh x v none j
-opened-fact t n s memory sh x v j g u p f = by (x .phase) refl u p f
+opened-fact s memory sh x v j g u p f = by (x .phase) refl u p f
   where
     no : {A : Type 0} → _≡_ {A = Option ℕ} none (some 0) → A
     no e = let z : _≡_ {A = ℕ} 0 1 = cc in absurd (omega arith)
@@ -237,7 +236,7 @@ module _ (w : World) (m : Plain) (I : Inv w m) (j : Job) (v : IoVector) (bs : Li
     as-asked = k .shaped .as-asked;
     before = λ e. k .before;
     fact =
-        opened-fact (d .settings) (d .settings .bounce) (w .store) (w .memory) (share (begun .scratch) (d .settings .bounce) p) x v job (k .shaped .geo) (k .shaped .unread) (k .ready .pending)
+        opened-fact (w .store) (w .memory) (share (begun .scratch) (d .settings .bounce) p) x v job (k .shaped .geo) (k .shaped .unread) (k .ready .pending)
         (λ e i l.
         fill-own (d .settings .bounce) p h x v (w .memory) (w .scratch) (room w m I) inside fits e bs (k .source) (bounced-puts x (x .phase) refl (k .ready .regular) e) (x .stage .asked .start .0) i l);
     fresh = λ a. (refl, k .shaped .unread);

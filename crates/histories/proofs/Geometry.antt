@@ -71,7 +71,7 @@ tail-some e b h k = omega arith
 tail-at : (e o l b n i : ℕ) → e ≡ o + l → b ≤ l → e ≤ o + n + b → n ≤ i → e - b - o ≤ i
 tail-at e o l b n i p q t h = omega arith
 
-module _ (x : Span) (r : Range) (l : ℕ) (pos : 0 < l) (starts : x .start .0 + x .head .0 ≡ r .start .0) (ends : x .end .0 ≡ x .start .0 + x .length) (holds : x .head .0 + sizeOf r ≤ x .length)
+module _ (x : Span) (r : Range) (starts : x .start .0 + x .head .0 ≡ r .start .0) (ends : x .end .0 ≡ x .start .0 + x .length) (holds : x .head .0 + sizeOf r ≤ x .length)
     (head-le : x .head .0 ≤ x .prefix) (tail-le : x .end .0 - (r .start .0 + sizeOf r) ≤ x .suffix) (prefix-le : x .prefix ≤ x .length) (suffix-le : x .suffix ≤ x .length) where
   -- where byte i stands: before the asked ones, or behind them
   sides : (i : ℕ) → (x .head .0 ≤ i → i < x .head .0 + sizeOf r → ⊥) → (i < x .head .0) ⊎ (x .head .0 + sizeOf r ≤ i)
@@ -106,7 +106,7 @@ geo-padded a n x r pos k e =
     let l = lengthAlign a in
     record {
       cover =
-          padded-cover x r l pos (k .from) (k .end) (omega (arith, k .holds)) (omega (arith, k .prefix-is, up-ge (x .head .0) l pos))
+          padded-cover x r (k .from) (k .end) (omega (arith, k .holds)) (omega (arith, k .prefix-is, up-ge (x .head .0) l pos))
           (omega (arith, k .suffix-is, up-ge (x .end .0 - (r .start .0 + n)) l pos)) (k .prefix-le) (k .suffix-le);
       weak = λ f. never (sym f);
     }

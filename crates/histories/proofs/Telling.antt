@@ -587,7 +587,7 @@ module _ (w : World) (m : Plain) (I : Inv w m) (p : ℕ) (h : p < 8) (pending : 
         as-asked = k .shaped .as-asked;
         before = λ a z. k .before;
         fact =
-            opened-fact (w .dock .settings) N (w .store) (w .memory) (share (filling y) N p) y v job' (k .shaped .geo) (k .shaped .unread) (O .pending)
+            opened-fact (w .store) (w .memory) (share (filling y) N p) y v job' (k .shaped .geo) (k .shaped .unread) (O .pending)
             (λ b i l.
             fill-own N p h y v (w .memory) (w .scratch) (room w m I) inside y-fits b (T .j .bytes) (λ u. T .flight .source (rw (O .job) at u)) (bounced-puts y (y .phase) refl (Z .1) b) (y .stage .asked .start .0) i l);
         fresh = λ a. (refl, k .shaped .unread);
