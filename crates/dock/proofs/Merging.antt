@@ -155,17 +155,6 @@ module _ (share : ℕ) (x : State) (v : IoVector) (memory scratch : List ℕ) wh
   unfolding filled
   filled-none e = simp e
 
-  -- a fill that is refused is 202, and leaves the scratch
-  pub filled-refused : (o : Outcome) (s : List ℕ) (q : Refusal) → fills o s ≡ filled share x v memory scratch → o ≡ Refused q → (q ≡ Segment) × (s ≡ scratch)
-  unfolding filled mergedAt
-  filled-refused o s q e r = go (isBouncedWrite (x .phase)) (sourceFits (x .job) v (sizeOf (x .stage .asked)) memory) e
-    where
-      go : (b t : Bool) → fills o s ≡ pick b (pick t (fills Done (put scratch (share + x .stage .head .0) (sourceOf (x .job) v (sizeOf (x .stage .asked)) memory))) (fills (Refused Segment) scratch)) (fills Done scratch)
-          → (q ≡ Segment) × (s ≡ scratch)
-      go true true e = let z : Refused q ≡ Done = sym r ∙ ap (λ f. f .outcome) e in let n : _≡_ {A = ℕ} 0 1 = cc in absurd (omega arith)
-      go true false e = let z : Refused q ≡ Refused Segment = sym r ∙ ap (λ f. f .outcome) e in ((cc), ap (λ f. f .scratch) e)
-      go false t e = let z : Refused q ≡ Done = sym r ∙ ap (λ f. f .outcome) e in let n : _≡_ {A = ℕ} 0 1 = cc in absurd (omega arith)
-
 module _ (share : ℕ) (x : State) (code : ℕ) (v : IoVector) (memory scratch : List ℕ) where
   pub handed-read : (isBouncedRead (x .phase) && eqb code 0) ≡ true → handed share x code v memory scratch ≡ copiedAt (share + x .stage .head .0) (sizeOf (x .stage .asked)) v memory scratch
   unfolding handed
@@ -174,13 +163,3 @@ module _ (share : ℕ) (x : State) (code : ℕ) (v : IoVector) (memory scratch :
   pub handed-none : (isBouncedRead (x .phase) && eqb code 0) ≡ false → handed share x code v memory scratch ≡ hands Done memory
   unfolding handed
   handed-none e = simp e
-
-  pub handed-refused : (o : Outcome) (m : List ℕ) (q : Refusal) → hands o m ≡ handed share x code v memory scratch → o ≡ Refused q → (q ≡ Segment) × (m ≡ memory)
-  unfolding handed copiedAt
-  handed-refused o m q e r = go (isBouncedRead (x .phase) && eqb code 0) (copies memory v (sizeOf (x .stage .asked))) e
-    where
-      go : (b t : Bool) → hands o m ≡ pick b (pick t (hands Done (scatterOf memory (segmentsOf v) (take (sizeOf (x .stage .asked)) (drop (share + x .stage .head .0) scratch)))) (hands (Refused Segment) memory)) (hands Done memory)
-          → (q ≡ Segment) × (m ≡ memory)
-      go true true e = let z : Refused q ≡ Done = sym r ∙ ap (λ f. f .outcome) e in let n : _≡_ {A = ℕ} 0 1 = cc in absurd (omega arith)
-      go true false e = let z : Refused q ≡ Refused Segment = sym r ∙ ap (λ f. f .outcome) e in ((cc), ap (λ f. f .memory) e)
-      go false t e = let z : Refused q ≡ Done = sym r ∙ ap (λ f. f .outcome) e in let n : _≡_ {A = ℕ} 0 1 = cc in absurd (omega arith)

@@ -10,16 +10,19 @@ use native.Mathlib.Omega.{arith}
 use lib.Dec.{leb, eqb}
 use lib.ListN.{length, getD, drop, length-map, drop-of-length-le}
 use lib.Seq.{drop-cons}
-use borrow.Author.Tests.{leb-true, eqb-true, le-leb, lt-leb}
+use borrow.Author.Tests.{leb-true, eqb-true, le-leb, lt-leb, lt-ltb, le-ltb}
 use Rattle.arithmetic.specs.SettingsLaws.{and-left, and-right}
+use Rattle.arithmetic.specs.declared.refusals.Refusal.the-variants.{Buffer, Slot}
 use Rattle.arithmetic.specs.declared.settings.Settings.{Settings}
 use Rattle.arithmetic.specs.declared.settings.Buffers.{Buffers}
 use Rattle.stages.specs.Stages.{sizeOf, isFree, usesBounce, secondAt, liesIn, isSound}
 use Rattle.stages.specs.declared.state.Phase.{Phase}
 use Rattle.stages.specs.declared.state.Phase.the-variants.{SecondRead}
 use Rattle.stages.specs.declared.state.State.{State}
-use Rattle.dock.specs.Dock.{noState, lentFits, firstFree}
-use Rattle.dock.specs.Next.{isKeptBy}
+use Rattle.dock.specs.Dock.{noState, lentFits, isOut, firstFree, stateAt, vectorAt}
+use Rattle.dock.specs.Next.{isKeptBy, isKept, pieceAt, pieceOf}
+use Rattle.dock.specs.declared.dock.Dock.{Dock}
+use Rattle.dock.specs.declared.next.Piece.the-variants.{Refused as NoPiece}
 
 -- an array of structs has its length by the relation that owning it gives, which stands at a map over the list
 pub long-states : {Y : Type 0} (f : State → Y) (l : List State) (n : ℕ) → length (map f l) ≡ n → length l ≡ n
@@ -69,6 +72,13 @@ share-kept p x s b m n h f k =
     let l = leb-true (8 * s .bounce) (b .scratch .length) (and-right (isSound (s .bounce) x) _ k) in
     omega (arith, share-in p (s .bounce) h)
 
+-- where the scratch is as long as at opening, it has room for the share
+pub share-room-kept : (p : ℕ) (x : State) (s : Settings) (b : Buffers) → p < 8 → isKeptBy x s b ≡ true → p * s .bounce + s .bounce ≤ b .scratch .length
+unfolding isKeptBy
+share-room-kept p x s b h k =
+    let l = leb-true (8 * s .bounce) (b .scratch .length) (and-right (isSound (s .bounce) x) _ k) in
+    omega (arith, share-in p (s .bounce) h)
+
 pub kept-sound : (x : State) (s : Settings) (b : Buffers) → isKeptBy x s b ≡ true → isSound (s .bounce) x ≡ true
 unfolding isKeptBy
 kept-sound x s b k = and-left _ _ k
@@ -80,3 +90,19 @@ second-in n x e s =
     let l : liesIn n (x .stage) ≡ true = sym (ap (λ (ph : Phase). not (usesBounce ph) || liesIn n (x .stage)) e) ∙ s in
     let k = leb-true (secondAt (x .stage) + sizeOf (x .stage .second)) n (and-right (leb (x .stage .head .0 + sizeOf (x .stage .asked)) n && leb (sizeOf (x .stage .request)) n && leb (sizeOf (x .stage .first)) n) _ l) in
     omega arith
+
+-- ---- a request's piece: 205, then 208 past the last slot, then the slot's
+
+module _ (d : Dock) (p i m n : ℕ) where
+  pub piece-unlent : lentFits (d .buffers) m n ≡ false → NoPiece Buffer ≡ pieceOf d p i m n
+  unfolding pieceOf
+  piece-unlent f = simp f
+
+  module _ (f : lentFits (d .buffers) m n ≡ true) where
+    pub piece-no-slot : 8 ≤ p → NoPiece Slot ≡ pieceOf d p i m n
+    unfolding pieceOf isOut
+    piece-no-slot h = simp (f, le-ltb p 8 h)
+
+    pub piece-there : p < 8 → pieceAt (d .blockers) p (d .settings) (d .buffers) (stateAt d p) (vectorAt d p) i m ≡ pieceOf d p i m n
+    unfolding pieceOf isOut isKept pieceAt
+    piece-there h = simp (f, lt-ltb p 8 h)

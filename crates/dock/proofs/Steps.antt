@@ -1,176 +1,163 @@
--- The branches of begin and tell: what each leaves is what the definition says. Assumes nothing.
+-- The steps of begin and tell: each branch of the code gives what the definition says, and what a step needs of the scratch is there. Assumes nothing.
 use mathlib.Core.Path.{_≡_, refl, sym, ap, _∙_}
-use mathlib.Core.Bool.{Bool, true, false, _&&_}
-use mathlib.Core.List.{List, []}
-use Prim.Native.Nat.{ℕ, _+_, _*_, _<_, _≤_}
+use mathlib.Core.Bool.{Bool, true, false}
+use mathlib.Core.List.{List}
+use Prim.Native.Nat.{ℕ, _*_, _<_, _≤_}
 use native.Mathlib.Omega.{arith}
-use lib.Dec.{ltb, leb, eqb}
-use borrow.Author.Tests.{lt-ltb, le-ltb, leb-true, eqb-true}
-use lib.ListN.{length}
+use mathlib.Core.Logic.{_≢_}
+use lib.Dec.{leb, ltb, eqb}
+use lib.ListN.{length, set}
+use borrow.Author.Tests.{leb-true, ltb-true, eqb-true, lt-ltb, le-ltb}
+use Rattle.arithmetic.specs.Rounding.{pick}
 use Rattle.arithmetic.specs.declared.refusals.Refusal.{Refusal}
-use Rattle.arithmetic.specs.declared.refusals.Refusal.the-variants.{Segment, Overlap, Full, Buffer, Slot, NoAnswer}
+use Rattle.arithmetic.specs.declared.refusals.Refusal.the-variants.{Overlap, Full, Buffer, Slot, NoAnswer}
 use Rattle.arithmetic.specs.declared.refusals.Outcome.{Outcome}
 use Rattle.arithmetic.specs.declared.refusals.Outcome.the-variants.{Done, Refused}
-use Rattle.arithmetic.specs.Rounding.{pick}
 use Rattle.arithmetic.specs.Settings.{openingOf}
 use Rattle.arithmetic.specs.SettingsLaws.{and-left, and-right, opened}
 use Rattle.arithmetic.specs.declared.settings.Settings.{Settings}
 use Rattle.arithmetic.specs.declared.settings.Buffers.{Buffers}
-use Rattle.vectors.specs.Vectors.{sizeOf, allSegments, segmentsFit, vectorOf, isValid}
-use Rattle.vectors.specs.SegmentLaws.{vector-valid}
+use Rattle.arithmetic.specs.declared.offsets.StoreOffset.{StoreOffset}
+use Rattle.vectors.specs.Vectors.{isValid}
 use Rattle.vectors.specs.declared.vector.IoVector.{IoVector}
-use Rattle.stages.specs.Stages.{isSound, toldOf}
-use Rattle.stages.specs.Laws.{told-stays, told-enters}
+use Rattle.blockers.specs.declared.Blockers.{Blockers}
 use Rattle.blockers.specs.declared.Changed.{Changed}
+use Rattle.stages.specs.Stages.{isSound, toldOf}
+use Rattle.stages.specs.Laws.{told-stays, told-enters, read-opens, write-opens, zero-opens, discard-opens}
 use Rattle.stages.specs.declared.state.Job.{Job}
+use Rattle.stages.specs.declared.state.Job.the-variants.{Read, Write, Zeroes, AllocatedZeroes, Discard}
+use Rattle.stages.specs.declared.plan.Plan.{Plan}
+use Rattle.stages.specs.declared.plan.Plan.the-variants.{Done as NothingToDo, Started, Refused as PlanRefused}
 use Rattle.stages.specs.declared.state.State.{State}
 use Rattle.stages.specs.declared.told.Step.{Step}
 use Rattle.stages.specs.declared.told.Step.the-variants.{Stays, Ends, Enters}
-use Rattle.stages.specs.declared.plan.Plan.{Plan}
-use Rattle.stages.specs.declared.plan.Plan.the-variants.{Done as NothingToDo, Started, Refused as PlanRefused}
-use Rattle.dock.specs.Dock.{shareAt, vectorAt, stateAt, isOutBy, lentFits, lentBy, lentOf, overlapsOf, firstFree}
-use Rattle.dock.specs.Begin.{Begins, begins, fills, filled, blockersWith, withJob, placedAt, begunBy, onlyIf, vectorThen, PlanSound}
+use Rattle.dock.specs.Dock.{stateAt, vectorAt, isOutBy, lentFits, lentBy, lentOf, overlapsOf, firstFree}
+use Rattle.dock.specs.Begin.{Filled, fills, filled, blockersWith, Begins, begins, withJob, movedOf, planOf, beginOf}
 use Rattle.dock.specs.Next.{isKeptBy}
-use Rattle.dock.specs.Tell.{Told, tells, refusal, accepted, hands, handed, blockersWithout, staysOf, endsOf, entersOf, StepSound, stepped, tellAt, tellOf}
+use Rattle.dock.specs.Tell.{Handed, hands, handed, blockersWithout, tells, tellOf}
+use Rattle.dock.specs.Slots.{Entered, enters, enterAt, decidedOf, admits, unplaced, admitBy, admitAt, PlanInShare, seatedBy, seated, Stepped, steps, unstepped, endsAt, entersBy, entersAt, StepInShare, answeredOf, answeredBy, toldAt, storedBy, stored}
+use Rattle.dock.specs.SlotLaws.{told-stored, begin-seated}
 use Rattle.dock.specs.declared.dock.Dock.{Dock}
-use Rattle.dock.specs.declared.tell.Telling.{Telling}
-use Rattle.dock.specs.declared.begin.Begun.the-variants.{Placed, Refused as BeginRefused}
-use Rattle.dock.proofs.Merging.{filled-refused, handed-refused}
+use Rattle.dock.specs.declared.begin.Asked.{Asked}
+use Rattle.dock.specs.declared.begin.Begun.{Begun}
+use Rattle.dock.specs.declared.begin.Begun.the-variants.{Done as NoRequest, Placed, Refused as BeginRefused}
+use Rattle.dock.specs.declared.begin.Admission.{Admission}
+use Rattle.dock.specs.declared.tell.Stepping.{Stepping}
+use Rattle.dock.specs.declared.tell.Answered.{Answered}
+use Rattle.dock.specs.declared.tell.Answered.the-variants.{Leads, Refused as NoLead}
+use Rattle.dock.proofs.Merging.{in-share}
 
--- ---- a job comes to a slot
+-- ---- a job comes to its stage
 
-module _ (d : Dock) (p : ℕ) (x : State) (v : IoVector) (memory scratch : List ℕ) (b : Changed) (e : b ≡ blockersWith (d .blockers) p x) where
-  pub place-refused : (r : Refusal) → b .outcome ≡ Refused r → begins (record { dock = d; answer = BeginRefused r }) scratch ≡ placedAt d p x v memory scratch
-  unfolding placedAt
-  place-refused r q = let k : blockersWith (d .blockers) p x .outcome ≡ Refused r = ap (λ c. c .outcome) (sym e) ∙ q in simp k
+module _ (b : Blockers) (p share : ℕ) (x : State) (v : IoVector) (memory scratch : List ℕ) (c : Changed) (e : c ≡ blockersWith b p x) where
+  pub enter-refused : (r : Refusal) → c .outcome ≡ Refused r → enters c scratch ≡ enterAt b p share x v memory scratch
+  unfolding enterAt
+  enter-refused r q =
+      let k : blockersWith b p x .outcome ≡ Refused r = ap (λ z. z .outcome) (sym e) ∙ q in
+      ap (λ (z : Changed). enters z scratch) e ∙ simp k
 
-  module _ (q : b .outcome ≡ Done) (o : Outcome) (s : List ℕ) (f : fills o s ≡ filled (shareAt d p) x v memory scratch) where
-    k : blockersWith (d .blockers) p x .outcome ≡ Done
-    k = ap (λ c. c .outcome) (sym e) ∙ q
+  pub enter-done : c .outcome ≡ Done → (o : Outcome) (s : List ℕ) → fills o s ≡ filled share x v memory scratch
+      → enters (record { blockers = c .blockers; outcome = o }) s ≡ enterAt b p share x v memory scratch
+  unfolding enterAt
+  enter-done q o s f =
+      let k : blockersWith b p x .outcome ≡ Done = ap (λ z. z .outcome) (sym e) ∙ q in
+      ap (λ (z : Filled). record { blockers = c .blockers; outcome = z .outcome; scratch = z .scratch }) f ∙
+      ap (λ (z : Changed). record { blockers = z .blockers; outcome = filled share x v memory scratch .outcome; scratch = filled share x v memory scratch .scratch }) e ∙
+      simp k
 
-    pub place-unfilled : (r : Refusal) → o ≡ Refused r → begins (record { dock = d; answer = BeginRefused Segment }) s ≡ placedAt d p x v memory scratch
-    unfolding placedAt
-    place-unfilled r w =
-        let g : filled (shareAt d p) x v memory scratch .outcome ≡ Refused r = ap (λ y. y .outcome) (sym f) ∙ w in
-        let h = filled-refused (shareAt d p) x v memory scratch o s r f w in
-        rw (h .1) (simp (k, g, h .0))
+-- ---- a job ends, or enters its next stage
 
-    pub place-done : o ≡ Done → begins (record { dock = withJob d p (b .blockers) x v; answer = Placed p }) s ≡ placedAt d p x v memory scratch
-    unfolding placedAt
-    place-done w =
-        let g : filled (shareAt d p) x v memory scratch .outcome ≡ Done = ap (λ y. y .outcome) (sym f) ∙ w in
-        let h : filled (shareAt d p) x v memory scratch .scratch ≡ s = ap (λ y. y .scratch) (sym f) in
-        let m : blockersWith (d .blockers) p x .blockers ≡ b .blockers = ap (λ c. c .blockers) (sym e) in
-        simp (k, g, h, m)
-
--- ---- a job goes on in its stage
-
-module _ (d : Dock) (p : ℕ) (y : State) (memory scratch : List ℕ) (o : Outcome) (s : List ℕ) (f : fills o s ≡ filled (shareAt d p) y (vectorAt d p) memory scratch) where
-  pub stays-refused : (r : Refusal) → o ≡ Refused r → (t : Telling) → t ≡ refusal d Segment → tells t memory s ≡ staysOf d p y memory scratch
-  unfolding staysOf
-  stays-refused r w t te =
-      ap (λ z. tells z memory s) te ∙ (
-      let g : filled (shareAt d p) y (vectorAt d p) memory scratch .outcome ≡ Refused r = ap (λ y. y .outcome) (sym f) ∙ w in
-      let h = filled-refused (shareAt d p) y (vectorAt d p) memory scratch o s r f w in
-      rw (h .1) (simp (g, h .0)))
-
-  pub stays-done : o ≡ Done → (t : Telling) → t ≡ accepted d p (d .blockers) y → tells t memory s ≡ staysOf d p y memory scratch
-  unfolding staysOf
-  stays-done w t te =
-      ap (λ z. tells z memory s) te ∙ (
-      let g : filled (shareAt d p) y (vectorAt d p) memory scratch .outcome ≡ Done = ap (λ y. y .outcome) (sym f) ∙ w in
-      let h : filled (shareAt d p) y (vectorAt d p) memory scratch .scratch ≡ s = ap (λ y. y .scratch) (sym f) in
-      simp (g, h))
-
--- ---- a job ends
-
-module _ (d : Dock) (p : ℕ) (x : State) (code : ℕ) (y : State) (memory scratch : List ℕ) (b : Changed) (e : b ≡ blockersWithout (d .blockers) p x) where
-  pub ends-blocked : (r : Refusal) → b .outcome ≡ Refused r → (t : Telling) → t ≡ refusal d r → tells t memory scratch ≡ endsOf d p x code y memory scratch
-  unfolding endsOf
+module _ (b : Blockers) (p share : ℕ) (x : State) (code : ℕ) (y : State) (v : IoVector) (memory scratch : List ℕ) (c : Changed) (e : c ≡ blockersWithout b p x) where
+  pub ends-blocked : (r : Refusal) → c .outcome ≡ Refused r → (t : Stepping) → t ≡ unstepped b x r → steps t memory scratch ≡ endsAt b p share x code y v memory scratch
+  unfolding endsAt
   ends-blocked r q t te =
-      ap (λ z. tells z memory scratch) te ∙
-      (let k : blockersWithout (d .blockers) p x .outcome ≡ Refused r = ap (λ c. c .outcome) (sym e) ∙ q in simp k)
+      let k : blockersWithout b p x .outcome ≡ Refused r = ap (λ z. z .outcome) (sym e) ∙ q in
+      ap (λ (z : Stepping). steps z memory scratch) te ∙ simp k
 
-  module _ (q : b .outcome ≡ Done) (o : Outcome) (m : List ℕ) (f : hands o m ≡ handed (shareAt d p) x code (vectorAt d p) memory scratch) where
-    gone : blockersWithout (d .blockers) p x .outcome ≡ Done
-    gone = ap (λ c. c .outcome) (sym e) ∙ q
+  pub ends-done : c .outcome ≡ Done → (o : Outcome) (m : List ℕ) → hands o m ≡ handed share x code v memory scratch
+      → steps (record { outcome = o; blockers = c .blockers; state = y }) m scratch ≡ endsAt b p share x code y v memory scratch
+  unfolding endsAt
+  ends-done q o m f =
+      let k : blockersWithout b p x .outcome ≡ Done = ap (λ z. z .outcome) (sym e) ∙ q in
+      ap (λ (z : Handed). steps (record { outcome = z .outcome; blockers = c .blockers; state = y }) (z .memory) scratch) f ∙
+      ap (λ (z : Changed). steps (record { outcome = handed share x code v memory scratch .outcome; blockers = z .blockers; state = y }) (handed share x code v memory scratch .memory) scratch) e ∙
+      simp k
 
-    pub ends-refused : (r : Refusal) → o ≡ Refused r → (t : Telling) → t ≡ refusal d Segment → tells t m scratch ≡ endsOf d p x code y memory scratch
-    unfolding endsOf
-    ends-refused r w t te =
-        ap (λ z. tells z m scratch) te ∙ (
-        let g : handed (shareAt d p) x code (vectorAt d p) memory scratch .outcome ≡ Refused r = ap (λ z. z .outcome) (sym f) ∙ w in
-        let h = handed-refused (shareAt d p) x code (vectorAt d p) memory scratch o m r f w in
-        rw (h .1) (simp (gone, g, h .0)))
-
-    pub ends-done : o ≡ Done → (t : Telling) → t ≡ accepted d p (b .blockers) y → tells t m scratch ≡ endsOf d p x code y memory scratch
-    unfolding endsOf
-    ends-done w t te =
-        ap (λ z. tells z m scratch) te ∙ (
-        let g : handed (shareAt d p) x code (vectorAt d p) memory scratch .outcome ≡ Done = ap (λ z. z .outcome) (sym f) ∙ w in
-        let h : handed (shareAt d p) x code (vectorAt d p) memory scratch .memory ≡ m = ap (λ z. z .memory) (sym f) in
-        let l : blockersWithout (d .blockers) p x .blockers ≡ b .blockers = ap (λ c. c .blockers) (sym e) in
-        simp (gone, g, h, l))
-
--- ---- a job enters its next stage
-
-module _ (d : Dock) (p : ℕ) (x y : State) (memory scratch : List ℕ) (b : Changed) (e : b ≡ blockersWithout (d .blockers) p x) where
-  pub enters-blocked : (r : Refusal) → b .outcome ≡ Refused r → (t : Telling) → t ≡ refusal d r → tells t memory scratch ≡ entersOf d p x y memory scratch
-  unfolding entersOf
+module _ (b : Blockers) (p share : ℕ) (x y : State) (v : IoVector) (memory scratch : List ℕ) (c : Changed) (e : c ≡ blockersWithout b p x) where
+  pub enters-blocked : (r : Refusal) → c .outcome ≡ Refused r → (t : Stepping) → t ≡ unstepped b x r → steps t memory scratch ≡ entersAt b p share x y v memory scratch
+  unfolding entersAt
   enters-blocked r q t te =
-      ap (λ z. tells z memory scratch) te ∙
-      (let k : blockersWithout (d .blockers) p x .outcome ≡ Refused r = ap (λ c. c .outcome) (sym e) ∙ q in simp k)
+      let k : blockersWithout b p x .outcome ≡ Refused r = ap (λ z. z .outcome) (sym e) ∙ q in
+      ap (λ (z : Stepping). steps z memory scratch) te ∙ simp k
 
-  module _ (q : b .outcome ≡ Done) (n : Changed) (i : n ≡ blockersWith (b .blockers) p y) where
-    left : blockersWithout (d .blockers) p x .outcome ≡ Done
-    left = ap (λ c. c .outcome) (sym e) ∙ q
+  pub enters-done : c .outcome ≡ Done → (n : Changed) (s : List ℕ) → enters n s ≡ enterAt (c .blockers) p share y v memory scratch
+      → steps (record { outcome = n .outcome; blockers = n .blockers; state = y }) memory s ≡ entersAt b p share x y v memory scratch
+  unfolding entersAt
+  enters-done q n s f =
+      let k : blockersWithout b p x .outcome ≡ Done = ap (λ z. z .outcome) (sym e) ∙ q in
+      ap (λ (z : Entered). entersBy z y memory) f ∙
+      ap (λ (z : Changed). entersBy (enterAt (z .blockers) p share y v memory scratch) y memory) e ∙
+      simp k
 
-    there : blockersWith (blockersWithout (d .blockers) p x .blockers) p y ≡ n
-    there = ap (λ (c : Changed). blockersWith (c .blockers) p y) (sym e) ∙ sym i
+-- ---- a code is told
 
-    pub enters-refused : (r : Refusal) → n .outcome ≡ Refused r → (t : Telling) → t ≡ refusal d r → tells t memory scratch ≡ entersOf d p x y memory scratch
-    unfolding entersOf
-    enters-refused r w t te =
-        ap (λ z. tells z memory scratch) te ∙
-        (simp (left, there, w))
+module _ (b : Blockers) (p : ℕ) (s : Settings) (l : Buffers) (x : State) (v : IoVector) (code : ℕ) (memory scratch : List ℕ) where
+  pub told-none : isOutBy b x p ≡ false → (t : Stepping) → t ≡ unstepped b x Slot → steps t memory scratch ≡ toldAt b p s l x v code memory scratch
+  unfolding toldAt
+  told-none o t te = ap (λ (z : Stepping). steps z memory scratch) te ∙ simp o
 
-    module _ (w : n .outcome ≡ Done) (o : Outcome) (s : List ℕ) (f : fills o s ≡ filled (shareAt d p) y (vectorAt d p) memory scratch) where
-      pub enters-unfilled : (r : Refusal) → o ≡ Refused r → (t : Telling) → t ≡ refusal d Segment → tells t memory s ≡ entersOf d p x y memory scratch
-      unfolding entersOf
-      enters-unfilled r u t te =
-          ap (λ z. tells z memory s) te ∙ (
-          let g : filled (shareAt d p) y (vectorAt d p) memory scratch .outcome ≡ Refused r = ap (λ z. z .outcome) (sym f) ∙ u in
-          let h = filled-refused (shareAt d p) y (vectorAt d p) memory scratch o s r f u in
-          rw (h .1) (simp (left, there, w, g, h .0)))
+  pub told-unkept : isOutBy b x p ≡ true → isKeptBy x s l ≡ false → (t : Stepping) → t ≡ unstepped b x Slot → steps t memory scratch ≡ toldAt b p s l x v code memory scratch
+  unfolding toldAt
+  told-unkept o k t te = ap (λ (z : Stepping). steps z memory scratch) te ∙ simp (o, k)
 
-      pub enters-done : o ≡ Done → (t : Telling) → t ≡ accepted d p (n .blockers) y → tells t memory s ≡ entersOf d p x y memory scratch
-      unfolding entersOf
-      enters-done u t te =
-          ap (λ z. tells z memory s) te ∙ (
-          let g : filled (shareAt d p) y (vectorAt d p) memory scratch .outcome ≡ Done = ap (λ z. z .outcome) (sym f) ∙ u in
-          let h : filled (shareAt d p) y (vectorAt d p) memory scratch .scratch ≡ s = ap (λ z. z .scratch) (sym f) in
-          simp (left, there, w, g, h))
+  pub told-answered : isOutBy b x p ≡ true → isKeptBy x s l ≡ true → (a : Answered) → a ≡ answeredOf s x code → (w : Answered) → a ≡ w
+      → (r : Stepped) → r ≡ answeredBy w b p (p * s .bounce) x code v memory scratch → r ≡ toldAt b p s l x v code memory scratch
+  unfolding toldAt
+  told-answered o k a e w f r q = q ∙ ap (λ (z : Answered). answeredBy z b p (p * s .bounce) x code v memory scratch) (sym f ∙ e) ∙ simp (o, k)
 
--- ---- a planned job
+-- the stage that an accepted code leads to lies in its share
+pub leads-in-share : (p : ℕ) (s : Settings) (x : State) (code n : ℕ) → p < 8 → isSound (s .bounce) x ≡ true → 8 * s .bounce ≤ n → (t : Step) → answeredOf s x code ≡ Leads t
+    → StepInShare (p * s .bounce) n t
+unfolding answeredOf
+leads-in-share p s x code n h w r t e = by t (leads (ltb code 200) e)
+  where
+    leads : (u : Bool) → pick u (Leads (toldOf s x code)) (NoLead NoAnswer) ≡ Leads t → toldOf s x code ≡ t
+    leads true e = cc
+    leads false e = let z : _≡_ {A = ℕ} 0 1 = cc in absurd (omega arith)
 
-module _ (d : Dock) (j : Job) (v : IoVector) (memory scratch : List ℕ) (plan : Plan) (x : State) (e : plan ≡ Started x) (t : Bool) (o : t ≡ overlapsOf (d .states) (d .vectors) j v) where
-  by : begunBy d j v memory scratch (Started x) ≡ begunBy d j v memory scratch plan
-  by = ap (λ q. begunBy d j v memory scratch q) (sym e)
+    by : (t : Step) → toldOf s x code ≡ t → StepInShare (p * s .bounce) n t
+    by (Stays y) e = in-share p (s .bounce) y n h (told-stays s x code y e .sound w) r
+    by (Ends y) e = tt
+    by (Enters y) e = in-share p (s .bounce) y n h (told-enters s x code y e .sound) r
 
-  pub begun-overlap : t ≡ true → begins (record { dock = d; answer = BeginRefused Overlap }) scratch ≡ begunBy d j v memory scratch plan
-  begun-overlap w = let k : overlapsOf (d .states) (d .vectors) j v ≡ true = sym o ∙ w in rw (← by) (simp k)
+module _ (d : Dock) (p code : ℕ) (memory scratch : List ℕ) where
+  abbrev Lent : Bool
+  Lent = lentFits (d .buffers) (length memory) (length scratch)
 
-  module _ (w : t ≡ false) (p : ℕ) (f : p ≡ firstFree (d .states)) where
-    apart : overlapsOf (d .states) (d .vectors) j v ≡ false
-    apart = sym o ∙ w
+  pub tell-buffer : Lent ≡ false → tells (record { outcome = Refused Buffer; dock = d }) memory scratch ≡ tellOf d p code memory scratch
+  unfolding tellOf
+  tell-buffer l = simp l
 
-    pub begun-full : 8 ≤ p → begins (record { dock = d; answer = BeginRefused Full }) scratch ≡ begunBy d j v memory scratch plan
-    begun-full h = let l : ltb (firstFree (d .states)) 8 ≡ false = le-ltb (firstFree (d .states)) 8 (omega arith) in rw (← by) (simp (apart, l))
+  pub tell-slot : Lent ≡ true → 8 ≤ p → tells (record { outcome = Refused Slot; dock = d }) memory scratch ≡ tellOf d p code memory scratch
+  unfolding tellOf
+  tell-slot l h = simp (l, le-ltb p 8 h)
 
-    pub begun-placed : p < 8 → (r : Begins) → r ≡ placedAt d p x v memory scratch → r ≡ begunBy d j v memory scratch plan
-    begun-placed h r q =
-        let l : ltb (firstFree (d .states)) 8 ≡ true = lt-ltb (firstFree (d .states)) 8 (omega arith) in
-        q ∙ ap (λ (n : ℕ). placedAt d n x v memory scratch) f ∙ (rw (← by) (simp (apart, l)))
+  module _ (l : Lent ≡ true) (h : p < 8) (t : Stepping) (m n : List ℕ)
+      (e : steps t m n ≡ toldAt (d .blockers) p (d .settings) (d .buffers) (stateAt d p) (vectorAt d p) code memory scratch) where
+    there : stored d p (steps t m n) ≡ tellOf d p code memory scratch
+    unfolding tellOf
+    there = ap (λ (z : Stepped). stored d p z) e ∙ told-stored d p memory scratch code ∙ simp (l, lt-ltb p 8 h)
+
+    pub tell-refused : (r : Refusal) → t .outcome ≡ Refused r → tells (record { outcome = t .outcome; dock = d }) m n ≡ tellOf d p code memory scratch
+    tell-refused r q =
+        ap (λ (o : Outcome). tells (record { outcome = o; dock = d }) m n) q ∙ sym (ap (λ (o : Outcome). storedBy o d p (steps t m n)) q) ∙ there
+
+    pub tell-stored : t .outcome ≡ Done
+        → tells (record { outcome = t .outcome; dock = record { settings = d .settings; buffers = d .buffers; blockers = t .blockers; states = set (d .states) p (t .state); vectors = d .vectors } }) m n
+        ≡ tellOf d p code memory scratch
+    tell-stored q =
+        ap (λ (o : Outcome). tells (record { outcome = o; dock = record { settings = d .settings; buffers = d .buffers; blockers = t .blockers; states = set (d .states) p (t .state); vectors = d .vectors } }) m n) q
+        ∙ sym (ap (λ (o : Outcome). storedBy o d p (steps t m n)) q) ∙ there
 
 -- ---- what a begin is lent
 
@@ -185,87 +172,95 @@ lent-room s b m n l e d = go (openingOf s b) refl (lentFits b m n) refl (sym e �
     go Done p false q r = let z : _≡_ {A = ℕ} 0 1 = cc in absurd (omega arith)
     go (Refused x) p t q r = let z : _≡_ {A = ℕ} 0 1 = cc in absurd (omega arith)
 
-module _ (d : Dock) (memory scratch : List ℕ) (l : Outcome) (e : l ≡ lentOf (d .settings) (d .buffers) (length memory) (length scratch)) (K : Begins) where
-  pub lent-refused : (r : Refusal) → l ≡ Refused r → begins (record { dock = d; answer = BeginRefused r }) scratch ≡ onlyIf d scratch (lentOf (d .settings) (d .buffers) (length memory) (length scratch)) K
-  lent-refused r q = let k : lentOf (d .settings) (d .buffers) (length memory) (length scratch) ≡ Refused r = sym e ∙ q in simp k
+-- ---- a job is begun
 
-  pub lent-done : l ≡ Done → K ≡ onlyIf d scratch (lentOf (d .settings) (d .buffers) (length memory) (length scratch)) K
-  lent-done q = let k : lentOf (d .settings) (d .buffers) (length memory) (length scratch) ≡ Done = sym e ∙ q in simp k
+-- the first stage of a plan is sound
+plan-sound : (j : Job) (s : Settings) (b : Buffers) (o : StoreOffset) (n : ℕ) (v : IoVector) (x : State) → planOf j s b o n v ≡ Started x → isSound (s .bounce) x ≡ true
+plan-sound Read s b o n v x e = read-opens s o (v .total) _ x e .sound
+plan-sound Write s b o n v x e = write-opens s o (v .total) _ x e .sound
+plan-sound Zeroes s b o n v x e = zero-opens s o n false x e .sound
+plan-sound AllocatedZeroes s b o n v x e = zero-opens s o n true x e .sound
+plan-sound Discard s b o n v x e = discard-opens s o n x e .sound
 
-pub vector-refused : (d : Dock) (v : IoVector) (memory scratch : List ℕ) (K : Begins) → isValid (length memory) v ≡ false
-    → begins (record { dock = d; answer = BeginRefused Segment }) scratch ≡ vectorThen d v memory scratch K
-vector-refused d v memory scratch K e = simp e
+-- a plan that was decided is done, was there before, and has its slot
+started : (l : Outcome) (t : Bool) (plan : Plan) (met : Bool) (f : ℕ) (x : State) → decidedOf l t plan met f ≡ Started x → (l ≡ Done) × (plan ≡ Started x) × (f < 8)
+started (Refused r) t plan met f x e = absurd (let z : _≡_ {A = ℕ} 0 1 = cc in omega arith)
+started Done false plan met f x e = absurd (let z : _≡_ {A = ℕ} 0 1 = cc in omega arith)
+started Done true NothingToDo met f x e = absurd (let z : _≡_ {A = ℕ} 0 1 = cc in omega arith)
+started Done true (PlanRefused r) met f x e = absurd (let z : _≡_ {A = ℕ} 0 1 = cc in omega arith)
+started Done true (Started y) met f x e = go met (ltb f 8) refl e
+  where
+    go : (a u : Bool) → ltb f 8 ≡ u → pick a (PlanRefused Overlap) (pick u (Started y) (PlanRefused Full)) ≡ Started x → (Done ≡ Done) × (Started y ≡ Started x) × (f < 8)
+    go true u h e = absurd (let z : _≡_ {A = ℕ} 0 1 = cc in omega arith)
+    go false true h e = (refl, e, ltb-true f 8 h)
+    go false false h e = absurd (let z : _≡_ {A = ℕ} 0 1 = cc in omega arith)
 
-pub vector-done : (d : Dock) (v : IoVector) (memory scratch : List ℕ) (K : Begins) → isValid (length memory) v ≡ true → K ≡ vectorThen d v memory scratch K
-vector-done d v memory scratch K e = simp e
+pub decided-in-share : (j : Job) (s : Settings) (b : Buffers) (o : StoreOffset) (k : ℕ) (v : IoVector) (m n : ℕ) (l : Outcome) → l ≡ lentOf s b m n → (t : Bool) (plan : Plan) → plan ≡ planOf j s b o k v
+    → (met : Bool) (f : ℕ) (q : Plan) → q ≡ decidedOf l t plan met f → PlanInShare f (s .bounce) n q
+decided-in-share j s b o k v m n l le t plan pe met f NothingToDo e = tt
+decided-in-share j s b o k v m n l le t plan pe met f (PlanRefused r) e = tt
+decided-in-share j s b o k v m n l le t plan pe met f (Started x) e =
+    let w = started l t plan met f x (sym e) in
+    (w .2, plan-sound j s b o k v x (sym pe ∙ w .1), lent-room s b m n l le (w .0))
 
--- the empty vector is one over any data
-empty-valid : (n : ℕ) → isValid n (vectorOf []) ≡ true
-unfolding segmentsFit allSegments sizeOf
-empty-valid n = vector-valid n [] refl
+-- a job comes to its slot
+module _ (b : Blockers) (p bounce : ℕ) (v : IoVector) (memory scratch : List ℕ) (plan : Plan) (x : State) (e : plan ≡ Started x) (n : Changed) (s : List ℕ)
+    (f : enters n s ≡ enterAt b p (p * bounce) x v memory scratch) where
+  at-stage : admitBy (n .outcome) b p x (enters n s) ≡ admitAt b p bounce v memory scratch plan
+  at-stage = ap (λ (z : Entered). admitBy (z .outcome) b p x z) f ∙ sym (ap (λ (q : Plan). admitAt b p bounce v memory scratch q) e)
 
--- a begin of the job j by its plan: by the definition's, which is the same
-module _ (d : Dock) (j : Job) (memory scratch : List ℕ) where
-  abbrev Lends : Begins → Begins
-  Lends k = onlyIf d scratch (lentOf (d .settings) (d .buffers) (length memory) (length scratch)) k
+  pub admit-refused : (r : Refusal) → n .outcome ≡ Refused r → (t : Admission) → t ≡ unplaced b (BeginRefused r) → admits t s ≡ admitAt b p bounce v memory scratch plan
+  admit-refused r q t te = ap (λ (z : Admission). admits z s) te ∙ sym (ap (λ (o : Outcome). admitBy o b p x (enters n s)) q) ∙ at-stage
 
-  abbrev Plans : IoVector → Plan → Begins
-  Plans v q = Lends (vectorThen d v memory scratch (begunBy d j v memory scratch q))
+  pub admit-placed : n .outcome ≡ Done → admits (record { answer = Placed p; blockers = n .blockers; state = x }) s ≡ admitAt b p bounce v memory scratch plan
+  admit-placed q = sym (ap (λ (o : Outcome). admitBy o b p x (enters n s)) q) ∙ at-stage
 
-  pub planned : (v : IoVector) (q p : Plan) → q ≡ p → (r : Begins) → r ≡ Plans v q → r ≡ Plans v p
-  planned v q p e r k = k ∙ ap (λ (x : Plan). Plans v x) e
+-- where the answer is a slot, it is the one that was free
+pub admitted-slot : (b : Blockers) (bounce : ℕ) (v : IoVector) (memory scratch : List ℕ) (l : Outcome) (t : Bool) (plan : Plan) (met : Bool) (f : ℕ) (q : Plan) → q ≡ decidedOf l t plan met f
+    → (a : Admission) (s : List ℕ) → admits a s ≡ admitAt b f bounce v memory scratch q → (p : ℕ) → a .answer ≡ Placed p → p < 8
+admitted-slot b bounce v memory scratch l t plan met f q e a s g p h = by q e (sym (ap (λ z. z .answer) g) ∙ h)
+  where
+    by : (q : Plan) → q ≡ decidedOf l t plan met f → admitAt b f bounce v memory scratch q .answer ≡ Placed p → p < 8
+    by NothingToDo e k = absurd (let z : _≡_ {A = ℕ} 0 1 = cc in omega arith)
+    by (PlanRefused r) e k = absurd (let z : _≡_ {A = ℕ} 0 1 = cc in omega arith)
+    by (Started x) e k = there (enterAt b f (f * bounce) x v memory scratch .outcome) k
+      where
+        there : (o : Outcome) → admitBy o b f x (enterAt b f (f * bounce) x v memory scratch) .answer ≡ Placed p → p < 8
+        there Done k = let w : f ≡ p = cc in omega (arith, started l t plan met f x (sym e) .2)
+        there (Refused r) k = absurd (let z : _≡_ {A = ℕ} 0 1 = cc in omega arith)
 
-  -- of zeroes and of a discard, whose vector is empty: 202 is never its answer
-  pub planned-empty : (v : IoVector) → v ≡ vectorOf [] → (q p : Plan) → q ≡ p → (r : Begins) → r ≡ Plans v q → r ≡ Lends (begunBy d j (vectorOf []) memory scratch p)
-  planned-empty v w q p e r k =
-      planned (vectorOf []) q p e r (k ∙ ap (λ (x : IoVector). Plans x q) w) ∙
-      ap Lends (sym (vector-done d (vectorOf []) memory scratch (begunBy d j (vectorOf []) memory scratch p) (empty-valid (length memory))))
+module _ (d : Dock) (q : Asked) (memory scratch : List ℕ) (v : IoVector) (ve : v ≡ movedOf (q .job) (q .vector)) (met : Bool) (me : met ≡ overlapsOf (d .states) (d .vectors) (q .job) v)
+    (l : Outcome) (le : l ≡ lentOf (d .settings) (d .buffers) (length memory) (length scratch)) (f : ℕ) (fe : f ≡ firstFree (d .states))
+    (plan : Plan) (pe : plan ≡ planOf (q .job) (d .settings) (d .buffers) (q .offset) (q .length) (q .vector)) (t : Bool) (te : t ≡ isValid (length memory) v)
+    (r : Plan) (re : r ≡ decidedOf l t plan met f) (a : Admission) (s : List ℕ) (ae : admits a s ≡ admitAt (d .blockers) f (d .settings .bounce) v memory scratch r) where
+  abbrev by : IoVector → Outcome → Bool → Plan → Bool → ℕ → Begins
+  by v l t plan met f = seated d v (admitAt (d .blockers) f (d .settings .bounce) v memory scratch (decidedOf l t plan met f))
 
-pub plan-sound : (n : ℕ) (plan : Plan) → ((x : State) → plan ≡ Started x → isSound n x ≡ true) → PlanSound n plan
-plan-sound n NothingToDo f = tt
-plan-sound n (Started x) f = f x refl
-plan-sound n (PlanRefused r) f = tt
+  whole : seated d v (admits a s) ≡ beginOf d q memory scratch
+  unfolding beginOf
+  whole =
+      ap (λ z. seated d v z) ae
+      ∙ ap (λ (z : Plan). seated d v (admitAt (d .blockers) f (d .settings .bounce) v memory scratch z)) re
+      ∙ ap (λ (z : Outcome). by v z t plan met f) le
+      ∙ ap (λ (z : Bool). by v (lentOf (d .settings) (d .buffers) (length memory) (length scratch)) z plan met f) te
+      ∙ ap (λ (z : Plan). by v (lentOf (d .settings) (d .buffers) (length memory) (length scratch)) (isValid (length memory) v) z met f) pe
+      ∙ ap (λ (z : Bool). by v (lentOf (d .settings) (d .buffers) (length memory) (length scratch)) (isValid (length memory) v) (planOf (q .job) (d .settings) (d .buffers) (q .offset) (q .length) (q .vector)) z f) me
+      ∙ ap (λ (z : ℕ). by v (lentOf (d .settings) (d .buffers) (length memory) (length scratch)) (isValid (length memory) v) (planOf (q .job) (d .settings) (d .buffers) (q .offset) (q .length) (q .vector)) (overlapsOf (d .states) (d .vectors) (q .job) v) z) fe
+      ∙ ap (λ (z : IoVector). by z (lentOf (d .settings) (d .buffers) (length memory) (length scratch)) (isValid (length memory) z) (planOf (q .job) (d .settings) (d .buffers) (q .offset) (q .length) (q .vector)) (overlapsOf (d .states) (d .vectors) (q .job) z) (firstFree (d .states))) ve
+      ∙ begin-seated d memory scratch (q .job) (q .offset) (q .length) (q .vector)
 
--- ---- tell
+  pub begin-placed : (p : ℕ) → a .answer ≡ Placed p → begins (record { answer = Placed p; dock = withJob d p (a .blockers) (a .state) v }) s ≡ beginOf d q memory scratch
+  begin-placed p e = sym (ap (λ (z : Begun). seatedBy z d v (admits a s)) e) ∙ whole
 
-module _ (d : Dock) (p code : ℕ) (memory scratch : List ℕ) where
-  abbrev Out : Bool
-  Out = isOutBy (d .blockers) (stateAt d p) p
+  pub begin-unplaced : ((p : ℕ) → a .answer ≢ Placed p) → begins (record { answer = a .answer; dock = d }) s ≡ beginOf d q memory scratch
+  begin-unplaced n = go (a .answer) refl ∙ whole
+    where
+      go : (z : Begun) → a .answer ≡ z → begins (record { answer = z; dock = d }) s ≡ seatedBy z d v (admits a s)
+      go NoRequest e = refl
+      go (BeginRefused r) e = refl
+      go (Placed p) e = absurd (n p e)
 
-  abbrev Kept : Bool
-  Kept = isKeptBy (stateAt d p) (d .settings) (d .buffers)
-
-  pub tell-none : Out ≡ false → (t : Telling) → t ≡ refusal d Slot → tells t memory scratch ≡ tellAt d p code memory scratch
-  unfolding tellAt
-  tell-none o t te = ap (λ z. tells z memory scratch) te ∙ simp o
-
-  pub tell-unkept : Out ≡ true → Kept ≡ false → (t : Telling) → t ≡ refusal d Slot → tells t memory scratch ≡ tellAt d p code memory scratch
-  unfolding tellAt
-  tell-unkept o k t te = ap (λ z. tells z memory scratch) te ∙ simp (o, k)
-
-  pub tell-no-answer : Out ≡ true → Kept ≡ true → 200 ≤ code → (t : Telling) → t ≡ refusal d NoAnswer → tells t memory scratch ≡ tellAt d p code memory scratch
-  unfolding tellAt
-  tell-no-answer o k h t te = ap (λ z. tells z memory scratch) te ∙ simp (o, k, le-ltb code 200 h)
-
-  pub tell-step : Out ≡ true → Kept ≡ true → code < 200 → (y : Step) → y ≡ toldOf (d .settings) (stateAt d p) code
-      → (r : Told) → r ≡ stepped d p (stateAt d p) code memory scratch y → r ≡ tellAt d p code memory scratch
-  unfolding tellAt
-  tell-step o k h y e r q = q ∙ ap (λ z. stepped d p (stateAt d p) code memory scratch z) e ∙ simp (o, k, lt-ltb code 200 h)
-
-  abbrev Lent : Bool
-  Lent = lentFits (d .buffers) (length memory) (length scratch)
-
-  pub tell-buffer : Lent ≡ false → (t : Telling) → t ≡ refusal d Buffer → tells t memory scratch ≡ tellOf d p code memory scratch
-  unfolding tellOf
-  tell-buffer l t te = ap (λ z. tells z memory scratch) te ∙ simp l
-
-  pub tell-slot : Lent ≡ true → 8 ≤ p → (t : Telling) → t ≡ refusal d Slot → tells t memory scratch ≡ tellOf d p code memory scratch
-  unfolding tellOf
-  tell-slot l h t te = ap (λ z. tells z memory scratch) te ∙ simp (l, le-ltb p 8 h)
-
-  pub tell-there : Lent ≡ true → p < 8 → (r : Told) → r ≡ tellAt d p code memory scratch → r ≡ tellOf d p code memory scratch
-  unfolding tellOf
-  tell-there l h r q = q ∙ simp (l, lt-ltb p 8 h)
+-- ---- a job that a call made
 
 -- what a kept job's scratch has room for
 pub kept-room : (x : State) (s : Settings) (b : Buffers) (m n : ℕ) → lentFits b m n ≡ true → isKeptBy x s b ≡ true → 8 * s .bounce ≤ n
@@ -278,9 +273,3 @@ kept-room x s b m n l k =
 pub kept-is-sound : (x : State) (s : Settings) (b : Buffers) → isKeptBy x s b ≡ true → isSound (s .bounce) x ≡ true
 unfolding isKeptBy
 kept-is-sound x s b k = and-left (isSound (s .bounce) x) (leb (8 * s .bounce) (b .scratch .length)) k
-
--- the stage that a step goes on in or enters is sound
-pub step-sound : (s : Settings) (x : State) (code : ℕ) (y : Step) → y ≡ toldOf s x code → isSound (s .bounce) x ≡ true → StepSound (s .bounce) y
-step-sound s x code (Stays y) e k = told-stays s x code y (sym e) .sound k
-step-sound s x code (Ends y) e k = tt
-step-sound s x code (Enters y) e k = told-enters s x code y (sym e) .sound

@@ -11,6 +11,8 @@ use Rattle.arithmetic.specs.declared.refusals.Refusal.the-variants.{Segment, Ov
 use Rattle.arithmetic.specs.declared.refusals.Outcome.{Outcome}
 use Rattle.arithmetic.specs.declared.refusals.Outcome.the-variants.{Done, Refused}
 use Rattle.arithmetic.specs.declared.offsets.StoreOffset.{StoreOffset}
+use Rattle.arithmetic.specs.declared.settings.Settings.{Settings}
+use Rattle.arithmetic.specs.declared.settings.Buffers.{Buffers}
 use Rattle.vectors.specs.Vectors.{put, bytesOf, segmentsOf, copies, isValid, vectorOf, alignmentOf}
 use Rattle.vectors.specs.declared.vector.IoVector.{IoVector}
 use Rattle.vectors.specs.declared.vector.Alignment.{Alignment}
@@ -20,7 +22,7 @@ use Rattle.blockers.specs.declared.Kind.{Kind}
 use Rattle.blockers.specs.declared.Kind.the-variants.{Weak, Strong}
 use Rattle.blockers.specs.declared.Blockers.{Blockers}
 use Rattle.blockers.specs.declared.Changed.{Changed}
-use Rattle.stages.specs.Stages.{sizeOf, isBlocking, usesBounce, isSound, readPlan, writePlan, zeroPlan, discardPlan}
+use Rattle.stages.specs.Stages.{sizeOf, isBlocking, usesBounce, zeroJob, readPlan, writePlan, zeroPlan, discardPlan}
 use Rattle.stages.specs.declared.state.Job.{Job}
 use Rattle.stages.specs.declared.state.Job.the-variants.{Read, Write, Zeroes, AllocatedZeroes, Discard}
 use Rattle.stages.specs.declared.state.Phase.{Phase}
@@ -30,6 +32,7 @@ use Rattle.stages.specs.declared.plan.Plan.{Plan}
 use Rattle.stages.specs.declared.plan.Plan.the-variants.{Done as NothingToDo, Started, Refused as PlanRefused}
 use Rattle.dock.specs.Dock.{lentOf, overlapsOf, firstFree, shareAt}
 use Rattle.dock.specs.declared.dock.Dock.{Dock}
+use Rattle.dock.specs.declared.begin.Asked.{Asked}
 use Rattle.dock.specs.declared.begin.Begun.{Begun}
 use Rattle.dock.specs.declared.begin.Beginning.{Beginning}
 use Rattle.dock.specs.declared.begin.Begun.the-variants.{Done as NoRequest, Placed, Refused as BeginRefused}
@@ -140,12 +143,6 @@ unfoldable pub placedAt : Dock → ℕ → State → IoVector → List ℕ → L
 placedAt d p x v memory scratch =
     onlyIf d scratch (thenDo (blockersWith (d .blockers) p x .outcome) (filled (shareAt d p) x v memory scratch .outcome)) (placed d p x v memory scratch)
 
--- a first stage lies in a bounce buffer of n bytes
-abbrev pub PlanSound : ℕ → Plan → Type 0
-PlanSound n NothingToDo = Unit {0}
-PlanSound n (PlanRefused r) = Unit {0}
-PlanSound n (Started x) = isSound n x ≡ true
-
 -- "203, 204", then "the lowest free place of 8"
 abbrev pub begunBy : Dock → Job → IoVector → List ℕ → List ℕ → Plan → Begins
 begunBy d j v memory scratch NothingToDo = record { dock = d; answer = NoRequest; scratch = scratch }
@@ -184,3 +181,45 @@ unfoldable pub beginDiscardOf : Dock → StoreOffset → ℕ → List ℕ → Li
 beginDiscardOf d o n memory scratch =
     onlyIf d scratch (lentOf (d .settings) (d .buffers) (length memory) (length scratch))
     (begunBy d Discard (vectorOf []) memory scratch (discardPlan (d .settings) o n))
+
+-- ---- what is asked of a begin
+
+abbrev pub readOf : StoreOffset → IoVector → Asked
+readOf o v = record { job = Read; offset = o; length = v .total; vector = v }
+
+abbrev pub writeOf : StoreOffset → IoVector → Asked
+writeOf o v = record { job = Write; offset = o; length = v .total; vector = v }
+
+-- "zero request [..], plain or allocating"
+abbrev pub zeroesOf : Bool → StoreOffset → ℕ → Asked
+zeroesOf allocate o n = record { job = zeroJob allocate; offset = o; length = n; vector = vectorOf [] }
+
+abbrev pub discardOf : StoreOffset → ℕ → Asked
+discardOf o n = record { job = Discard; offset = o; length = n; vector = vectorOf [] }
+
+-- the vector of a job: zeroes and discards have an empty one
+abbrev pub movedOf : Job → IoVector → IoVector
+movedOf Read v = v
+movedOf Write v = v
+movedOf Zeroes v = vectorOf []
+movedOf AllocatedZeroes v = vectorOf []
+movedOf Discard v = vectorOf []
+
+-- the first stage of a job
+abbrev pub planOf : Job → Settings → Buffers → StoreOffset → ℕ → IoVector → Plan
+planOf Read s b o n v = readPlan s o (v .total) (isAligned (alignmentOf (s .align) (b .«data») v))
+planOf Write s b o n v = writePlan s o (v .total) (isAligned (alignmentOf (s .align) (b .«data») v))
+planOf Zeroes s b o n v = zeroPlan s false o n
+planOf AllocatedZeroes s b o n v = zeroPlan s true o n
+planOf Discard s b o n v = discardPlan s o n
+
+-- begin, by the kind of the job
+abbrev pub beginBy : Job → Dock → StoreOffset → ℕ → IoVector → List ℕ → List ℕ → Begins
+beginBy Read d o n v memory scratch = beginReadOf d o v memory scratch
+beginBy Write d o n v memory scratch = beginWriteOf d o v memory scratch
+beginBy Zeroes d o n v memory scratch = beginZeroesOf d false o n memory scratch
+beginBy AllocatedZeroes d o n v memory scratch = beginZeroesOf d true o n memory scratch
+beginBy Discard d o n v memory scratch = beginDiscardOf d o n memory scratch
+
+unfoldable pub beginOf : Dock → Asked → List ℕ → List ℕ → Begins
+beginOf d q memory scratch = beginBy (q .job) d (q .offset) (q .length) (q .vector) memory scratch

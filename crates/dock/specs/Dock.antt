@@ -111,9 +111,13 @@ meetsOf x w j v = not (isFree (x .phase)) && (isReadJob j || isReadJob (x .job))
 unfoldable pub meetsAt : List State → List IoVector → Job → IoVector → ℕ → Bool
 meetsAt xs vs j v q = meetsOf (getD xs q noState) (getD vs q noVector) j v
 
+-- "pieces of one read overlap"
+abbrev pub meetsItself : Job → IoVector → Bool
+meetsItself j v = isReadJob j && selfOverlapOf (segmentsOf v)
+
 -- "pieces of one read overlap, or [..]"
 unfoldable pub overlapsOf : List State → List IoVector → Job → IoVector → Bool
-overlapsOf xs vs j v = (isReadJob j && selfOverlapOf (segmentsOf v)) || anyBelow 8 (meetsAt xs vs j v)
+overlapsOf xs vs j v = meetsItself j v || anyBelow 8 (meetsAt xs vs j v)
 
 -- ---- places
 

@@ -1,7 +1,9 @@
--- What the contracts of dock cite, in document 01's order; then the numbers of its answers, and a law on its refusals.
+-- What the contracts of dock cite, in document 01's order; the same for one slot; then the numbers of its answers, and a law on its refusals.
 pub mod Dock
 pub mod Begin
 pub mod Next
 pub mod Tell
+pub mod Slots
+pub mod SlotLaws
 pub mod Numbers
 pub mod RefusalLaws

@@ -11,11 +11,12 @@ use Rattle.arithmetic.specs.declared.settings.Buffers.{Buffers}
 use Rattle.vectors.specs.Vectors.{isValid, segment, none}
 use Rattle.vectors.specs.declared.vector.IoVector.{IoVector}
 use Rattle.blockers.specs.Blockers.{waitsOf}
+use Rattle.blockers.specs.declared.Blockers.{Blockers}
 use Rattle.stages.specs.Stages.{sizeOf, isFree, hasEnded, isSound, requestOf, secondAt}
 use Rattle.stages.specs.declared.state.Phase.{Phase}
 use Rattle.stages.specs.declared.state.Phase.the-variants.{Free, Ended, DirectRead, BouncedRead, FirstRead, SecondRead, BouncedWrite, DirectWrite, ZeroRequest, DiscardRequest}
 use Rattle.stages.specs.declared.state.State.{State}
-use Rattle.dock.specs.Dock.{stateAt, vectorAt, lentFits, isOut, shareAt}
+use Rattle.dock.specs.Dock.{stateAt, vectorAt, lentFits, isOutBy, isOut, shareAt}
 use Rattle.dock.specs.declared.dock.Dock.{Dock}
 use Rattle.dock.specs.declared.next.Due.{Due}
 use Rattle.dock.specs.declared.next.Due.the-variants.{Waiting, Make, Answer, Refused as NotDue}
@@ -64,6 +65,10 @@ pieceBy BouncedWrite share i m x v = inScratch i share (sizeOf (x .stage .reques
 pieceBy DirectWrite share i m x v = inData i m v
 pieceBy ZeroRequest share i m x v = NoPiece Slot
 pieceBy DiscardRequest share i m x v = NoPiece Slot
+
+-- the piece of the job x with the vector v in slot p
+unfoldable pub pieceAt : Blockers → ℕ → Settings → Buffers → State → IoVector → ℕ → ℕ → Piece
+pieceAt b p s lent x v i m = pick (isOutBy b x p && isKeptBy x s lent) (pieceBy (x .phase) (p * s .bounce) i m x v) (NoPiece Slot)
 
 -- "a request's piece [..]: 205, 208"; "208: [..] a piece number that the request lacks"
 unfoldable pub pieceOf : Dock → ℕ → ℕ → ℕ → ℕ → Piece

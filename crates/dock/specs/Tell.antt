@@ -1,5 +1,4 @@
 -- Document 01, "Events": tell and collect.
-use mathlib.Core.Path.{_≡_}
 use mathlib.Core.Bool.{Bool, true, false, _&&_}
 use mathlib.Core.List.{List, []}
 use Prim.Native.Nat.{ℕ, _+_}
@@ -15,7 +14,7 @@ use Rattle.vectors.specs.declared.vector.IoVector.{IoVector}
 use Rattle.blockers.specs.Blockers.{leftOf}
 use Rattle.blockers.specs.declared.Blockers.{Blockers}
 use Rattle.blockers.specs.declared.Changed.{Changed}
-use Rattle.stages.specs.Stages.{sizeOf, hasEnded, isBlocking, isSound, toldOf}
+use Rattle.stages.specs.Stages.{sizeOf, hasEnded, isBlocking, toldOf}
 use Rattle.stages.specs.declared.state.Phase.{Phase}
 use Rattle.stages.specs.declared.state.Phase.the-variants.{Free, Ended, DirectRead, BouncedRead, FirstRead, SecondRead, BouncedWrite, DirectWrite, ZeroRequest, DiscardRequest}
 use Rattle.stages.specs.declared.state.State.{State}
@@ -40,9 +39,6 @@ pub record Told : Type 0 where
 -- the answer of a call, and the data and the scratch as it leaves them
 abbrev pub tells : Telling → List ℕ → List ℕ → Told
 tells r m s = record { dock = r .dock; outcome = r .outcome; memory = m; scratch = s }
-
-abbrev pub refusal : Dock → Refusal → Telling
-refusal d r = record { dock = d; outcome = Refused r }
 
 -- the dock with the job y in slot p and the blockers b; its vector stays
 abbrev pub accepted : Dock → ℕ → Blockers → State → Telling
@@ -136,12 +132,6 @@ abbrev pub after : Dock → ℕ → State → ℕ → List ℕ → List ℕ → 
 after d p x code memory scratch (Stays y) = stayed d p y memory scratch
 after d p x code memory scratch (Ends y) = ended d p x code y memory scratch
 after d p x code memory scratch (Enters y) = entered d p x y memory scratch
-
--- the stage that a step goes on in or enters lies in a bounce buffer of n bytes
-abbrev pub StepSound : ℕ → Step → Type 0
-StepSound n (Stays y) = isSound n y ≡ true
-StepSound n (Ends y) = Unit {0}
-StepSound n (Enters y) = isSound n y ≡ true
 
 -- "Tell: [..] 208, 209"; "told 200 to 255" is no answer
 unfoldable pub tellAt : Dock → ℕ → ℕ → List ℕ → List ℕ → Told

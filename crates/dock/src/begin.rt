@@ -1,21 +1,26 @@
-// Begin of a read, a write, zeroes, a discard.
+// Begin: of a read, a write, zeroes or a discard.
 use crate::bytes::fill;
 use crate::dock::Dock;
 use crate::dock::SLOTS;
 use crate::dock::first_free;
 use crate::dock::lent;
-use crate::dock::overlaps;
+use crate::dock::meets;
+use crate::dock::meets_itself;
+use crate::open::vacant;
 use arithmetic::offsets::StoreOffset;
 use arithmetic::refusals::Outcome;
 use arithmetic::refusals::Refusal;
 use arithmetic::settings::Alignments;
+use arithmetic::settings::Buffers;
 use arithmetic::settings::Lent;
+use arithmetic::settings::Settings;
 use blockers::Blockers;
 use blockers::Changed;
 use stages::plan::Plan;
 use stages::plan::discard_plan;
 use stages::plan::read_plan;
 use stages::plan::write_plan;
+use stages::plan::zero_job;
 use stages::plan::zero_plan;
 use stages::state::Job;
 use stages::state::State;
@@ -23,13 +28,19 @@ use stages::state::is_blocking;
 use vectors::vector::Alignment;
 use vectors::vector::IoVector;
 ghost use mathlib.Core.Path.{_≡_};
-ghost use mathlib.Core.Bool.{true};
-ghost use Prim.Native.Nat.{_*_, _<_, _≤_};
 ghost use lib.ListN.{length};
-ghost use Rattle.stages.specs.Stages.{isSound};
-ghost use Rattle.dock.specs.Dock.{lentOf};
-ghost use Rattle.dock.specs.Begin.{PlanSound, begins, blockersWith, isAligned, placedAt, onlyIf, vectorThen, begunBy, beginReadOf, beginWriteOf, beginZeroesOf, beginDiscardOf};
+ghost use Rattle.dock.specs.Begin.{InShare, begins, blockersWith, isAligned, readOf, writeOf, zeroesOf, discardOf, movedOf, planOf, beginOf};
+ghost use Rattle.dock.specs.Slots.{enters, enterAt, decidedOf, PlanInShare, unplaced, admits, admitAt};
 ghost use Rattle.vectors.specs.Vectors.{alignmentOf};
+
+// What is asked of a begin: the job, and where on the store. A read and a write have the length of their vector, the others
+// `length` and no vector; what is not the job's is not looked at.
+pub struct Asked {
+    pub job: Job,
+    pub offset: StoreOffset,
+    pub length: u64,
+    pub vector: IoVector,
+}
 
 // What a begin answers.
 pub enum Begun {
@@ -39,12 +50,132 @@ pub enum Begun {
 }
 
 pub struct Beginning {
-    pub dock: Dock,
     pub answer: Begun,
+    pub dock: Dock,
+}
+
+// What a begin leaves of the slot it takes, to be stored where its answer is placed.
+pub struct Admission {
+    pub answer: Begun,
+    pub blockers: Blockers,
+    pub state: State,
+}
+
+impl Asked {
+    // A read of the vector's length at `offset` into the data.
+    pub fn read(offset: StoreOffset, vector: IoVector) -> Asked
+        ensures { λ q. ⌜ q ≡ readOf offset vector ⌝ }
+    {
+        Asked {
+            job: Job::Read,
+            offset,
+            length: vector.total,
+            vector,
+        }
+    }
+
+    // A write of the vector's bytes at `offset`.
+    pub fn write(offset: StoreOffset, vector: IoVector) -> Asked
+        ensures { λ q. ⌜ q ≡ writeOf offset vector ⌝ }
+    {
+        Asked {
+            job: Job::Write,
+            offset,
+            length: vector.total,
+            vector,
+        }
+    }
+
+    // Zeroes over n bytes at `offset`, plain or allocating.
+    pub fn zeroes(allocate: bool, offset: StoreOffset, n: u64) -> Asked
+        ensures { λ q. ⌜ q ≡ zeroesOf allocate offset n ⌝ }
+    {
+        Asked {
+            job: zero_job(allocate),
+            offset,
+            length: n,
+            vector: IoVector::new(),
+        }
+    }
+
+    // A discard of n bytes at `offset`.
+    pub fn discard(offset: StoreOffset, n: u64) -> Asked
+        ensures { λ q. ⌜ q ≡ discardOf offset n ⌝ }
+    {
+        Asked {
+            job: Job::Discard,
+            offset,
+            length: n,
+            vector: IoVector::new(),
+        }
+    }
+}
+
+// The vector of a job: zeroes and discards have an empty one.
+fn moved(job: Job, vector: IoVector) -> IoVector
+    ensures { λ v. ⌜ v ≡ movedOf job vector ⌝ }
+{
+    match job {
+        Job::Read => vector,
+        Job::Write => vector,
+        Job::Zeroes => IoVector::new(),
+        Job::AllocatedZeroes => IoVector::new(),
+        Job::Discard => IoVector::new(),
+    }
+}
+
+// Whether the vector is aligned for direct requests.
+fn is_aligned(v: IoVector, align: Alignments, data: Lent) -> bool
+    ensures { λ t. ⌜ t ≡ isAligned (alignmentOf align «data» v) ⌝ }
+{
+    match v.is_aligned(align, data) {
+        Alignment::Aligned => true,
+        Alignment::Unaligned => false,
+        Alignment::Refused(_) => false,
+    }
+}
+
+// The first stage of what is asked: 207 and 206, or no request to make.
+fn planned(asked: Asked, settings: Settings, buffers: Buffers) -> Plan
+    ensures { λ p. ⌜ p ≡ planOf (asked .job) settings buffers (asked .offset) (asked .length) (asked .vector) ⌝ }
+{
+    let job = asked.job;
+    let offset = asked.offset;
+    let v = asked.vector;
+    let aligned = is_aligned(v, settings.align, buffers.data);
+    match job {
+        Job::Read => read_plan(settings, offset, v.total, aligned),
+        Job::Write => write_plan(settings, offset, v.total, aligned),
+        Job::Zeroes => zero_plan(settings, false, offset, asked.length),
+        Job::AllocatedZeroes => zero_plan(settings, true, offset, asked.length),
+        Job::Discard => discard_plan(settings, offset, asked.length),
+    }
+}
+
+// The plan, where nothing refuses it: 201 and 205 by what is lent, 202, the plan's own, 203, 204.
+fn decided(lent: Outcome, valid: bool, plan: Plan, met: bool, free: usize) -> Plan
+    ensures { λ p. ⌜ p ≡ decidedOf lent valid plan met free ⌝ }
+{
+    if let Outcome::Refused(r) = lent {
+        return Plan::Refused(r);
+    }
+    if !valid {
+        return Plan::Refused(Refusal::Segment);
+    }
+    let Plan::Started(x) = plan else {
+        return plan;
+    };
+    if met {
+        return Plan::Refused(Refusal::Overlap);
+    }
+    if SLOTS <= free {
+        return Plan::Refused(Refusal::Full);
+    }
+    Plan::Started(x)
 }
 
 // The blockers once the stage of the job in `slot` has entered: strong for a padded write, none for a read.
-pub fn with_blocker(b: Blockers, slot: usize, x: State) -> Changed
+fn with_blocker(b: Blockers, slot: usize, x: State) -> Changed
     ensures { λ c. ⌜ c ≡ blockersWith b slot x ⌝ }
 {
     let phase = x.phase;
@@ -62,191 +193,102 @@ pub fn with_blocker(b: Blockers, slot: usize, x: State) -> Changed
     b.weak_write_blocker(slot, range)
 }
 
-// Whether the vector is aligned for direct requests.
-fn is_aligned(v: IoVector, align: Alignments, data: Lent) -> bool
-    ensures { λ t. ⌜ t ≡ isAligned (alignmentOf align «data» v) ⌝ }
+// The job x comes to its stage in `slot`: its blocker enters, its bytes are filled where it reads nothing first.
+pub(crate) fn enter(
+    b: Blockers,
+    slot: usize,
+    share: usize,
+    x: State,
+    v: IoVector,
+    data: &[u8],
+    scratch: &mut [u8],
+) -> Changed
+    requires { ⌜ InShare share x (length (now scratch)) ⌝ }
+    ensures { λ r. ⌜ enters r (now (scratch .exit)) ≡ enterAt b slot share x v (now («data» .entry)) (now (scratch .entry)) ⌝ }
 {
-    match v.is_aligned(align, data) {
-        Alignment::Aligned => true,
-        Alignment::Unaligned => false,
-        Alignment::Refused(_) => false,
+    let entered = with_blocker(b, slot, x);
+    let there = entered.outcome;
+    let Outcome::Done = there else {
+        return entered;
+    };
+    let outcome = fill(share, x, v, data, scratch);
+    let blockers = entered.blockers;
+    Changed { blockers, outcome }
+}
+
+fn unplaced(b: Blockers, answer: Begun) -> Admission
+    ensures { λ a. ⌜ a ≡ unplaced b answer ⌝ }
+{
+    Admission {
+        answer,
+        blockers: b,
+        state: vacant(),
+    }
+}
+
+// A decided job comes to its slot.
+fn admit(
+    b: Blockers,
+    slot: usize,
+    bounce: u64,
+    plan: Plan,
+    v: IoVector,
+    data: &[u8],
+    scratch: &mut [u8],
+) -> Admission
+    requires { ⌜ PlanInShare slot bounce (length (now scratch)) plan ⌝ }
+    ensures { λ r. ⌜ admits r (now (scratch .exit)) ≡ admitAt b slot bounce v (now («data» .entry)) (now (scratch .entry)) plan ⌝ }
+{
+    let x = match plan {
+        Plan::Done => return unplaced(b, Begun::Done),
+        Plan::Refused(r) => return unplaced(b, Begun::Refused(r)),
+        Plan::Started(x) => x,
+    };
+    let share = slot * bounce as usize;
+    let entered = enter(b, slot, share, x, v, data, scratch);
+    let there = entered.outcome;
+    if let Outcome::Refused(r) = there {
+        return unplaced(b, Begun::Refused(r));
+    }
+    let blockers = entered.blockers;
+    Admission {
+        answer: Begun::Placed(slot),
+        blockers,
+        state: x,
     }
 }
 
 impl Dock {
-    // The job x with its vector comes to `slot`: its blocker enters, its bytes are filled where it reads nothing first.
-    fn place(
-        mut self,
-        slot: usize,
-        x: State,
-        vector: IoVector,
-        data: &[u8],
-        scratch: &mut [u8],
-    ) -> Beginning
-        requires { ⌜ (slot < 8) × (isSound (self .settings .bounce) x ≡ true) × (8 * self .settings .bounce ≤ length (now scratch)) ⌝ }
-        ensures { λ r. ⌜ begins r (now (scratch .exit)) ≡ placedAt self slot x vector (now («data» .entry)) (now (scratch .entry)) ⌝ }
+    // Begin what is asked, in the lowest free slot.
+    pub fn begin(mut self, asked: Asked, data: &[u8], scratch: &mut [u8]) -> Beginning
+        ensures { λ r. ⌜ begins r (now (scratch .exit)) ≡ beginOf self asked (now («data» .entry)) (now (scratch .entry)) ⌝ }
     {
         let settings = self.settings;
-        let changed = with_blocker(self.blockers, slot, x);
-        let entered = changed.outcome;
-        if let Outcome::Refused(r) = entered {
-            return Beginning {
-                dock: self,
-                answer: Begun::Refused(r),
-            };
+        let buffers = self.buffers;
+        let job = asked.job;
+        let v = moved(job, asked.vector);
+        let mut met = meets_itself(job, v);
+        let mut i = 0;
+        while i < SLOTS {
+            let x = self.states[i];
+            let w = self.vectors[i];
+            met = met | meets(x, w, job, v);
+            i += 1;
         }
-        let share = slot * settings.bounce as usize;
-        let filled = fill(share, x, vector, data, scratch);
-        let Outcome::Done = filled else {
-            return Beginning {
-                dock: self,
-                answer: Begun::Refused(Refusal::Segment),
-            };
+        let lent = lent(settings, buffers, data.len(), scratch.len());
+        let free = first_free(self.states);
+        let plan = planned(asked, settings, buffers);
+        let plan = decided(lent, v.valid(data.len()), plan, met, free);
+        let admission = admit(self.blockers, free, settings.bounce, plan, v, data, scratch);
+        let answer = admission.answer;
+        let Begun::Placed(slot) = answer else {
+            return Beginning { answer, dock: self };
         };
-        let blockers = changed.blockers;
+        let blockers = admission.blockers;
+        let state = admission.state;
         self.blockers = blockers;
-        self.states[slot] = x;
-        self.vectors[slot] = vector;
-        Beginning {
-            dock: self,
-            answer: Begun::Placed(slot),
-        }
-    }
-
-    // A planned job: 203, then 204, then the lowest free slot.
-    fn begun(
-        self,
-        job: Job,
-        plan: Plan,
-        vector: IoVector,
-        data: &[u8],
-        scratch: &mut [u8],
-    ) -> Beginning
-        requires { ⌜ PlanSound (self .settings .bounce) plan × (8 * self .settings .bounce ≤ length (now scratch)) ⌝ }
-        ensures { λ r. ⌜ begins r (now (scratch .exit)) ≡ begunBy self job vector (now («data» .entry)) (now (scratch .entry)) plan ⌝ }
-    {
-        let x = match plan {
-            Plan::Done => {
-                return Beginning {
-                    dock: self,
-                    answer: Begun::Done,
-                };
-            }
-            Plan::Refused(r) => {
-                return Beginning {
-                    dock: self,
-                    answer: Begun::Refused(r),
-                };
-            }
-            Plan::Started(x) => x,
-        };
-        let states = self.states;
-        let vectors = self.vectors;
-        if overlaps(states, vectors, job, vector) {
-            return Beginning {
-                dock: self,
-                answer: Begun::Refused(Refusal::Overlap),
-            };
-        }
-        let slot = first_free(states);
-        if SLOTS <= slot {
-            return Beginning {
-                dock: self,
-                answer: Begun::Refused(Refusal::Full),
-            };
-        }
-        self.place(slot, x, vector, data, scratch)
-    }
-
-    // A planned job: what it is lent (201, 205), its vector (202), then 203, 204 and its slot.
-    fn begin_planned(
-        self,
-        job: Job,
-        plan: Plan,
-        vector: IoVector,
-        data: &[u8],
-        scratch: &mut [u8],
-    ) -> Beginning
-        requires { ⌜ PlanSound (self .settings .bounce) plan ⌝ }
-        ensures { λ r. ⌜ begins r (now (scratch .exit)) ≡ onlyIf self (now (scratch .entry)) (lentOf (self .settings) (self .buffers) (length (now («data» .entry))) (length (now (scratch .entry)))) (vectorThen self vector (now («data» .entry)) (now (scratch .entry)) (begunBy self job vector (now («data» .entry)) (now (scratch .entry)) plan)) ⌝ }
-    {
-        let settings = self.settings;
-        let buffers = self.buffers;
-        if let Outcome::Refused(r) = lent(settings, buffers, data.len(), scratch.len()) {
-            return Beginning {
-                dock: self,
-                answer: Begun::Refused(r),
-            };
-        }
-        if !vector.valid(data.len()) {
-            return Beginning {
-                dock: self,
-                answer: Begun::Refused(Refusal::Segment),
-            };
-        }
-        self.begun(job, plan, vector, data, scratch)
-    }
-
-    // Begin a read of the vector's length at `offset` into the data.
-    pub fn begin_read(
-        self,
-        offset: StoreOffset,
-        vector: IoVector,
-        data: &[u8],
-        scratch: &mut [u8],
-    ) -> Beginning
-        ensures { λ r. ⌜ begins r (now (scratch .exit)) ≡ beginReadOf self offset vector (now («data» .entry)) (now (scratch .entry)) ⌝ }
-    {
-        let settings = self.settings;
-        let buffers = self.buffers;
-        let aligned = is_aligned(vector, settings.align, buffers.data);
-        let plan = read_plan(settings, offset, vector.total, aligned);
-        self.begin_planned(Job::Read, plan, vector, data, scratch)
-    }
-
-    // Begin a write of the vector's bytes at `offset`.
-    pub fn begin_write(
-        self,
-        offset: StoreOffset,
-        vector: IoVector,
-        data: &[u8],
-        scratch: &mut [u8],
-    ) -> Beginning
-        ensures { λ r. ⌜ begins r (now (scratch .exit)) ≡ beginWriteOf self offset vector (now («data» .entry)) (now (scratch .entry)) ⌝ }
-    {
-        let settings = self.settings;
-        let buffers = self.buffers;
-        let aligned = is_aligned(vector, settings.align, buffers.data);
-        let plan = write_plan(settings, offset, vector.total, aligned);
-        self.begin_planned(Job::Write, plan, vector, data, scratch)
-    }
-
-    // Begin zeroes over n bytes at `offset`, plain or allocating.
-    pub fn begin_zeroes(
-        self,
-        allocate: bool,
-        offset: StoreOffset,
-        n: u64,
-        data: &[u8],
-        scratch: &mut [u8],
-    ) -> Beginning
-        ensures { λ r. ⌜ begins r (now (scratch .exit)) ≡ beginZeroesOf self allocate offset n (now («data» .entry)) (now (scratch .entry)) ⌝ }
-    {
-        let plan = zero_plan(self.settings, allocate, offset, n);
-        self.begin_planned(Job::Zeroes, plan, IoVector::new(), data, scratch)
-    }
-
-    // Begin a discard of n bytes at `offset`.
-    pub fn begin_discard(
-        self,
-        offset: StoreOffset,
-        n: u64,
-        data: &[u8],
-        scratch: &mut [u8],
-    ) -> Beginning
-        ensures { λ r. ⌜ begins r (now (scratch .exit)) ≡ beginDiscardOf self offset n (now («data» .entry)) (now (scratch .entry)) ⌝ }
-    {
-        let plan = discard_plan(self.settings, offset, n);
-        self.begin_planned(Job::Discard, plan, IoVector::new(), data, scratch)
+        self.states[slot] = state;
+        self.vectors[slot] = v;
+        Beginning { answer, dock: self }
     }
 }

@@ -10,8 +10,7 @@ use stages::state::State;
 use stages::state::is_free;
 use vectors::vector::IoVector;
 ghost use mathlib.Core.Path.{_≡_};
-ghost use Rattle.arithmetic.specs.Loops.{anyBelow};
-ghost use Rattle.dock.specs.Dock.{lentFits, lentOf, isReadJob, meetsOf, meetsAt, overlapsOf, firstFree};
+ghost use Rattle.dock.specs.Dock.{lentFits, lentOf, isReadJob, meetsOf, meetsItself, firstFree};
 
 pub struct Dock {
     pub settings: Settings,
@@ -60,7 +59,7 @@ pub fn is_read_job(j: Job) -> bool
 }
 
 // Whether a job's vector meets that of another job, of which one reads.
-fn meets(x: State, w: IoVector, j: Job, v: IoVector) -> bool
+pub fn meets(x: State, w: IoVector, j: Job, v: IoVector) -> bool
     ensures { λ t. ⌜ t ≡ meetsOf x w j v ⌝ }
 {
     let phase = x.phase;
@@ -75,29 +74,12 @@ fn meets(x: State, w: IoVector, j: Job, v: IoVector) -> bool
     v.overlaps(w)
 }
 
-// Whether a vector meets those of jobs in flight, where one of the two reads, or itself, where it is read into: refusal 203.
-pub fn overlaps(states: [State; 8], vectors: [IoVector; 8], j: Job, v: IoVector) -> bool
-    ensures { λ t. ⌜ t ≡ overlapsOf states vectors j v ⌝ }
+// Whether a vector that is read into meets itself.
+pub fn meets_itself(j: Job, v: IoVector) -> bool
+    ensures { λ t. ⌜ t ≡ meetsItself j v ⌝ }
 {
     if is_read_job(j) {
-        if v.overlaps_itself() {
-            return true;
-        }
-    }
-    in_flight(states, vectors, j, v)
-}
-
-fn in_flight(states: [State; 8], vectors: [IoVector; 8], j: Job, v: IoVector) -> bool
-    ensures { λ t. ⌜ t ≡ anyBelow 8 (meetsAt states vectors j v) ⌝ }
-{
-    let mut i = 0;
-    while i < SLOTS {
-        let x = states[i];
-        let w = vectors[i];
-        if meets(x, w, j, v) {
-            return true;
-        }
-        i += 1;
+        return v.overlaps_itself();
     }
     false
 }

@@ -22,7 +22,7 @@ ghost use Prim.Native.Nat.{_+_, _<_, _^_};
 ghost use lib.ListN.{length};
 ghost use Rattle.stages.specs.Stages.{secondAt, isSound};
 ghost use Rattle.dock.specs.Dock.{isOutBy};
-ghost use Rattle.dock.specs.Next.{nextOf, isKeptBy, inScratch, inData, pieceBy, pieceOf, partOf, bytesAt, pieceBytes};
+ghost use Rattle.dock.specs.Next.{nextOf, isKeptBy, inScratch, inData, pieceBy, pieceAt, pieceOf, partOf, bytesAt, pieceBytes};
 
 // What next tells.
 pub enum Due {
@@ -153,6 +153,30 @@ fn piece_of(x: State, v: IoVector, share: u64, bounce: u64, i: usize, data_len: 
     }
 }
 
+// Piece i of the request of the job x in `slot`, where it is out and the job one that a call made.
+fn piece_at(
+    b: Blockers,
+    slot: usize,
+    settings: Settings,
+    buffers: Buffers,
+    x: State,
+    v: IoVector,
+    i: usize,
+    data_len: usize,
+) -> Piece
+    requires { ⌜ slot < 8 ⌝ }
+    ensures { λ r. ⌜ r ≡ pieceAt b slot settings buffers x v i data_len ⌝ }
+{
+    if !is_out(b, x, slot) {
+        return Piece::Refused(Refusal::Slot);
+    }
+    if !is_kept(x, settings, buffers) {
+        return Piece::Refused(Refusal::Slot);
+    }
+    let share = slot as u64 * settings.bounce;
+    piece_of(x, v, share, settings.bounce, i, data_len)
+}
+
 // The n bytes of s from `start` on; none where they go past its end.
 fn part<'a>(s: &'a [u8], start: usize, n: usize) -> &'a [u8]
     ensures { λ r. ⌜ now r ≡ partOf (now (s .entry)) start n ⌝ }
@@ -216,21 +240,24 @@ impl Dock {
         }
         let x = self.states[slot];
         let v = self.vectors[slot];
-        if !is_out(self.blockers, x, slot) {
-            return Piece::Refused(Refusal::Slot);
-        }
-        if !is_kept(x, settings, buffers) {
-            return Piece::Refused(Refusal::Slot);
-        }
-        let share = slot as u64 * settings.bounce;
-        piece_of(x, v, share, settings.bounce, i, data_len)
+        piece_at(self.blockers, slot, settings, buffers, x, v, i, data_len)
     }
 
     // Piece i of the request that is out in `slot`, for the store to write; empty where `piece_place` refuses.
     pub fn piece<'a>(self, slot: usize, i: usize, data: &'a [u8], scratch: &'a [u8]) -> &'a [u8]
         ensures { λ r. ⌜ now r ≡ pieceBytes self slot i (now («data» .entry)) (now (scratch .entry)) ⌝ }
     {
-        let place = self.piece_place(slot, i, data.len(), scratch.len());
+        let settings = self.settings;
+        let buffers = self.buffers;
+        if !lent_fits(buffers, data.len(), scratch.len()) {
+            return part(data, 0, 0);
+        }
+        if SLOTS <= slot {
+            return part(data, 0, 0);
+        }
+        let x = self.states[slot];
+        let v = self.vectors[slot];
+        let place = piece_at(self.blockers, slot, settings, buffers, x, v, i, data.len());
         part_at(place, data, scratch)
     }
 
@@ -244,7 +271,17 @@ impl Dock {
     ) -> &'a mut [u8]
         ensures { λ r. ⌜ now r ≡ pieceBytes self slot i (now («data» .entry)) (now (scratch .entry)) ⌝ }
     {
-        let place = self.piece_place(slot, i, data.len(), scratch.len());
+        let settings = self.settings;
+        let buffers = self.buffers;
+        if !lent_fits(buffers, data.len(), scratch.len()) {
+            return part_mut(data, 0, 0);
+        }
+        if SLOTS <= slot {
+            return part_mut(data, 0, 0);
+        }
+        let x = self.states[slot];
+        let v = self.vectors[slot];
+        let place = piece_at(self.blockers, slot, settings, buffers, x, v, i, data.len());
         part_mut_at(place, data, scratch)
     }
 }

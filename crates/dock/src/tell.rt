@@ -1,5 +1,5 @@
 // Tell and collect.
-use crate::begin::with_blocker;
+use crate::begin::enter;
 use crate::bytes::fill;
 use crate::bytes::hand_out;
 use crate::dock::Dock;
@@ -10,6 +10,8 @@ use crate::next::is_out;
 use crate::open::vacant;
 use arithmetic::refusals::Outcome;
 use arithmetic::refusals::Refusal;
+use arithmetic::settings::Buffers;
+use arithmetic::settings::Settings;
 use blockers::Blockers;
 use blockers::Changed;
 use stages::state::State;
@@ -19,15 +21,29 @@ use stages::told::Step;
 use vectors::vector::IoVector;
 ghost use mathlib.Core.Path.{_≡_};
 ghost use mathlib.Core.Bool.{true};
-ghost use Prim.Native.Nat.{_*_, _<_, _≤_};
+ghost use Prim.Native.Nat.{_<_};
 ghost use lib.ListN.{length};
-ghost use Rattle.stages.specs.Stages.{isSound};
-ghost use Rattle.dock.specs.Tell.{tells, blockersWithout, refusal, accepted, staysOf, endsOf, entersOf, StepSound, stepped, tellAt, tellOf, collectOf};
+ghost use Rattle.dock.specs.Begin.{InShare};
+ghost use Rattle.dock.specs.Tell.{tells, blockersWithout, tellOf, collectOf};
+ghost use Rattle.dock.specs.Slots.{steps, StepInShare, unstepped, staysAt, endsAt, entersAt, steppedAt, answeredOf, toldAt};
 ghost use Rattle.dock.specs.Dock.{lentFits};
 
 pub struct Telling {
-    pub dock: Dock,
     pub outcome: Outcome,
+    pub dock: Dock,
+}
+
+// What a tell leaves of one slot, to be stored where its outcome is done.
+pub struct Stepping {
+    pub outcome: Outcome,
+    pub blockers: Blockers,
+    pub state: State,
+}
+
+// What a code leads to: a step of the job, or a refusal.
+pub enum Answered {
+    Leads(Step),
+    Refused(Refusal),
 }
 
 pub enum Collected {
@@ -36,8 +52,8 @@ pub enum Collected {
 }
 
 pub struct Collects {
-    pub dock: Dock,
     pub answer: Collected,
+    pub dock: Dock,
 }
 
 // The blockers once the stage of the job in `slot` has left.
@@ -54,154 +70,197 @@ fn without_blocker(b: Blockers, slot: usize, x: State) -> Changed
     b.leave(slot)
 }
 
-fn refused(dock: Dock, r: Refusal) -> Telling
-    ensures { λ t. ⌜ t ≡ refusal dock r ⌝ }
+fn unstepped(b: Blockers, x: State, r: Refusal) -> Stepping
+    ensures { λ t. ⌜ t ≡ unstepped b x r ⌝ }
 {
-    Telling {
-        dock,
+    Stepping {
         outcome: Outcome::Refused(r),
+        blockers: b,
+        state: x,
+    }
+}
+
+// The job goes on in its stage: once its reads are done, its vector is copied in.
+fn stays(
+    b: Blockers,
+    share: usize,
+    y: State,
+    v: IoVector,
+    data: &[u8],
+    scratch: &mut [u8],
+) -> Stepping
+    requires { ⌜ InShare share y (length (now scratch)) ⌝ }
+    ensures { λ r. ⌜ steps r (now («data» .entry)) (now (scratch .exit)) ≡ staysAt b share y v (now («data» .entry)) (now (scratch .entry)) ⌝ }
+{
+    let outcome = fill(share, y, v, data, scratch);
+    Stepping {
+        outcome,
+        blockers: b,
+        state: y,
+    }
+}
+
+// The job x ends as y: its blocker leaves, and a padded read's bytes are copied out.
+fn ends(
+    b: Blockers,
+    slot: usize,
+    share: usize,
+    x: State,
+    code: u8,
+    y: State,
+    v: IoVector,
+    data: &mut [u8],
+    scratch: &[u8],
+) -> Stepping
+    requires { ⌜ InShare share x (length (now scratch)) ⌝ }
+    ensures { λ r. ⌜ steps r (now («data» .exit)) (now (scratch .entry)) ≡ endsAt b slot share x code y v (now («data» .entry)) (now (scratch .entry)) ⌝ }
+{
+    let left = without_blocker(b, slot, x);
+    let gone = left.outcome;
+    if let Outcome::Refused(r) = gone {
+        return unstepped(b, x, r);
+    }
+    let outcome = hand_out(share, x, code, v, data, scratch);
+    let blockers = left.blockers;
+    Stepping {
+        outcome,
+        blockers,
+        state: y,
+    }
+}
+
+// The job x enters its next stage as y: its blocker leaves first, then the next one enters and notes all that are entered then.
+fn enters(
+    b: Blockers,
+    slot: usize,
+    share: usize,
+    x: State,
+    y: State,
+    v: IoVector,
+    data: &[u8],
+    scratch: &mut [u8],
+) -> Stepping
+    requires { ⌜ InShare share y (length (now scratch)) ⌝ }
+    ensures { λ r. ⌜ steps r (now («data» .entry)) (now (scratch .exit)) ≡ entersAt b slot share x y v (now («data» .entry)) (now (scratch .entry)) ⌝ }
+{
+    let left = without_blocker(b, slot, x);
+    let gone = left.outcome;
+    if let Outcome::Refused(r) = gone {
+        return unstepped(b, x, r);
+    }
+    let entered = enter(left.blockers, slot, share, y, v, data, scratch);
+    let outcome = entered.outcome;
+    let blockers = entered.blockers;
+    Stepping {
+        outcome,
+        blockers,
+        state: y,
+    }
+}
+
+// The job x after its step.
+fn step(
+    b: Blockers,
+    slot: usize,
+    share: usize,
+    x: State,
+    code: u8,
+    step: Step,
+    v: IoVector,
+    data: &mut [u8],
+    scratch: &mut [u8],
+) -> Stepping
+    requires { ⌜ InShare share x (length (now scratch)) × StepInShare share (length (now scratch)) step ⌝ }
+    ensures { λ r. ⌜ steps r (now («data» .exit)) (now (scratch .exit)) ≡ steppedAt b slot share x code v (now («data» .entry)) (now (scratch .entry)) step ⌝ }
+{
+    match step {
+        Step::Stays(y) => stays(b, share, y, v, data, scratch),
+        Step::Ends(y) => ends(b, slot, share, x, code, y, v, data, scratch),
+        Step::Enters(y) => enters(b, slot, share, x, y, v, data, scratch),
+    }
+}
+
+// What a code leads to: 0 done, 1 unsupported, 2 to 199 failed; 200 and up is no answer.
+pub fn told(x: State, settings: Settings, code: u8) -> Answered
+    ensures { λ a. ⌜ a ≡ answeredOf settings x code ⌝ }
+{
+    match code {
+        0 => Answered::Leads(x.done(settings)),
+        1 => Answered::Leads(x.unsupported(settings)),
+        2..=199 => Answered::Leads(x.ends(code)),
+        _ => Answered::Refused(Refusal::NoAnswer),
+    }
+}
+
+// The code for the job x in `slot`: 208 where no request of it is out, 209 for what is no answer.
+fn told_at(
+    b: Blockers,
+    slot: usize,
+    settings: Settings,
+    buffers: Buffers,
+    x: State,
+    v: IoVector,
+    code: u8,
+    data: &mut [u8],
+    scratch: &mut [u8],
+) -> Stepping
+    requires { ⌜ (slot < 8) × (lentFits buffers (length (now «data»)) (length (now scratch)) ≡ true) ⌝ }
+    ensures { λ r. ⌜ steps r (now («data» .exit)) (now (scratch .exit)) ≡ toldAt b slot settings buffers x v code (now («data» .entry)) (now (scratch .entry)) ⌝ }
+{
+    if !is_out(b, x, slot) {
+        return unstepped(b, x, Refusal::Slot);
+    }
+    if !is_kept(x, settings, buffers) {
+        return unstepped(b, x, Refusal::Slot);
+    }
+    let answer = told(x, settings, code);
+    match answer {
+        Answered::Refused(r) => unstepped(b, x, r),
+        Answered::Leads(t) => {
+            let share = slot * settings.bounce as usize;
+            step(b, slot, share, x, code, t, v, data, scratch)
+        }
     }
 }
 
 impl Dock {
-    // The dock with the job y in `slot`, and these blockers.
-    fn with_state(mut self, slot: usize, b: Blockers, y: State) -> Telling
-        requires { ⌜ slot < 8 ⌝ }
-        ensures { λ t. ⌜ t ≡ accepted self slot b y ⌝ }
-    {
-        self.blockers = b;
-        self.states[slot] = y;
-        Telling {
-            dock: self,
-            outcome: Outcome::Done,
-        }
-    }
-
-    // The job goes on in its stage: once its reads are done, its vector is copied in.
-    fn stays(self, slot: usize, y: State, data: &[u8], scratch: &mut [u8]) -> Telling
-        requires { ⌜ (slot < 8) × (isSound (self .settings .bounce) y ≡ true) × (8 * self .settings .bounce ≤ length (now scratch)) ⌝ }
-        ensures { λ r. ⌜ tells r (now («data» .entry)) (now (scratch .exit)) ≡ staysOf self slot y (now («data» .entry)) (now (scratch .entry)) ⌝ }
-    {
-        let settings = self.settings;
-        let vector = self.vectors[slot];
-        let share = slot * settings.bounce as usize;
-        let filled = fill(share, y, vector, data, scratch);
-        let Outcome::Done = filled else {
-            return refused(self, Refusal::Segment);
-        };
-        let blockers = self.blockers;
-        self.with_state(slot, blockers, y)
-    }
-
-    // The job ends: its blocker leaves, and a padded read's bytes are copied out.
-    fn ends(
-        self,
-        slot: usize,
-        x: State,
-        code: u8,
-        y: State,
-        data: &mut [u8],
-        scratch: &[u8],
-    ) -> Telling
-        requires { ⌜ (slot < 8) × (isSound (self .settings .bounce) x ≡ true) × (8 * self .settings .bounce ≤ length (now scratch)) ⌝ }
-        ensures { λ r. ⌜ tells r (now («data» .exit)) (now (scratch .entry)) ≡ endsOf self slot x code y (now («data» .entry)) (now (scratch .entry)) ⌝ }
-    {
-        let settings = self.settings;
-        let vector = self.vectors[slot];
-        let left = without_blocker(self.blockers, slot, x);
-        let gone = left.outcome;
-        if let Outcome::Refused(r) = gone {
-            return refused(self, r);
-        }
-        let share = slot * settings.bounce as usize;
-        let handed = hand_out(share, x, code, vector, data, scratch);
-        let Outcome::Done = handed else {
-            return refused(self, Refusal::Segment);
-        };
-        let blockers = left.blockers;
-        self.with_state(slot, blockers, y)
-    }
-
-    // The job enters its next stage: its blocker leaves first, then the next one enters and notes all that are entered then.
-    fn enters(self, slot: usize, x: State, y: State, data: &[u8], scratch: &mut [u8]) -> Telling
-        requires { ⌜ (slot < 8) × (isSound (self .settings .bounce) y ≡ true) × (8 * self .settings .bounce ≤ length (now scratch)) ⌝ }
-        ensures { λ r. ⌜ tells r (now («data» .entry)) (now (scratch .exit)) ≡ entersOf self slot x y (now («data» .entry)) (now (scratch .entry)) ⌝ }
-    {
-        let settings = self.settings;
-        let vector = self.vectors[slot];
-        let left = without_blocker(self.blockers, slot, x);
-        let gone = left.outcome;
-        if let Outcome::Refused(r) = gone {
-            return refused(self, r);
-        }
-        let entered = with_blocker(left.blockers, slot, y);
-        let there = entered.outcome;
-        if let Outcome::Refused(r) = there {
-            return refused(self, r);
-        }
-        let share = slot * settings.bounce as usize;
-        let filled = fill(share, y, vector, data, scratch);
-        let Outcome::Done = filled else {
-            return refused(self, Refusal::Segment);
-        };
-        let blockers = entered.blockers;
-        self.with_state(slot, blockers, y)
-    }
-
-    // The job in `slot` after its step.
-    fn step(
-        self,
-        slot: usize,
-        x: State,
-        code: u8,
-        step: Step,
-        data: &mut [u8],
-        scratch: &mut [u8],
-    ) -> Telling
-        requires { ⌜ (slot < 8) × (isSound (self .settings .bounce) x ≡ true) × StepSound (self .settings .bounce) step × (8 * self .settings .bounce ≤ length (now scratch)) ⌝ }
-        ensures { λ r. ⌜ tells r (now («data» .exit)) (now (scratch .exit)) ≡ stepped self slot x code (now («data» .entry)) (now (scratch .entry)) step ⌝ }
-    {
-        match step {
-            Step::Stays(y) => self.stays(slot, y, data, scratch),
-            Step::Ends(y) => self.ends(slot, x, code, y, data, scratch),
-            Step::Enters(y) => self.enters(slot, x, y, data, scratch),
-        }
-    }
-
-    // The code for the job in `slot`: 208 where no request of it is out, 209 for what is no answer.
-    fn tell_at(self, slot: usize, code: u8, data: &mut [u8], scratch: &mut [u8]) -> Telling
-        requires { ⌜ (slot < 8) × (lentFits (self .buffers) (length (now «data»)) (length (now scratch)) ≡ true) ⌝ }
-        ensures { λ r. ⌜ tells r (now («data» .exit)) (now (scratch .exit)) ≡ tellAt self slot code (now («data» .entry)) (now (scratch .entry)) ⌝ }
+    // Hand in the code of the request that is out.
+    pub fn tell(mut self, slot: usize, code: u8, data: &mut [u8], scratch: &mut [u8]) -> Telling
+        ensures { λ r. ⌜ tells r (now («data» .exit)) (now (scratch .exit)) ≡ tellOf self slot code (now («data» .entry)) (now (scratch .entry)) ⌝ }
     {
         let settings = self.settings;
         let buffers = self.buffers;
-        let x = self.states[slot];
-        if !is_out(self.blockers, x, slot) {
-            return refused(self, Refusal::Slot);
-        }
-        if !is_kept(x, settings, buffers) {
-            return refused(self, Refusal::Slot);
-        }
-        match code {
-            0..=199 => {
-                let step = x.told(settings, code);
-                self.step(slot, x, code, step, data, scratch)
-            }
-            _ => refused(self, Refusal::NoAnswer),
-        }
-    }
-
-    // Hand in the code of the request that is out: 0 done, 1 unsupported, 2 to 199 failed; 200 and up is no answer.
-    pub fn tell(self, slot: usize, code: u8, data: &mut [u8], scratch: &mut [u8]) -> Telling
-        ensures { λ r. ⌜ tells r (now («data» .exit)) (now (scratch .exit)) ≡ tellOf self slot code (now («data» .entry)) (now (scratch .entry)) ⌝ }
-    {
-        if !lent_fits(self.buffers, data.len(), scratch.len()) {
-            return refused(self, Refusal::Buffer);
+        if !lent_fits(buffers, data.len(), scratch.len()) {
+            return Telling {
+                outcome: Outcome::Refused(Refusal::Buffer),
+                dock: self,
+            };
         }
         if SLOTS <= slot {
-            return refused(self, Refusal::Slot);
+            return Telling {
+                outcome: Outcome::Refused(Refusal::Slot),
+                dock: self,
+            };
         }
-        self.tell_at(slot, code, data, scratch)
+        let x = self.states[slot];
+        let v = self.vectors[slot];
+        let b = self.blockers;
+        let told = told_at(b, slot, settings, buffers, x, v, code, data, scratch);
+        let outcome = told.outcome;
+        let Outcome::Done = outcome else {
+            return Telling {
+                outcome,
+                dock: self,
+            };
+        };
+        let blockers = told.blockers;
+        let state = told.state;
+        self.blockers = blockers;
+        self.states[slot] = state;
+        Telling {
+            outcome,
+            dock: self,
+        }
     }
 
     // Take the final answer; the slot is free again.
@@ -210,22 +269,22 @@ impl Dock {
     {
         if !lent_fits(self.buffers, data.len(), scratch.len()) {
             return Collects {
-                dock: self,
                 answer: Collected::Refused(Refusal::Buffer),
+                dock: self,
             };
         }
         if SLOTS <= slot {
             return Collects {
-                dock: self,
                 answer: Collected::Refused(Refusal::Slot),
+                dock: self,
             };
         }
         let x = self.states[slot];
         let phase = x.phase;
         if !has_ended(phase) {
             return Collects {
-                dock: self,
                 answer: Collected::Refused(Refusal::Slot),
+                dock: self,
             };
         }
         let free = vacant();
@@ -233,8 +292,8 @@ impl Dock {
         self.states[slot] = free;
         self.vectors[slot] = none;
         Collects {
-            dock: self,
             answer: Collected::Final(x.answer),
+            dock: self,
         }
     }
 }

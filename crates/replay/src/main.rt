@@ -37,6 +37,7 @@ use arithmetic::offsets::StoreOffset;
 use arithmetic::refusals::Outcome;
 use arithmetic::settings::Buffers;
 use arithmetic::settings::Lent;
+use dock::begin::Asked;
 use dock::begin::Beginning;
 use dock::dock::Dock;
 use dock::next::Due;
@@ -117,8 +118,8 @@ fn begin_vector(dock: Dock, e: Event, data: &[u8], scratch: &mut [u8]) -> Dock {
     let offset = StoreOffset(e.number(0));
     let verb = e.verb;
     match verb {
-        Verb::Read => ended(dock.begin_read(offset, vector, data, scratch)),
-        _ => ended(dock.begin_write(offset, vector, data, scratch)),
+        Verb::Read => ended(dock.begin(Asked::read(offset, vector), data, scratch)),
+        _ => ended(dock.begin(Asked::write(offset, vector), data, scratch)),
     }
 }
 
@@ -128,9 +129,9 @@ fn begin(dock: Dock, e: Event, data: &[u8], scratch: &mut [u8]) -> Dock {
     let n = e.number(1);
     match verb {
         Verb::Read | Verb::Write => begin_vector(dock, e, data, scratch),
-        Verb::Zero => ended(dock.begin_zeroes(false, offset, n, data, scratch)),
-        Verb::Alloc => ended(dock.begin_zeroes(true, offset, n, data, scratch)),
-        Verb::Discard => ended(dock.begin_discard(offset, n, data, scratch)),
+        Verb::Zero => ended(dock.begin(Asked::zeroes(false, offset, n), data, scratch)),
+        Verb::Alloc => ended(dock.begin(Asked::zeroes(true, offset, n), data, scratch)),
+        Verb::Discard => ended(dock.begin(Asked::discard(offset, n), data, scratch)),
         _ => dock,
     }
 }

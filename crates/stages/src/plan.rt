@@ -272,7 +272,7 @@ pub fn zeroes_plan(
     started(job, range, middle, course, stage, first_phase(stage))
 }
 
-fn zero_job(allocate: bool) -> Job
+pub fn zero_job(allocate: bool) -> Job
     ensures { λ j. ⌜ j ≡ zeroJob allocate ⌝ }
 {
     if allocate {

@@ -13,7 +13,7 @@ use arithmetic::zeroes::next_chunk;
 ghost use mathlib.Core.Path.{_≡_};
 ghost use lib.Dec.{ltb};
 ghost use Rattle.arithmetic.specs.Rounding.{pick};
-ghost use Rattle.stages.specs.Stages.{sizeOf, inPhase, endedWith, laterStage, zeroesNext, chunkNext, tailNext, headNext, stageDone, doneNext, unsupportedNext, toldOf};
+ghost use Rattle.stages.specs.Stages.{sizeOf, inPhase, endedWith, laterStage, zeroesNext, chunkNext, tailNext, headNext, stageDone, doneNext, unsupportedNext};
 
 // The job goes on in its stage, ends, or enters its next stage.
 pub enum Step {
@@ -40,7 +40,8 @@ impl State {
         }
     }
 
-    fn ends(self, answer: u8) -> Step
+    // The job ends: a failure ends it with its number.
+    pub fn ends(self, answer: u8) -> Step
         ensures { λ t. ⌜ t ≡ Step.Ends (endedWith answer self) ⌝ }
     {
         Step::Ends(self.ended_with(answer))
@@ -136,7 +137,8 @@ impl State {
         Phase::BouncedWrite
     }
 
-    fn done(self, settings: Settings) -> Step
+    // The request is done.
+    pub fn done(mut self, settings: Settings) -> Step
         ensures { λ t. ⌜ t ≡ doneNext (self .phase) settings self ⌝ }
     {
         let phase = self.phase;
@@ -154,7 +156,8 @@ impl State {
         }
     }
 
-    fn unsupported(self, settings: Settings) -> Step
+    // The store does not support the request.
+    pub fn unsupported(mut self, settings: Settings) -> Step
         ensures { λ t. ⌜ t ≡ unsupportedNext (self .phase) settings self ⌝ }
     {
         let phase = self.phase;
@@ -170,17 +173,6 @@ impl State {
             | Phase::SecondRead
             | Phase::BouncedWrite
             | Phase::DirectWrite => self.ends(1),
-        }
-    }
-
-    // The job after its request's code: 0 done, 1 unsupported, any other failed.
-    pub fn told(mut self, settings: Settings, code: u8) -> Step
-        ensures { λ t. ⌜ t ≡ toldOf settings self code ⌝ }
-    {
-        match code {
-            0 => self.done(settings),
-            1 => self.unsupported(settings),
-            _ => self.ends(code),
         }
     }
 }

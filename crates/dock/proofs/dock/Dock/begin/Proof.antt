@@ -1,0 +1,176 @@
+-- `dock::dock::Dock::begin` meets its contract: the loop finds whether the vector meets another; what the slot's begin leaves is stored where it is placed. Assumes nothing.
+use denote.Ref.{now}
+use mathlib.Core.Path.{_≡_, refl, sym, ap, _∙_}
+use mathlib.Core.Bool.{Bool, true, false, _||_}
+use mathlib.Core.List.{List, [], _∷_}
+use mathlib.Core.Logic.{_≢_, ⊎-elim}
+use types.Run.{OneOf}
+use denote.Enum.Declared.{declared, tagOf}
+use Prim.Native.Nat.{ℕ, _+_, _-_, _<_, _≤_}
+use native.Mathlib.Numerals.{add-one}
+use native.Mathlib.Omega.{arith}
+use lib.ListN.{length}
+use Rattle.arithmetic.specs.Loops.{anyBelow}
+use Rattle.vectors.specs.declared.vector.IoVector.{IoVector}
+use Rattle.stages.specs.declared.state.Job.{Job}
+use Rattle.stages.specs.declared.state.State.{State}
+use Rattle.dock.specs.declared.begin.Begun.{Begun}
+use Rattle.dock.specs.declared.begin.Begun.the-variants.{Done as NoRequest, Placed, Refused}
+use Rattle.dock.proofs.begin.Begun.{enum}
+use Rattle.dock.specs.Dock.{meetsOf, meetsAt, meetsItself, overlapsOf}
+use Rattle.dock.proofs.Steps.{decided-in-share, admitted-slot, begin-placed, begin-unplaced}
+use borrow.Author.Needs.{needs}
+use Rattle.dock.proofs.dock.Dock.begin.Statement.{statement}
+use Rattle.dock.proofs.dock.Dock.begin.Tie as tie
+
+-- the fold of the loop: none is met before its first turn, and one more with each
+none-yet : (a : Bool) (f : ℕ → Bool) → a ≡ (a || anyBelow 0 f)
+unfolding anyBelow
+none-yet true f = refl
+none-yet false f = refl
+
+one-more : (met m : Bool) (i : ℕ) (a : Bool) (f : ℕ → Bool) → met ≡ (a || anyBelow i f) → m ≡ f i → (met || m) ≡ (a || anyBelow (i + 1) f)
+unfolding anyBelow
+one-more met m i a f p q = rw (p, q, add-one) (assoc a (anyBelow i f) (f i))
+  where
+    assoc : (a b c : Bool) → ((a || b) || c) ≡ (a || (b || c))
+    assoc true b c = refl
+    assoc false b c = refl
+
+abbrev Inv-loop : tie.InvT-loop
+Inv-loop asked «data» scratch self settings buffers job v met₀ i₀ met i = (i ≤ 8) × (met ≡ (meetsItself job v || anyBelow i (meetsAt (self .states) (self .vectors) job v)))
+
+abbrev μ-loop : tie.MeasureT-loop
+μ-loop asked «data» scratch self settings buffers job v met₀ i₀ met i = 8 - i
+
+-- after the last turn, whether one is met at all
+found : (xs : List State) (vs : List IoVector) (j : Job) (v : IoVector) (met : Bool) (i : ℕ) → i ≡ 8 → met ≡ (meetsItself j v || anyBelow i (meetsAt xs vs j v)) → met ≡ overlapsOf xs vs j v
+unfolding overlapsOf
+found xs vs j v met i h e = e ∙ ap (λ (n : ℕ). meetsItself j v || anyBelow n (meetsAt xs vs j v)) h
+
+-- an answer of another kind is no slot
+unplaced : (b : Begun) (p : ℕ) → OneOf (0 ∷ 2 ∷ []) (tagOf (declared enum) b) → b ≢ Placed p
+unplaced (Placed q) p k e = ⊎-elim (λ e. omega arith) (λ e. omega arith) k
+unplaced NoRequest p k e = let z : _≡_ {A = ℕ} 0 1 = cc in omega arith
+unplaced (Refused r) p k e = let z : _≡_ {A = ℕ} 0 1 = cc in omega arith
+
+moved-requires : tie.Need-moved-requires Inv-loop μ-loop
+moved-requires c κs = tt
+
+meets-itself-requires : tie.Need-meets-itself-requires Inv-loop μ-loop
+meets-itself-requires c κs = tt
+
+loop-holds : tie.Need-loop-holds Inv-loop μ-loop
+loop-holds c = let a = c .before .before .before .before .before .before .args in (search needs, c .meets-itself .ensures ∙ none-yet (meetsItself (a .asked .job) (c .before .moved .result)) (meetsAt (a .t1 .states) (a .t1 .vectors) (a .asked .job) (c .before .moved .result)))
+
+mul-x : tie.Need-mul-x Inv-loop μ-loop
+mul-x c = search needs
+
+element-copy-out-x : tie.Need-element-copy-out-x Inv-loop μ-loop
+element-copy-out-x c = search needs
+
+mul-w : tie.Need-mul-w Inv-loop μ-loop
+mul-w c = search needs
+
+element-copy-out-w : tie.Need-element-copy-out-w Inv-loop μ-loop
+element-copy-out-w c = search needs
+
+meets-requires : tie.Need-meets-requires Inv-loop μ-loop
+meets-requires c κs = tt
+
+add-i : tie.Need-add-i Inv-loop μ-loop
+add-i c = search needs
+
+loop-less : tie.Need-loop-less Inv-loop μ-loop
+loop-less c = search needs
+
+loop-again : tie.Need-loop-again Inv-loop μ-loop
+unfolding meetsAt
+loop-again c = let a = c .before .before .before .before .before .before .before .before .before .before .before .args in let l = c .before .before .before .before .loop in (search needs, one-more _ _ (l .i) (meetsItself (a .asked .job) (c .before .before .before .before .before .before .moved .result)) (meetsAt (a .t1 .states) (a .t1 .vectors) (a .asked .job) (c .before .before .before .before .before .before .moved .result)) (l .inv .1) (c .meets .ensures))
+
+last : (c : tie.After-loop Inv-loop μ-loop) → c .before .loop .i ≡ 8
+last c = search needs
+
+lent-requires : tie.Need-lent-requires Inv-loop μ-loop
+lent-requires c κs = tt
+
+first-free-requires : tie.Need-first-free-requires Inv-loop μ-loop
+first-free-requires c κs = tt
+
+planned-requires : tie.Need-planned-requires Inv-loop μ-loop
+planned-requires c κs = tt
+
+valid-requires : tie.Need-valid-requires Inv-loop μ-loop
+valid-requires c κs = tt
+
+decided-requires : tie.Need-decided-requires Inv-loop μ-loop
+decided-requires c κs = tt
+
+admit-requires : tie.Need-admit-requires Inv-loop μ-loop
+admit-requires c κs = let a = c .before .before .before .before .before .before .before .before .before .before .before .before .before .before .before .before .args in decided-in-share (a .asked .job) (a .t1 .settings) (a .t1 .buffers) (a .asked .offset) (a .asked .length) (a .asked .vector) (length (now (a .«data»))) (length (now (a .scratch))) _ (c .before .before .before .before .before .before .before .lent .ensures) _ _ (c .before .before .before .before .planned .ensures) _ _ _ (c .before .before .decided .ensures)
+
+enum-known-answer : tie.Need-enum-known-answer Inv-loop μ-loop
+enum-known-answer c = search needs
+
+same-length : tie.Need-same-length Inv-loop μ-loop
+same-length c = search needs
+
+returns : tie.Need-returns Inv-loop μ-loop
+returns c = let a = c .before .before .before .before .before .before .before .before .before .before .before .before .before .before .before .before .before .before .before .before .args in begin-unplaced (a .t1) (a .asked) (now (a .«data»)) (now (a .scratch)) _ (c .before .before .before .before .before .before .before .before .before .before .before .before .before .before .before .moved .ensures) _ (found (a .t1 .states) (a .t1 .vectors) (a .asked .job) (c .before .before .before .before .before .before .before .before .before .before .before .before .before .before .before .moved .result) _ (c .before .before .before .before .before .before .before .before .before .before .before .before .before .loop .i) (last (c .before .before .before .before .before .before .before .before .before .before .before .before)) (c .before .before .before .before .before .before .before .before .before .before .before .before .before .loop .inv .1)) _ (c .before .before .before .before .before .before .before .before .before .before .before .lent .ensures) _ (c .before .before .before .before .before .before .before .before .before .first-free .ensures) _ (c .before .before .before .before .before .before .before .before .planned .ensures) _ (c .before .before .before .before .before .before .before .valid .ensures) _ (c .before .before .before .before .before .before .decided .ensures) _ _ (c .before .before .before .admit .ensures) (λ p e. unplaced _ p (c .match .keys2) e)
+
+-- the slot that was found free is one of the eight
+slot : (c : tie.After-state Inv-loop μ-loop) → c .before .before .before .answer .given .0 .0 < 8
+slot c =
+    let a = c .before .before .before .before .before .before .before .before .before .before .before .before .before .before .before .before .before .before .before .before .before .before .before .before .args in
+    admitted-slot (a .t1 .blockers) (a .t1 .settings .bounce) (c .before .before .before .before .before .before .before .before .before .before .before .before .before .before .before .before .before .before .before .moved .result) (now (a .«data»)) (now (a .scratch)) (c .before .before .before .before .before .before .before .before .before .before .before .before .before .before .before .lent .result) (c .before .before .before .before .before .before .before .before .before .before .before .valid .result) (c .before .before .before .before .before .before .before .before .before .before .before .before .planned .result) (c .before .before .before .before .before .before .before .before .before .before .before .before .before .before .before .before .before .loop .met) (c .before .before .before .before .before .before .before .before .before .before .before .before .before .first-free .result) (c .before .before .before .before .before .before .before .before .before .before .decided .result) (c .before .before .before .before .before .before .before .before .before .before .decided .ensures) _ _ (c .before .before .before .before .before .before .before .admit .ensures) _ (c .before .before .before .answer .given .1)
+
+mul-state : tie.Need-mul-state Inv-loop μ-loop
+mul-state c = omega (arith, slot c)
+
+element-set-from-state : tie.Need-element-set-from-state Inv-loop μ-loop
+element-set-from-state c = slot c
+
+mul-v : tie.Need-mul-v Inv-loop μ-loop
+mul-v c = omega (arith, slot c)
+
+element-set-from-v : tie.Need-element-set-from-v Inv-loop μ-loop
+element-set-from-v c = slot c
+
+same-length-2 : tie.Need-same-length-2 Inv-loop μ-loop
+same-length-2 c = search needs
+
+returns-2 : tie.Need-returns-2 Inv-loop μ-loop
+returns-2 c = let a = c .before .before .before .before .before .before .before .before .before .before .before .before .before .before .before .before .before .before .before .before .before .before .before .before .args in begin-placed (a .t1) (a .asked) (now (a .«data»)) (now (a .scratch)) _ (c .before .before .before .before .before .before .before .before .before .before .before .before .before .before .before .before .before .before .before .moved .ensures) _ (found (a .t1 .states) (a .t1 .vectors) (a .asked .job) (c .before .before .before .before .before .before .before .before .before .before .before .before .before .before .before .before .before .before .before .moved .result) _ (c .before .before .before .before .before .before .before .before .before .before .before .before .before .before .before .before .before .loop .i) (last (c .before .before .before .before .before .before .before .before .before .before .before .before .before .before .before .before)) (c .before .before .before .before .before .before .before .before .before .before .before .before .before .before .before .before .before .loop .inv .1)) _ (c .before .before .before .before .before .before .before .before .before .before .before .before .before .before .before .lent .ensures) _ (c .before .before .before .before .before .before .before .before .before .before .before .before .before .first-free .ensures) _ (c .before .before .before .before .before .before .before .before .before .before .before .before .planned .ensures) _ (c .before .before .before .before .before .before .before .before .before .before .before .valid .ensures) _ (c .before .before .before .before .before .before .before .before .before .before .decided .ensures) _ _ (c .before .before .before .before .before .before .before .admit .ensures) _ (c .before .before .before .answer .given .1)
+
+pub begin-spec : {M : Type 1} → statement M
+begin-spec =
+    tie.close
+    (tie.spec
+    Inv-loop
+    μ-loop
+    moved-requires
+    meets-itself-requires
+    loop-holds
+    mul-x
+    element-copy-out-x
+    mul-w
+    element-copy-out-w
+    meets-requires
+    add-i
+    loop-less
+    loop-again
+    lent-requires
+    first-free-requires
+    planned-requires
+    valid-requires
+    decided-requires
+    admit-requires
+    enum-known-answer
+    same-length
+    returns
+    mul-state
+    element-set-from-state
+    mul-v
+    element-set-from-v
+    same-length-2
+    returns-2)

@@ -1,0 +1,43 @@
+-- `dock::tell::enters` meets its contract: the blocker leaves, then the job enters its next stage. Assumes nothing.
+use denote.Ref.{now}
+use Rattle.dock.proofs.Steps.{enters-blocked, enters-done}
+use borrow.Author.Needs.{needs}
+use Rattle.dock.proofs.tell.enters.Statement.{statement}
+use Rattle.dock.proofs.tell.enters.Tie as tie
+
+without-blocker-requires : tie.Need-without-blocker-requires
+without-blocker-requires c κs = search needs
+
+enum-known-gone : tie.Need-enum-known-gone
+enum-known-gone c = search needs
+
+unstepped-requires : tie.Need-unstepped-requires
+unstepped-requires c κs = search needs
+
+returns : tie.Need-returns
+returns c = let a = c .before .before .before .before .before .before .before .args in enters-blocked (a .b) (a .slot) (a .share) (a .x) (a .y) (a .v) (now (a .«data»)) (now (a .scratch)) _ (c .before .before .before .before .without-blocker .ensures) _ (c .before .before .gone .given .1) _ (c .unstepped .ensures)
+
+enum-told : tie.Need-enum-told
+enum-told c = search needs
+
+enter-requires : tie.Need-enter-requires
+enter-requires c κs = search needs
+
+same-length : tie.Need-same-length
+same-length c = search needs
+
+returns-2 : tie.Need-returns-2
+returns-2 c = let a = c .before .before .before .before .before .before .before .before .before .before .args in enters-done (a .b) (a .slot) (a .share) (a .x) (a .y) (a .v) (now (a .«data»)) (now (a .scratch)) _ (c .before .before .before .before .before .before .before .without-blocker .ensures) (c .before .before .before .before .before .enum-told .given .1) _ _ (c .before .before .before .enter .ensures)
+
+pub enters-spec : {M : Type 1} → statement M
+enters-spec =
+    tie.close
+    (tie.spec
+    without-blocker-requires
+    enum-known-gone
+    unstepped-requires
+    returns
+    enum-told
+    enter-requires
+    same-length
+    returns-2)
