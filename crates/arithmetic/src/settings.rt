@@ -5,7 +5,7 @@ ghost use mathlib.Core.Bool.{true};
 ghost use mathlib.Core.Path.{_≡_};
 ghost use Prim.Native.Nat.{_+_};
 ghost use Rattle.arithmetic.specs.Rounding.{fits};
-ghost use Rattle.arithmetic.specs.Settings.{isAlignment, lengthAlign, alignmentsFit, bounceFits, settingsFit, buffersFit, openingOf, profileOf};
+ghost use Rattle.arithmetic.specs.Settings.{isAlignment, lengthAlign, alignmentsFit, bounceFits, settingsFit, buffersFit, openingOf, alignments, profileOf};
 use crate::offsets::LARGEST;
 
 // Document 01's mem, req, zero, discard: M, R, Z, D.
@@ -130,47 +130,28 @@ pub fn opening(s: Settings, b: Buffers) -> Outcome
     Outcome::Done
 }
 
+fn row(mem: u64, req: u64, zero: u64, discard: u64) -> Profile
+    ensures { λ r. ⌜ r ≡ Profile.Of (alignments mem req zero discard) ⌝ }
+{
+    Profile::Of(Alignments {
+        mem,
+        req,
+        zero,
+        discard,
+    })
+}
+
 // The alignments of a drive profile.
 pub fn drive_profile(index: usize) -> Profile
     ensures { λ r. ⌜ r ≡ profileOf index ⌝ }
 {
     match index {
-        0 => Profile::Of(Alignments {
-            mem: 1,
-            req: 1,
-            zero: 1,
-            discard: 1,
-        }),
-        1 => Profile::Of(Alignments {
-            mem: 1,
-            req: 512,
-            zero: 512,
-            discard: 512,
-        }),
-        2 => Profile::Of(Alignments {
-            mem: 512,
-            req: 512,
-            zero: 4096,
-            discard: 4096,
-        }),
-        3 => Profile::Of(Alignments {
-            mem: 4096,
-            req: 4096,
-            zero: 4096,
-            discard: 65536,
-        }),
-        4 => Profile::Of(Alignments {
-            mem: 4096,
-            req: 512,
-            zero: 512,
-            discard: 512,
-        }),
-        5 => Profile::Of(Alignments {
-            mem: 4096,
-            req: 512,
-            zero: 4096,
-            discard: 65536,
-        }),
+        0 => row(1, 1, 1, 1),
+        1 => row(1, 512, 512, 512),
+        2 => row(512, 512, 4096, 4096),
+        3 => row(4096, 4096, 4096, 65536),
+        4 => row(4096, 512, 512, 512),
+        5 => row(4096, 512, 4096, 65536),
         _ => Profile::Refused(Refusal::Unfit),
     }
 }
