@@ -1,12 +1,11 @@
 -- What each step of `padding::padded` shows of the definition: a sum that does not fit is its 207, and sums that fit are its numbers. Assumes nothing.
-use mathlib.Core.Path.{_≡_, refl, ap, sym, _∙_}
-use mathlib.Core.Bool.{Bool, true, false}
-use Prim.Native.Nat.{ℕ, _+_, _-_, _%_, _<_, _≤_}
-use native.Mathlib.Omega.{arith}
+use mathlib.Core.Path.{_≡_, ap, _∙_}
+use mathlib.Core.Bool.{true, false}
+use Prim.Native.Nat.{ℕ, _+_, _-_}
 use Rattle.arithmetic.specs.Rounding.{fits, sumOf, upOf, roundUp, roundDown}
 use Rattle.arithmetic.specs.RoundingLaws.{sum-fits, sum-over, up-fits, up-over}
 use Rattle.arithmetic.specs.Offsets.{storeAt, bufferAt}
-use Rattle.arithmetic.specs.Padding.{paddedStart, roundedEnd, paddedLength, paddedEnd, headOf, tailOf, paddingFits, spanOf, paddedOf}
+use Rattle.arithmetic.specs.Padding.{paddedStart, roundedEnd, paddedLength, paddedEnd, paddingFits, spanOf, paddedOf}
 use Rattle.arithmetic.specs.declared.refusals.Refusal.the-variants.{Overflow}
 use Rattle.arithmetic.specs.declared.offsets.Sum.the-variants.{Fits, Over}
 use Rattle.arithmetic.specs.declared.padding.Padding.the-variants.{Padded, Refused}

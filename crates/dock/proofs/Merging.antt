@@ -1,5 +1,5 @@
 -- The copies between the data and a share of the scratch, and the steps of begin and tell over them: each branch of the code gives what the definition says. Assumes nothing.
-use mathlib.Core.Path.{_≡_, refl, sym, ap, _∙_}
+use mathlib.Core.Path.{_≡_, refl, sym, _∙_}
 use mathlib.Core.Bool.{Bool, true, false, _&&_, _||_, not}
 use mathlib.Core.List.{List}
 use Prim.Native.Nat.{ℕ, _+_, _-_, _*_, _≤_, _<_}
@@ -12,10 +12,8 @@ use borrow.Author.Tests.{eqb-true, leb-true}
 use borrow.Rule.Slice.PartMut.{putMid, put-same}
 use Rattle.arithmetic.specs.Rounding.{pick}
 use Rattle.arithmetic.specs.SettingsLaws.{and-left, and-right}
-use Rattle.arithmetic.specs.declared.refusals.Refusal.{Refusal}
-use Rattle.arithmetic.specs.declared.refusals.Refusal.the-variants.{Segment}
 use Rattle.arithmetic.specs.declared.refusals.Outcome.{Outcome}
-use Rattle.arithmetic.specs.declared.refusals.Outcome.the-variants.{Done, Refused}
+use Rattle.arithmetic.specs.declared.refusals.Outcome.the-variants.{Done}
 use Rattle.vectors.specs.Vectors.{put, bytesOf, segmentsOf, copies, isValid, outcomeOf, scatterOf}
 use Rattle.vectors.specs.ByteLaws.{bytes-length}
 use Rattle.vectors.specs.SegmentLaws.{valid}

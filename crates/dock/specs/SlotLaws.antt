@@ -1,5 +1,5 @@
 -- What begin and tell do with one slot (Slots), stored in the dock, is what Begin and Tell say of the dock. Assumes nothing.
-use mathlib.Core.Path.{_≡_, refl, sym, ap, _∙_}
+use mathlib.Core.Path.{_≡_, refl, ap, _∙_}
 use mathlib.Core.Bool.{Bool, true, false, _&&_}
 use mathlib.Core.List.{List, []}
 use Prim.Native.Nat.{ℕ, _+_}
@@ -25,12 +25,11 @@ use Rattle.stages.specs.declared.told.Step.the-variants.{Stays, Ends, Enters}
 use Rattle.stages.specs.declared.plan.Plan.{Plan}
 use Rattle.stages.specs.declared.plan.Plan.the-variants.{Done as NothingToDo, Started, Refused as PlanRefused}
 use Rattle.dock.specs.Dock.{stateAt, vectorAt, shareAt, isOutBy, lentOf, meetsOf, meetsAt, overlapsOf, firstFree}
-use Rattle.dock.specs.Begin.{fills, isBouncedWrite, sourceOf, sourceFits, mergedAt, filled, blockersWith, Begins, refusedBegin, onlyIf, thenDo, placed, placedAt, begunBy, vectorThen, beginReadOf, beginWriteOf, beginZeroesOf, beginDiscardOf, movedOf, planOf, beginBy, beginOf}
+use Rattle.dock.specs.Begin.{fills, isBouncedWrite, sourceOf, sourceFits, mergedAt, filled, blockersWith, Begins, refusedBegin, onlyIf, thenDo, placed, placedAt, begunBy, vectorThen, beginReadOf, beginWriteOf, beginZeroesOf, beginDiscardOf, movedOf, planOf, beginBy}
 use Rattle.dock.specs.Next.{isKeptBy}
-use Rattle.dock.specs.Tell.{Told, hands, isBouncedRead, copiedAt, handed, blockersWithout, tellIf, refusedTell, stayed, ended, entered, staysOf, endsOf, entersOf, stepped, tellAt}
-use Rattle.dock.specs.Slots.{enters, enterAt, whenDone, Entered, allowedBy, decidedOf, admits, unplaced, admitBy, admitAt, seated, Stepped, staysAt, leftThen, endsAt, entersBy, entersAt, steppedAt, answeredOf, answeredBy, toldAt, storedBy, stored}
+use Rattle.dock.specs.Tell.{hands, isBouncedRead, copiedAt, handed, blockersWithout, tellIf, refusedTell, stayed, ended, entered, staysOf, endsOf, entersOf, stepped, tellAt}
+use Rattle.dock.specs.Slots.{enterAt, whenDone, Entered, allowedBy, decidedOf, admitBy, admitAt, seated, Stepped, staysAt, leftThen, endsAt, entersBy, entersAt, steppedAt, answeredOf, answeredBy, toldAt, storedBy, stored}
 use Rattle.dock.specs.declared.dock.Dock.{Dock}
-use Rattle.dock.specs.declared.begin.Asked.{Asked}
 use Rattle.dock.specs.declared.tell.Answered.the-variants.{Leads, Refused as NoLead}
 
 impossible : {A : Type 0} → _≡_ {A = ℕ} 0 1 → A

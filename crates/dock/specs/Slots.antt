@@ -1,6 +1,6 @@
 -- Begin and tell, as far as one slot and the blockers go: what is stored in the dock where it is done. Laws (proofs/Slots.antt): stored, it is what Begin and Tell say.
 use mathlib.Core.Path.{_≡_}
-use mathlib.Core.Bool.{Bool, true, false, _&&_}
+use mathlib.Core.Bool.{Bool, true, _&&_}
 use mathlib.Core.List.{List}
 use Prim.Native.Nat.{ℕ, _*_, _<_, _≤_}
 use lib.Dec.{ltb}

@@ -4,7 +4,7 @@ use mathlib.Core.Path.{ap, sym}
 use Rattle.arithmetic.specs.RoundingLaws.{up-zero}
 use Prim.Native.Nat.{_+_, _-_, _^_}
 use native.Mathlib.Omega.{arith}
-use Rattle.arithmetic.specs.Rounding.{upOf, roundUp, roundDown, fits}
+use Rattle.arithmetic.specs.Rounding.{upOf, roundUp, fits}
 use Rattle.arithmetic.specs.declared.offsets.Sum.the-variants.{Fits}
 use borrow.Author.Needs.{needs}
 use Rattle.arithmetic.proofs.offsets.up.Statement.{statement}

@@ -4,10 +4,9 @@ use mathlib.Core.Path.{_≡_, sym, ap, _∙_}
 use mathlib.Core.Bool.{true}
 use Rattle.arithmetic.specs.Settings.{alignmentsFit}
 use Rattle.arithmetic.specs.SettingsLaws.{Aligned, aligned}
-use Rattle.arithmetic.specs.Rounding.{sumOf, fits}
+use Rattle.arithmetic.specs.Rounding.{fits}
 use Rattle.arithmetic.specs.RoundingLaws.{sum-fits, sum-over, Passed}
 use Rattle.arithmetic.specs.Padding.{transferOf, bounced}
-use Rattle.arithmetic.specs.declared.offsets.Sum.the-variants.{Fits, Over}
 use Rattle.arithmetic.specs.declared.padding.Padding.the-variants.{Padded, Refused}
 use Prim.Native.Nat.{_+_}
 use borrow.Author.Needs.{needs}

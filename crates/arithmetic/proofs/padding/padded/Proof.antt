@@ -6,8 +6,8 @@ use native.Mathlib.Omega.{arith}
 use Rattle.arithmetic.specs.Rounding.{sumOf, upOf}
 use Rattle.arithmetic.specs.PaddingLaws.{start-le, head-below, end-ge, tail-below, rounded-ge}
 use Rattle.arithmetic.specs.Padding.{paddedStart}
-use Rattle.arithmetic.specs.declared.offsets.Sum.the-variants.{Fits, Over}
-use Rattle.arithmetic.proofs.Padded.{over-end, over-rounded, over-length, over-padded, padded-all, end-is, rounded-is, length-is, padded-end-is}
+use Rattle.arithmetic.specs.declared.offsets.Sum.the-variants.{Fits}
+use Rattle.arithmetic.proofs.Padded.{over-end, over-rounded, over-length, over-padded, padded-all, end-is, rounded-is, padded-end-is}
 use Rattle.arithmetic.proofs.padding.padded.Statement.{statement}
 use Rattle.arithmetic.proofs.padding.padded.Tie as tie
 use Rattle.arithmetic.proofs.padding.padded.Reads as reads

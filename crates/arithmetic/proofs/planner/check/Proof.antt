@@ -1,7 +1,7 @@
 -- `arithmetic::planner::check` meets its contract: 201, 210, 207. Assumes nothing.
 use borrow.Author.Tests.{not-true, not-false}
-use mathlib.Core.Path.{_≡_, sym, ap, _∙_}
-use mathlib.Core.Bool.{true, false, _&&_}
+use mathlib.Core.Path.{_≡_, sym, _∙_}
+use mathlib.Core.Bool.{true, _&&_}
 use lib.Dec.{leb, eqb}
 use Prim.Native.Nat.{_-_, _%_}
 use Rattle.arithmetic.specs.Rounding.{isMultiple}

@@ -1,7 +1,6 @@
 -- `arithmetic::planner::chunk_at` meets its contract: a chunk that starts within the range, or the end. Assumes nothing.
 use native.Mathlib.Omega.{arith}
-use mathlib.Core.Path.{_≡_, ap, _∙_}
-use Prim.Native.Nat.{ℕ, _+_, _*_, _<_, _^_, _≤_, _/_, _-_, min}
+use Prim.Native.Nat.{_+_, _*_, _<_, _^_, _≤_, _-_}
 use native.Mathlib.Nat.{add-assoc}
 use Rattle.arithmetic.specs.RoundingLaws.{true-fits}
 use Rattle.arithmetic.specs.Planner.{plannedChunk}

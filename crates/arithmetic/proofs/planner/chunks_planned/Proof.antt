@@ -1,12 +1,9 @@
 -- `arithmetic::planner::chunks_planned` meets its contract: the count of a plan that is not refused. Assumes nothing.
-use borrow.Author.Tests.{not-true, not-false}
-use mathlib.Core.Path.{_≡_, sym, ap, _∙_}
-use mathlib.Core.Bool.{true, false}
+use mathlib.Core.Path.{_≡_, sym, _∙_}
 use Rattle.arithmetic.specs.SettingsLaws.{accepted}
 use Rattle.arithmetic.specs.PlannerLaws.{plan-done}
-use Rattle.arithmetic.specs.Planner.{planOutcome, countOf, counted}
+use Rattle.arithmetic.specs.Planner.{countOf}
 use Rattle.arithmetic.specs.declared.refusals.Outcome.the-variants.{Done, Refused}
-use native.Mathlib.Omega.{arith}
 use borrow.Author.Needs.{needs}
 use Rattle.arithmetic.proofs.planner.chunks_planned.Statement.{statement}
 use Rattle.arithmetic.proofs.planner.chunks_planned.Tie as tie

@@ -1,10 +1,8 @@
 -- `arithmetic::planner::planned_chunk` meets its contract: a chunk of a plan that is not refused. Assumes nothing.
-use borrow.Author.Tests.{not-true, not-false}
-use mathlib.Core.Path.{_≡_, sym, ap, _∙_}
-use mathlib.Core.Bool.{true, false}
+use mathlib.Core.Path.{_≡_, sym, _∙_}
 use Rattle.arithmetic.specs.SettingsLaws.{accepted}
 use Rattle.arithmetic.specs.PlannerLaws.{plan-done}
-use Rattle.arithmetic.specs.Planner.{planOutcome, plannedOf, planned}
+use Rattle.arithmetic.specs.Planner.{plannedOf}
 use Rattle.arithmetic.specs.declared.refusals.Outcome.the-variants.{Done, Refused}
 use borrow.Author.Needs.{needs}
 use Rattle.arithmetic.proofs.planner.planned_chunk.Statement.{statement}

@@ -2,7 +2,6 @@
 use borrow.Author.Tests.{eq-eqb, ne-eqb}
 use native.Mathlib.Omega.{arith}
 use native.Mathlib.Nat.{mod-lt}
-use Prim.Native.Nat.{_%_}
 use Rattle.arithmetic.specs.Rounding.{isMultiple}
 use Rattle.arithmetic.specs.Zeroes.{chunkLength}
 use borrow.Author.Needs.{needs}

@@ -1,7 +1,7 @@
 -- `arithmetic::zeroes::discard_cut` meets its contract: 201, 207, then the cut. Assumes nothing.
 use borrow.Author.Tests.{not-true, not-false}
-use mathlib.Core.Path.{_≡_, sym, ap, _∙_}
-use mathlib.Core.Bool.{true, false}
+use mathlib.Core.Path.{_≡_, sym, _∙_}
+use mathlib.Core.Bool.{true}
 use Rattle.arithmetic.specs.Settings.{alignmentsFit}
 use Rattle.arithmetic.specs.SettingsLaws.{aligned}
 use Rattle.arithmetic.specs.Zeroes.{discardCutOf, cutFits, cutOf, hasMiddle}

@@ -1,14 +1,14 @@
 -- `arithmetic::zeroes::next_chunk` meets its contract: 201, an empty range, then the chunk, which lies within the range. Assumes nothing.
 use borrow.Author.Tests.{not-true, not-false}
-use mathlib.Core.Path.{_≡_, sym, ap, _∙_}
-use mathlib.Core.Bool.{true, false}
+use mathlib.Core.Path.{_≡_, sym, _∙_}
+use mathlib.Core.Bool.{true}
 use borrow.Author.Tests.{ltb-true}
 use lib.Dec.{ltb}
 use Prim.Native.Nat.{_<_}
 use native.Mathlib.Omega.{arith}
 use Rattle.arithmetic.specs.Settings.{settingsFit}
 use Rattle.arithmetic.specs.SettingsLaws.{accepted}
-use Rattle.arithmetic.specs.Zeroes.{chunkOf, chunkLength}
+use Rattle.arithmetic.specs.Zeroes.{chunkOf}
 use Rattle.arithmetic.specs.ZeroesLaws.{chunk-within}
 use borrow.Author.Needs.{needs}
 use Rattle.arithmetic.proofs.zeroes.next_chunk.Statement.{statement}

@@ -1,6 +1,5 @@
 -- `dock::dock::meets_itself` meets its contract: only a read is asked whether its vector overlaps itself. Assumes nothing.
 use mathlib.Core.Path.{sym, _∙_}
-use Rattle.dock.specs.Dock.{isReadJob}
 use borrow.Author.Needs.{needs}
 use Rattle.dock.proofs.dock.meets_itself.Statement.{statement}
 use Rattle.dock.proofs.dock.meets_itself.Tie as tie

@@ -2,7 +2,6 @@
 use denote.Ref.{now}
 use mathlib.Core.Path.{ap}
 use Rattle.dock.specs.Begin.{Filled}
-use Rattle.dock.specs.Slots.{Stepped}
 use borrow.Author.Needs.{needs}
 use Rattle.dock.proofs.tell.stays.Statement.{statement}
 use Rattle.dock.proofs.tell.stays.Tie as tie

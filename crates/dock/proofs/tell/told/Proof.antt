@@ -1,7 +1,6 @@
 -- `dock::tell::told` meets its contract: each arm is its range of codes in the definition. Assumes nothing.
 use mathlib.Core.Path.{sym, ap, _∙_}
 use Prim.Native.Nat.{ℕ}
-use native.Mathlib.Omega.{arith}
 use borrow.Author.Tests.{ne-eqb, lt-ltb, le-ltb}
 use Rattle.stages.specs.Stages.{toldOf}
 use Rattle.dock.specs.Slots.{answeredOf}

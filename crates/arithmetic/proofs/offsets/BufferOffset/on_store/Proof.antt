@@ -1,9 +1,6 @@
 -- `arithmetic::offsets::BufferOffset::on_store` meets its contract: the sum of start and place, where it fits. Assumes nothing.
-use mathlib.Core.Path.{_≡_}
-use Rattle.arithmetic.specs.Rounding.{sumOf}
 use Rattle.arithmetic.specs.RoundingLaws.{sum-fits, sum-over}
 use Rattle.arithmetic.specs.Offsets.{onStoreOf}
-use Rattle.arithmetic.specs.declared.offsets.Sum.the-variants.{Fits, Over}
 use borrow.Author.Needs.{needs}
 use Rattle.arithmetic.proofs.offsets.BufferOffset.on_store.Statement.{statement}
 use Rattle.arithmetic.proofs.offsets.BufferOffset.on_store.Tie as tie

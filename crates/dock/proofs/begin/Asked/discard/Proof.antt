@@ -1,5 +1,4 @@
 -- `dock::begin::Asked::discard` meets its contract: the fields as given, and an empty vector. Assumes nothing.
-use Rattle.dock.specs.declared.begin.Asked.{Asked}
 use Rattle.stages.specs.declared.state.Job.the-variants.{Discard}
 use Rattle.vectors.specs.declared.vector.IoVector.{IoVector}
 use mathlib.Core.Path.{ap}

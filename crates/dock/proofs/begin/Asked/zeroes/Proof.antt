@@ -4,7 +4,6 @@ use mathlib.Core.List.{[]}
 use Rattle.vectors.specs.Vectors.{vectorOf}
 use Rattle.stages.specs.declared.state.Job.{Job}
 use Rattle.vectors.specs.declared.vector.IoVector.{IoVector}
-use Rattle.dock.specs.declared.begin.Asked.{Asked}
 use borrow.Author.Needs.{needs}
 use Rattle.dock.proofs.begin.Asked.zeroes.Statement.{statement}
 use Rattle.dock.proofs.begin.Asked.zeroes.Tie as tie

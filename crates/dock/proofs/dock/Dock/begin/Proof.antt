@@ -1,6 +1,6 @@
 -- `dock::dock::Dock::begin` meets its contract: the loop finds whether the vector meets another; what the slot's begin leaves is stored where it is placed. Assumes nothing.
 use denote.Ref.{now}
-use mathlib.Core.Path.{_≡_, refl, sym, ap, _∙_}
+use mathlib.Core.Path.{_≡_, refl, ap, _∙_}
 use mathlib.Core.Bool.{Bool, true, false, _||_}
 use mathlib.Core.List.{List, [], _∷_}
 use mathlib.Core.Logic.{_≢_, ⊎-elim}
@@ -17,7 +17,7 @@ use Rattle.stages.specs.declared.state.State.{State}
 use Rattle.dock.specs.declared.begin.Begun.{Begun}
 use Rattle.dock.specs.declared.begin.Begun.the-variants.{Done as NoRequest, Placed, Refused}
 use Rattle.dock.proofs.begin.Begun.{enum}
-use Rattle.dock.specs.Dock.{meetsOf, meetsAt, meetsItself, overlapsOf}
+use Rattle.dock.specs.Dock.{meetsAt, meetsItself, overlapsOf}
 use Rattle.dock.proofs.Steps.{decided-in-share, admitted-slot, begin-placed, begin-unplaced}
 use borrow.Author.Needs.{needs}
 use Rattle.dock.proofs.dock.Dock.begin.Statement.{statement}
