@@ -1,0 +1,446 @@
+// Replays a script of events on standard input: the dock runs over a stand-in store in memory, and a trace is written.
+// A line is an event, or a comment where it is empty or starts with #. Words are apart by single blanks, numbers decimal.
+//   open ROW BOUNCE            by drive profile; the data has 4096 bytes, the scratch 131072
+//   store OFFSET LENGTH BYTE   the store's bytes of that range become BYTE
+//   data OFFSET LENGTH BYTE    likewise the data's; those of a job in flight are to stay as they are, which nothing checks
+//   read OFFSET, write OFFSET  begin, each with up to 17 segments of the data after it, as START LENGTH
+//   zero OFFSET LENGTH, alloc OFFSET LENGTH, discard OFFSET LENGTH   begin
+//   next SLOT                  what the job in SLOT needs
+//   carry SLOT CODE            the store carries out the request that is out in SLOT, once, with that code, any up to 255
+//   carry SLOT CODE CHOICE     likewise, and CHOICE, a number below 2^64, decides what the code leaves open
+//   tell SLOT CODE             an answer to a request that is out is made only with the code of its carry
+//   collect SLOT
+//   show OFFSET LENGTH         at most 64 bytes of the store, as hex
+// The store has 8192 bytes: past its end reads give zeroes, and writes are dropped. With code 0 a read, a write and a zero
+// request are done whole. What is left open is decided for each byte by its offset o on the store:
+//   write or zero request with another code: new where bit o mod 64 of CHOICE is set, else old; without CHOICE all old
+//   discard with any code: byte o mod 8 of CHOICE, the lowest first; without CHOICE as it was
+//   read with another code: its piece gets byte o mod 8 of CHOICE; without CHOICE 0
+// The trace has each event with its answer. Then comes each slot that has a job: `due` and a request that is newly due, `out`
+// and one that was out before, `waiting`, or `answer` and the final answer. A request is its kind, offset+length on the store
+// and where its pieces lie, as start+length of the data or the scratch. Last come the sums of the store's and the data's
+// bytes modulo 65536.
+// A program has no exit status, so the last line tells: `ok` where the script ran to its end; `error: line N: ..` where line
+// N is neither event nor comment, and the run stops there; `error: ..` for a script of more than 65535 bytes, which is not run.
+mod marks; // what became of the request in each slot
+mod script; // a line of the script, taken apart
+mod store; // the stand-in store
+mod trace; // what is printed
+
+use crate::script::Event;
+use crate::script::Verb;
+use crate::script::Verdict;
+use crate::store::Act;
+use crate::store::Carried;
+use crate::trace::text;
+use arithmetic::offsets::StoreOffset;
+use arithmetic::refusals::Outcome;
+use arithmetic::settings::Buffers;
+use arithmetic::settings::Lent;
+use dock::begin::Asked;
+use dock::begin::Beginning;
+use dock::dock::Dock;
+use dock::next::Due;
+use dock::open::Opened;
+use dock::tell::Telling;
+use libc::STDIN_FILENO;
+use vectors::vector::Changed;
+use vectors::vector::IoVector;
+ghost use Prim.Native.Nat.{_<_};
+ghost use lib.ListN.{length};
+
+// The dock between two events, where the next line starts, the number of the last one, and whether that was malformed.
+struct Turn {
+    dock: Dock,
+    at: usize,
+    line: u64,
+    malformed: bool,
+}
+
+// Opens by drive profile. The data lies at address 0, the scratch at 65536: multiples of every memory alignment.
+fn open(row: u64, bounce: u64, data: &[u8], scratch: &[u8]) -> Opened {
+    let data_lent = Lent {
+        address: 0,
+        length: data.len() as u64,
+    };
+    let scratch_lent = Lent {
+        address: 65536,
+        length: scratch.len() as u64,
+    };
+    let buffers = Buffers {
+        data: data_lent,
+        scratch: scratch_lent,
+    };
+    dock::open::open_profile(row as usize, bounce, buffers)
+}
+
+fn opened(o: Opened, marks: &mut [u64]) -> Dock {
+    marks::forget_all(marks);
+    let answer = o.outcome;
+    trace::outcome(answer);
+    o.dock
+}
+
+// The vector of the first so many segments of an event, up to the first that is refused.
+fn asked(e: Event, segments: usize, data_len: usize) -> Changed {
+    let mut changed = Changed {
+        vector: IoVector::new(),
+        outcome: Outcome::Done,
+    };
+    let mut k = 0usize;
+    while k < segments {
+        let last = changed.outcome;
+        if let Outcome::Refused(_) = last {
+            break;
+        }
+        let vector = changed.vector;
+        changed = vector.push(e.segment(k), data_len);
+        k += 1;
+    }
+    changed
+}
+
+fn ended(b: Beginning) -> Dock {
+    let answer = b.answer;
+    trace::begun(answer);
+    b.dock
+}
+
+// Begins a read or a write; a vector that is refused begins none.
+fn begin_vector(dock: Dock, e: Event, data: &[u8], scratch: &mut [u8]) -> Dock {
+    let v = asked(e, e.count / 2, data.len());
+    let fit = v.outcome;
+    if let Outcome::Refused(r) = fit {
+        trace::refused(r);
+        return dock;
+    }
+    let vector = v.vector;
+    let offset = StoreOffset(e.number(0));
+    let verb = e.verb;
+    match verb {
+        Verb::Read => ended(dock.begin(Asked::read(offset, vector), data, scratch)),
+        _ => ended(dock.begin(Asked::write(offset, vector), data, scratch)),
+    }
+}
+
+fn begin(dock: Dock, e: Event, data: &[u8], scratch: &mut [u8]) -> Dock {
+    let verb = e.verb;
+    let offset = StoreOffset(e.number(0));
+    let n = e.number(1);
+    match verb {
+        Verb::Read | Verb::Write => begin_vector(dock, e, data, scratch),
+        Verb::Zero => ended(dock.begin(Asked::zeroes(false, offset, n), data, scratch)),
+        Verb::Alloc => ended(dock.begin(Asked::zeroes(true, offset, n), data, scratch)),
+        Verb::Discard => ended(dock.begin(Asked::discard(offset, n), data, scratch)),
+        _ => dock,
+    }
+}
+
+fn next(dock: Dock, slot: usize, data: &[u8], scratch: &[u8]) {
+    trace::due(
+        dock,
+        slot,
+        dock.next(slot, data, scratch),
+        data.len(),
+        scratch.len(),
+    );
+}
+
+// Whether a request is out in `slot`.
+fn is_out(dock: Dock, slot: usize, data: &[u8], scratch: &[u8]) -> bool {
+    match dock.next(slot, data, scratch) {
+        Due::Make(_) => true,
+        _ => false,
+    }
+}
+
+// Whether a code may be told: an answer to a request that is out is the code that the store carried it out with.
+fn may_tell(dock: Dock, slot: usize, code: u8, marks: &[u64], data: &[u8], scratch: &[u8]) -> bool {
+    if 199 < code {
+        return true;
+    }
+    if is_out(dock, slot, data, scratch) {
+        return marks::is_carried_with(marks, slot, code);
+    }
+    true
+}
+
+// An accepted tell ends the request: the next one of its slot is new.
+fn told(t: Telling, slot: usize, marks: &mut [u64]) -> Dock {
+    let answer = t.outcome;
+    trace::outcome(answer);
+    if let Outcome::Refused(_) = answer {
+        return t.dock;
+    }
+    marks::forget(marks, slot);
+    t.dock
+}
+
+fn tell(
+    dock: Dock,
+    slot: usize,
+    code: u8,
+    marks: &mut [u64],
+    data: &mut [u8],
+    scratch: &mut [u8],
+) -> Dock {
+    if !may_tell(dock, slot, code, marks, data, scratch) {
+        text(b" not the code of its carry");
+        return dock;
+    }
+    told(dock.tell(slot, code, data, scratch), slot, marks)
+}
+
+fn collect(dock: Dock, slot: usize, data: &[u8], scratch: &[u8]) -> Dock {
+    let c = dock.collect(slot, data, scratch);
+    let answer = c.answer;
+    trace::collected(answer);
+    c.dock
+}
+
+// Carries out the request that is out in `slot`, once, and notes the code.
+fn carry(
+    dock: Dock,
+    slot: usize,
+    act: Act,
+    marks: &mut [u64],
+    store: &mut [u8],
+    data: &mut [u8],
+    scratch: &mut [u8],
+) {
+    if marks::is_carried(marks, slot) {
+        text(b" carried out already");
+        return;
+    }
+    match store::carry(dock, slot, act, store, data, scratch) {
+        Carried::Done => {
+            marks::carry(marks, slot, act.code);
+            text(b" done");
+        }
+        Carried::NoRequest => text(b" no request is out"),
+    }
+}
+
+// A number that the script's reader found to be at most 255.
+fn byte(n: u64) -> u8 {
+    (n % 256) as u8
+}
+
+// What a carry asks of the store.
+fn act_of(e: Event) -> Act {
+    Act {
+        code: byte(e.number(1)),
+        choice: e.number(2),
+        chooses: e.count == 3,
+    }
+}
+
+fn fill(bytes: &mut [u8], e: Event) {
+    store::fill(bytes, e.number(0), e.number(1), byte(e.number(2)));
+    text(b" done");
+}
+
+// The answer of an event that leaves the dock as it is, printed.
+fn aside(
+    dock: Dock,
+    e: Event,
+    marks: &mut [u64],
+    store: &mut [u8],
+    data: &mut [u8],
+    scratch: &mut [u8],
+) {
+    let verb = e.verb;
+    let slot = e.number(0) as usize;
+    match verb {
+        Verb::Store => fill(store, e),
+        Verb::Data => fill(data, e),
+        Verb::Show => trace::bytes(store, e.number(0), e.number(1)),
+        Verb::Next => next(dock, slot, data, scratch),
+        Verb::Carry => carry(dock, slot, act_of(e), marks, store, data, scratch),
+        _ => {}
+    }
+}
+
+// The event's answer, printed, and the dock after it.
+fn event(
+    dock: Dock,
+    e: Event,
+    marks: &mut [u64],
+    store: &mut [u8],
+    data: &mut [u8],
+    scratch: &mut [u8],
+) -> Dock {
+    let verb = e.verb;
+    let slot = e.number(0) as usize;
+    match verb {
+        Verb::Open => opened(open(e.number(0), e.number(1), data, scratch), marks),
+        Verb::Tell => tell(dock, slot, byte(e.number(1)), marks, data, scratch),
+        Verb::Collect => collect(dock, slot, data, scratch),
+        Verb::Read | Verb::Write | Verb::Zero | Verb::Alloc | Verb::Discard => begin(
+            dock,
+            e,
+            data,
+            scratch,
+        ),
+        _ => {
+            aside(dock, e, marks, store, data, scratch);
+            dock
+        }
+    }
+}
+
+fn is_comment(line: &[u8]) -> bool {
+    if line.len() == 0 {
+        return true;
+    }
+    line[0] == b'#'
+}
+
+fn with_dock(mut t: Turn, dock: Dock) -> Turn {
+    t.dock = dock;
+    t
+}
+
+fn stopped(mut t: Turn) -> Turn {
+    t.malformed = true;
+    t
+}
+
+// An event: its line is copied, with its answer, and what the dock then needs.
+fn perform(
+    dock: Dock,
+    e: Event,
+    line: &[u8],
+    marks: &mut [u64],
+    store: &mut [u8],
+    data: &mut [u8],
+    scratch: &mut [u8],
+) -> Dock {
+    text(line);
+    text(b":");
+    let after = event(dock, e, marks, store, data, scratch);
+    text(b"\n");
+    trace::state(after, marks, store, data, scratch);
+    after
+}
+
+// One line: a comment is copied, an event performed; any other line is an error.
+fn play(
+    t: Turn,
+    line: &[u8],
+    marks: &mut [u64],
+    store: &mut [u8],
+    data: &mut [u8],
+    scratch: &mut [u8],
+) -> Turn {
+    if is_comment(line) {
+        text(line);
+        text(b"\n");
+        return t;
+    }
+    let parsed = script::parse(line);
+    let verdict = parsed.verdict;
+    let e = parsed.event;
+    if let Verdict::Bad(f) = verdict {
+        trace::malformed(t.line, line, f);
+        return stopped(t);
+    }
+    let dock = perform(t.dock, e, line, marks, store, data, scratch);
+    with_dock(t, dock)
+}
+
+// The turn past a line that ends at `end`, of a script of n bytes.
+fn passed(mut t: Turn, end: usize, n: usize) -> Turn {
+    t.line = std::num::wrapping_add_u64(t.line, 1);
+    t.at = if end < n { end + 1 } else { n };
+    t
+}
+
+// One turn: the line that starts where the turn says.
+fn step(
+    t: Turn,
+    script: &[u8],
+    marks: &mut [u64],
+    store: &mut [u8],
+    data: &mut [u8],
+    scratch: &mut [u8],
+) -> Turn
+    requires { ⌜ t .at < length (now script) ⌝ }
+{
+    let at = t.at;
+    let end = script::line_end(script, at);
+    let next = passed(t, end, script.len());
+    play(next, &script[at..end], marks, store, data, scratch)
+}
+
+// No dock is open at the start: every begin is refused.
+fn start(data: &[u8], scratch: &[u8]) -> Turn {
+    let first = open(6, 0, data, scratch);
+    let dock = first.dock;
+    Turn {
+        dock,
+        at: 0,
+        line: 0,
+        malformed: false,
+    }
+}
+
+// The lines, in order, up to the first that is no event: at most as many as there are bytes. Whether there was one.
+fn run(
+    script: &[u8],
+    marks: &mut [u64],
+    store: &mut [u8],
+    data: &mut [u8],
+    scratch: &mut [u8],
+) -> bool {
+    let mut t = start(data, scratch);
+    let n = script.len();
+    let mut i = 0usize;
+    while i < n {
+        if t.malformed {
+            break;
+        }
+        if n <= t.at {
+            break;
+        }
+        i += 1;
+        t = step(t, script, marks, store, data, scratch);
+    }
+    t.malformed
+}
+
+fn store_bytes() -> [u8; 8192] {
+    [0u8; 8192]
+}
+
+fn data_bytes() -> [u8; 4096] {
+    [0u8; 4096]
+}
+
+// Eight bounce buffers of at most 16384 bytes: as many as each drive profile needs.
+fn scratch_bytes() -> [u8; 131072] {
+    [0u8; 131072]
+}
+
+// Runs a whole script, and says at the end that it was whole.
+fn replay(script: &[u8]) {
+    let mut store = store_bytes();
+    let mut data = data_bytes();
+    let mut scratch = scratch_bytes();
+    let mut marks = [0u64; 8];
+    if run(script, &mut marks, &mut store, &mut data, &mut scratch) {
+        return;
+    }
+    text(b"ok\n");
+}
+
+// Reads a script on standard input, and replays it.
+pub fn replay_input() {
+    let mut script = io::large_buffer();
+    let n = io::read_full(STDIN_FILENO, &mut script);
+    if n == script.len() {
+        trace::too_long();
+        return;
+    }
+    replay(&script[..n]);
+}
