@@ -1,0 +1,84 @@
+//! Two sides fed with the same list, compared after every event.
+
+use crate::departures;
+use crate::event::Event;
+use crate::flight::Flight;
+use crate::plain::Plain;
+use crate::session::{Observed, Session};
+use crate::side::Side;
+use crate::store::Store;
+use crate::trace;
+
+/// The first difference of a list.
+#[derive(Clone, Debug, PartialEq, Eq)]
+pub struct Difference {
+    /// The event after which it shows.
+    pub at: usize,
+    pub what: String,
+}
+
+struct Pair<A, B> {
+    left: Session<A>,
+    right: Session<B>,
+    plain: [Plain; 2],
+}
+
+impl<A: Side, B: Side> Pair<A, B> {
+    /// What differs after the event: answers, what slots need, bytes; or what breaks demand 3 on either side.
+    fn step(&mut self, event: &Event) -> (Observed, Option<String>) {
+        let left = self.left.perform(event);
+        let right = self.right.perform(event);
+        let differs = answers(&left, &right).or_else(|| self.bytes());
+        let broken = differs
+            .or_else(|| named("left", self.plain[0].feed(event, &left, &self.left.side)))
+            .or_else(|| named("right", self.plain[1].feed(event, &right, &self.right.side)));
+        (left, broken)
+    }
+
+    fn bytes(&self) -> Option<String> {
+        let (left, right) = (&self.left.side, &self.right.side);
+        if let Some(at) = left.store().difference(right.store()) {
+            return Some(format!("store offset {at}: {} and {}", left.store().byte(at), right.store().byte(at)));
+        }
+        let (a, b) = (left.data(), right.data());
+        if a == b {
+            return None;
+        }
+        let at = a.iter().zip(b).position(|(x, y)| x != y)?;
+        Some(format!("data {at}: {} and {}", a[at], b[at]))
+    }
+}
+
+fn named(side: &str, what: Option<String>) -> Option<String> {
+    what.map(|text| format!("{side} against the plain byte store: {text}"))
+}
+
+fn answers(left: &Observed, right: &Observed) -> Option<String> {
+    if left.answer != right.answer {
+        return Some(format!("answers{} and{}", trace::answer(&left.answer), trace::answer(&right.answer)));
+    }
+    if left.views == right.views {
+        return None;
+    }
+    let text = |seen: &Observed| seen.views.iter().map(trace::view).collect::<Vec<_>>().join("; ");
+    Some(format!("[{}] and [{}]", text(left), text(right)))
+}
+
+/// Feeds the list to both sides, whose stores hold `content`, up to the first difference. A list that goes where imago and
+/// document 01 depart is compared up to there.
+pub fn compare<A: Side, B: Side>(events: &[Event], left: A, right: B, content: &Store) -> Option<Difference> {
+    let plain = [Plain::new(content.clone()), Plain::new(content.clone())];
+    let mut pair = Pair { left: Session::new(left), right: Session::new(right), plain };
+    let mut flight = Flight::default();
+    for (at, event) in events.iter().enumerate() {
+        if !departures::is_comparable(event, &flight) {
+            return None;
+        }
+        let (seen, what) = pair.step(event);
+        if let Some(what) = what {
+            return Some(Difference { at, what });
+        }
+        flight.note(event, &seen.answer);
+    }
+    None
+}

@@ -1,0 +1,285 @@
+//! Random lists of events: ranges that collide, offsets near 2^64, codes of every kind, and noise.
+
+use crate::departures;
+use crate::document;
+use crate::event::{Event, REPLAY_DATA, REPLAY_STORE};
+use crate::flight::Flight;
+use crate::imago_side::ImagoSide;
+use crate::random::Random;
+use crate::session::{Observed, Session, View};
+use crate::side::{Act, Alignments, Begin, Due, Job, Lent, Opening, Segment, ROWS, SLOTS};
+use crate::store::Store;
+
+/// The buffers and the store that lists are made for.
+#[derive(Clone, Copy)]
+pub struct World {
+    pub data: u64,
+    pub low: usize,
+    pub high: usize,
+    /// Only what a script of `replay` can say: drive rows and its buffers.
+    pub scripts: bool,
+}
+
+pub const SCRIPTS: World = World { data: REPLAY_DATA, low: REPLAY_STORE, high: 0, scripts: true };
+pub const MEMORY: World = World { data: 8192, low: 16_384, high: 8192, scripts: false };
+
+impl World {
+    pub fn store(&self) -> Store {
+        Store::new(self.low, self.high)
+    }
+}
+
+/// A list while it is made: imago's side runs along, so that events fit what is out.
+pub struct Maker {
+    random: Random,
+    world: World,
+    session: Session<ImagoSide>,
+    flight: Flight,
+    seen: Observed,
+    pub events: Vec<Event>,
+}
+
+/// A random list.
+pub fn random_list(seed: u64, list: u64, world: World) -> Vec<Event> {
+    let mut maker = Maker::new(Random::new(seed, list), world);
+    maker.open();
+    maker.content();
+    let events = 10 + maker.random.below(50);
+    for _ in 0..events {
+        maker.any();
+    }
+    maker.drain();
+    maker.events
+}
+
+impl Maker {
+    pub fn new(random: Random, world: World) -> Self {
+        let session = Session::new(ImagoSide::new(world.data as usize, world.store()));
+        let seen = Observed { answer: crate::session::Answer::Done, views: Vec::new() };
+        Maker { random, world, session, flight: Flight::default(), seen, events: Vec::new() }
+    }
+
+    /// The event goes into the list, unless imago and document 01 depart there.
+    pub fn push(&mut self, event: Event) {
+        if !departures::is_comparable(&event, &self.flight) {
+            return;
+        }
+        self.seen = self.session.perform(&event);
+        self.flight.note(&event, &self.seen.answer);
+        self.events.push(event);
+    }
+
+    fn power(&mut self, most: u64) -> u64 {
+        1 << self.random.below(most + 1)
+    }
+
+    fn alignments(&mut self) -> Alignments {
+        if !self.random.once_in(3) {
+            return self.random.pick(&ROWS);
+        }
+        Alignments::new(self.power(13), self.power(12), self.power(13), self.power(16))
+    }
+
+    /// A share that fits: the least, a larger one, or imago's.
+    fn bounce(&mut self, align: &Alignments) -> u64 {
+        let least = (2 * align.zero + 2 * align.length()).div_ceil(align.length()) * align.length();
+        let more = least + align.length() * self.random.below(32);
+        match self.random.below(8) {
+            0 => least,
+            1 => document::LONGEST_BOUNCE,
+            _ => more.clamp(least, document::LONGEST_BOUNCE),
+        }
+    }
+
+    fn open(&mut self) {
+        if self.world.scripts {
+            let row = if self.random.once_in(40) { 6 } else { self.random.below(6) };
+            let small = ROWS.get(row as usize).map_or(0, |a| 2 * a.zero + 2 * a.length());
+            let bounce = if self.random.once_in(8) { small } else { 16_384 };
+            let bounce = if self.random.once_in(60) { self.random.pick(&[0, 1, 16_385, 131_072]) } else { bounce };
+            return self.push(Event::OpenRow { row, bounce });
+        }
+        let mut align = self.alignments();
+        let bounce = self.bounce(&align);
+        if self.random.once_in(50) {
+            align.zero = self.random.pick(&[0, 3, 131_072]);
+        }
+        let address = self.random.pick(&[0, align.mem, align.mem * 3, 1, 512, 513]);
+        let data = Lent { address, length: self.world.data };
+        let length = 8 * bounce - u64::from(self.random.once_in(60));
+        let scratch = Lent { address: 65_536 * 4, length };
+        self.push(Event::Open(Opening { align, bounce, data, scratch }));
+    }
+
+    /// What the store and the data hold before the first job, whatever they held before.
+    pub fn content(&mut self) {
+        let bytes = self.random.next().to_le_bytes();
+        self.push(Event::Store { offset: 0, length: self.world.low as u64, byte: bytes[0] });
+        self.push(Event::Data { offset: 0, length: self.world.data, byte: bytes[1] });
+        for _ in 0..1 + self.random.below(4) {
+            let (offset, byte) = (self.random.below(self.world.low as u64), self.random.below(256) as u8);
+            let length = self.random_length(4096);
+            self.push(Event::Store { offset, length, byte });
+        }
+        if self.world.high > 0 {
+            let byte = self.random.below(256) as u8;
+            self.push(Event::Store { offset: u64::MAX - 4096, length: 4096, byte });
+        }
+        for _ in 0..2 + self.random.below(6) {
+            self.fill();
+        }
+    }
+
+    fn random_length(&mut self, most: u64) -> u64 {
+        1 + self.random.below(most)
+    }
+
+    fn fill(&mut self) {
+        let offset = self.random.below(self.world.data);
+        let (length, byte) = (self.random_length(1024), self.random.below(256) as u8);
+        self.push(Event::Data { offset, length, byte });
+    }
+
+    /// A number near a multiple of one of the alignments.
+    fn near(&mut self, most: u64) -> u64 {
+        let a = self.flight.opening.align;
+        let unit = self.random.pick(&[a.req, a.req, a.length(), a.zero, a.discard, 512]).max(1);
+        let base = unit * self.random.below((most / unit).clamp(1, 5));
+        let shift = self.random.pick(&[0, 0, 0, 1, 10, 100, unit - 1, unit / 2]);
+        base + shift
+    }
+
+    fn offset(&mut self) -> u64 {
+        let near = self.near(self.world.low as u64);
+        if self.random.once_in(8) {
+            u64::MAX - near
+        } else {
+            near
+        }
+    }
+
+    fn range_job(&mut self) -> Begin {
+        let job = self.random.pick(&[Job::Zeroes, Job::Zeroes, Job::AllocatedZeroes, Job::Discard]);
+        let offset = self.offset();
+        let length = match self.random.below(12) {
+            0 => self.random.pick(&[0, 1, u64::MAX - offset, u64::MAX, 1 << 20, 3 << 20]),
+            _ => self.near(self.world.low as u64) + self.near(4096) / 2,
+        };
+        Begin::range(job, offset, length)
+    }
+
+    /// Segments one after the other, with gaps, aligned or not.
+    fn segments(&mut self) -> Vec<Segment> {
+        let l = self.flight.opening.align.length().clamp(1, self.world.data);
+        let aligned = self.random.once_in(2);
+        let count = if self.random.once_in(30) { 15 + self.random.below(3) } else { 1 + self.random.below(3) };
+        let unit = if aligned { l } else { 1 };
+        let mut start = self.random.below(self.world.data) / unit * unit;
+        let longest = if count > 3 { unit * 8 } else { self.near(2048).max(unit) };
+        let mut segments = Vec::new();
+        for _ in 0..count {
+            let length = self.random_length(longest).div_ceil(unit) * unit;
+            segments.push(Segment { start, length });
+            start += length + unit * self.random.below(3);
+        }
+        segments
+    }
+
+    fn vector_job(&mut self) -> Begin {
+        let job = self.random.pick(&[Job::Read, Job::Write, Job::Write]);
+        let offset = self.offset();
+        let fits = |s: &Vec<Segment>, m: &Maker| document::vector(s, m.world.data) == 0;
+        let apart = |s: &Vec<Segment>, m: &Maker| !s.iter().any(|s| m.flight.uses(s));
+        let mut segments = self.segments();
+        for _ in 0..6 {
+            if fits(&segments, self) && apart(&segments, self) {
+                break;
+            }
+            segments = self.segments();
+        }
+        if self.random.once_in(60) {
+            segments.clear();
+        }
+        Begin::vector(job, offset, segments)
+    }
+
+    fn begin(&mut self) {
+        let begin = if self.random.below(3) == 0 { self.range_job() } else { self.vector_job() };
+        self.push(Event::Begin(begin));
+    }
+
+    fn code(&mut self) -> u8 {
+        match self.random.below(20) {
+            0..=13 => 0,
+            14..=16 => 1,
+            _ => self.random.pick(&[2, 5, 38, 95, 199]),
+        }
+    }
+
+    fn act(&mut self) -> Act {
+        let word = self.random.next();
+        let choice = self.random.pick(&[None, Some(word), Some(word), Some(u64::MAX), Some(0x5555_5555_5555_5555)]);
+        let code = if self.random.once_in(200) { 200 } else { self.code() };
+        Act { code, choice }
+    }
+
+    /// What the job of a view needs: a carry, the tell of its code, or a collect.
+    fn serve(&mut self, view: &View) {
+        let slot = view.slot as u64;
+        match (&view.due, self.session.carried(view.slot)) {
+            (Due::Make(_), None) => {
+                let act = self.act();
+                self.push(Event::Carry { slot, act });
+            }
+            (Due::Make(_), Some(code)) => self.push(Event::Tell { slot, code }),
+            (Due::Answer(_), _) => self.push(Event::Collect(slot)),
+            _ => {}
+        }
+    }
+
+    fn serve_any(&mut self) {
+        if self.seen.views.is_empty() {
+            return self.begin();
+        }
+        let at = self.random.below(self.seen.views.len() as u64) as usize;
+        let view = self.seen.views[at].clone();
+        self.serve(&view);
+    }
+
+    /// An event that fits nothing in particular.
+    fn noise(&mut self) {
+        let slot = self.random.pick(&[0, 1, 2, 3, 4, 5, 6, 7, 8, u64::MAX]);
+        let code = self.random.pick(&[0, 1, 5, 200, 255]);
+        let event = match self.random.below(5) {
+            0 => Event::Next(slot),
+            1 => Event::Tell { slot, code },
+            2 => Event::Collect(slot),
+            3 => Event::Show { offset: self.near(self.world.low as u64), length: self.random.below(65) },
+            _ => Event::Carry { slot, act: Act { code: code.min(5), choice: None } },
+        };
+        self.push(event);
+    }
+
+    pub fn any(&mut self) {
+        match self.random.below(20) {
+            0..=5 => self.begin(),
+            6 => self.fill(),
+            7 => self.noise(),
+            _ => self.serve_any(),
+        }
+    }
+
+    /// Serves every job to its end; one whose carry is no answer stays.
+    pub fn drain(&mut self) {
+        for _ in 0..40 * SLOTS {
+            let views = self.seen.views.clone();
+            let Some(view) = views.iter().find(|v| self.can_serve(v)) else { return };
+            self.serve(view);
+        }
+    }
+
+    fn can_serve(&self, view: &View) -> bool {
+        let stuck = self.session.carried(view.slot).is_some_and(|code| code >= document::FIRST_NO_ANSWER);
+        !stuck && !matches!(view.due, Due::Waiting)
+    }
+}

@@ -1,0 +1,192 @@
+//! Planted faults: a side that is wrong in one thing. A run that does not see one shows nothing.
+
+use crate::side::{Act, Begin, Begun, Due, Kind, Opening, Piece, Request, Side, SLOTS};
+use crate::store::Store;
+use std::ops::Range;
+
+#[derive(Clone, Copy, Debug, PartialEq, Eq)]
+pub enum Fault {
+    /// A request is one byte longer.
+    LongRequest,
+    /// A piece lies one byte further on.
+    ShiftedPiece,
+    /// A failure other than 2 ends a job with 2.
+    OtherAnswer,
+    /// A refusal 207 is 206.
+    OtherRefusal,
+    /// A job that waits shows a request.
+    NoWait,
+    /// A write in slot 1 is shown only once slot 0 is free.
+    LongWait,
+    /// A write also changes the byte before its range.
+    NeighbourByte,
+    /// A write told 0 is not on the store.
+    LostWrite,
+    /// A read leaves one wrong byte in the data.
+    WrongRead,
+    /// After answer 1 only the middle of a zero job is zeroed.
+    MiddleOnly,
+    /// Answer 1 to a discard ends its job with 1.
+    DiscardFails,
+    /// A begin takes the highest free slot.
+    OtherSlot,
+}
+
+pub const FAULTS: [(&str, Fault); 12] = [
+    ("long-request", Fault::LongRequest),
+    ("shifted-piece", Fault::ShiftedPiece),
+    ("other-answer", Fault::OtherAnswer),
+    ("other-refusal", Fault::OtherRefusal),
+    ("no-wait", Fault::NoWait),
+    ("long-wait", Fault::LongWait),
+    ("neighbour-byte", Fault::NeighbourByte),
+    ("lost-write", Fault::LostWrite),
+    ("wrong-read", Fault::WrongRead),
+    ("middle-only", Fault::MiddleOnly),
+    ("discard-fails", Fault::DiscardFails),
+    ("other-slot", Fault::OtherSlot),
+];
+
+/// A side with a fault, or none.
+pub struct Planted<S> {
+    side: S,
+    fault: Option<Fault>,
+    /// By slot, the middle of a zero job whose zero request was answered 1.
+    middles: [Option<Range<u64>>; SLOTS],
+    /// By slot, whether a discard was answered 1.
+    discards: [bool; SLOTS],
+}
+
+impl<S: Side> Planted<S> {
+    pub fn new(side: S, fault: Option<Fault>) -> Self {
+        Planted { side, fault, middles: Default::default(), discards: Default::default() }
+    }
+
+    fn has(&self, fault: Fault) -> bool {
+        self.fault == Some(fault)
+    }
+
+    fn request(&self, mut r: Request) -> Request {
+        if self.has(Fault::LongRequest) {
+            r.length += 1;
+        }
+        if let (true, Some(Piece::Data(s) | Piece::Scratch(s))) = (self.has(Fault::ShiftedPiece), r.pieces.last_mut()) {
+            s.start += 1;
+        }
+        r
+    }
+
+    /// Final answers, with the fault.
+    fn answer(&self, slot: usize, code: u8) -> u8 {
+        match self.fault {
+            Some(Fault::OtherAnswer) if (3..200).contains(&code) => 2,
+            Some(Fault::DiscardFails) if self.discards[slot] => 1,
+            _ => code,
+        }
+    }
+
+    /// The request that is out in `slot`, as the side without fault has it.
+    fn out(&self, slot: usize) -> Option<(Kind, Range<u64>)> {
+        match self.side.next(slot) {
+            Due::Make(r) => Some((r.kind, r.offset..r.offset + r.length)),
+            _ => None,
+        }
+    }
+
+    fn note_unsupported(&mut self, slot: usize) {
+        match self.out(slot) {
+            Some((Kind::Zero | Kind::AllocatedZero, range)) => self.middles[slot] = Some(range),
+            Some((Kind::Discard, _)) => self.discards[slot] = true,
+            _ => {}
+        }
+    }
+}
+
+fn disjoint(a: &Range<u64>, b: &Range<u64>) -> bool {
+    a.end <= b.start || b.end <= a.start
+}
+
+impl<S: Side> Side for Planted<S> {
+    fn open(&mut self, opening: &Opening) -> u8 {
+        self.side.open(opening)
+    }
+
+    fn begin(&mut self, begin: &Begin) -> Begun {
+        match self.side.begin(begin) {
+            Begun::Refused(207) if self.has(Fault::OtherRefusal) => Begun::Refused(206),
+            Begun::Slot(slot) => {
+                (self.middles[slot], self.discards[slot]) = (None, false);
+                Begun::Slot(if self.has(Fault::OtherSlot) { SLOTS - 1 - slot } else { slot })
+            }
+            begun => begun,
+        }
+    }
+
+    fn next(&self, slot: usize) -> Due {
+        match self.side.next(slot) {
+            Due::Waiting if self.has(Fault::NoWait) => {
+                Due::Make(Request { kind: Kind::Discard, offset: 0, length: 1, pieces: Vec::new() })
+            }
+            Due::Make(r) if self.has(Fault::LongWait) && slot == 1 && r.kind == Kind::Write => {
+                match self.side.next(0) {
+                    Due::Refused(_) => Due::Make(r),
+                    _ => Due::Waiting,
+                }
+            }
+            Due::Make(r) => Due::Make(self.request(r)),
+            Due::Answer(code) => Due::Answer(self.answer(slot, code)),
+            due => due,
+        }
+    }
+
+    fn carry(&mut self, slot: usize, act: Act) {
+        let Some((kind, range)) = self.out(slot) else { return };
+        let before = self.side.store().clone();
+        self.side.carry(slot, act);
+        if kind != Kind::Write {
+            return;
+        }
+        let outside = self.middles[slot].as_ref().is_some_and(|middle| disjoint(middle, &range));
+        match self.fault {
+            Some(Fault::LostWrite) => *self.side.store_mut() = before,
+            Some(Fault::MiddleOnly) if outside => *self.side.store_mut() = before,
+            Some(Fault::NeighbourByte) => self.side.store_mut().each(range.start.saturating_sub(1), 1, |_, b| *b ^= 1),
+            _ => {}
+        }
+    }
+
+    fn tell(&mut self, slot: usize, code: u8) -> u8 {
+        let out = self.out(slot);
+        if code == 1 {
+            self.note_unsupported(slot);
+        }
+        let before = self.side.data().to_vec();
+        let told = self.side.tell(slot, code);
+        let reads = matches!(out, Some((Kind::Read, _))) && self.side.data() != before;
+        if reads && self.has(Fault::WrongRead) {
+            let at = self.side.data().iter().zip(&before).position(|(a, b)| a != b).expect("the data changed");
+            self.side.data_mut()[at] ^= 1;
+        }
+        told
+    }
+
+    fn collect(&mut self, slot: usize) -> Result<u8, u8> {
+        self.side.collect(slot).map(|code| self.answer(slot, code))
+    }
+
+    fn store(&self) -> &Store {
+        self.side.store()
+    }
+
+    fn store_mut(&mut self) -> &mut Store {
+        self.side.store_mut()
+    }
+
+    fn data(&self) -> &[u8] {
+        self.side.data()
+    }
+
+    fn data_mut(&mut self) -> &mut [u8] {
+        self.side.data_mut()
+    }
+}

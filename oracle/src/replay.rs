@@ -1,0 +1,87 @@
+//! The program `replay` as the other side: it is given scripts, and its trace is compared with the one that imago's side writes.
+
+use crate::compare::Difference;
+use crate::departures;
+use crate::event::Event;
+use crate::flight::Flight;
+use crate::imago_side::ImagoSide;
+use crate::lists::SCRIPTS;
+use crate::plain::Plain;
+use crate::session::Session;
+use crate::trace;
+use std::io::{self, Write};
+use std::path::PathBuf;
+use std::process::{Command, Stdio};
+use std::thread;
+
+/// The most bytes of a script that `replay` takes.
+pub const LONGEST_SCRIPT: usize = 65_535;
+
+pub struct Replay {
+    pub program: PathBuf,
+}
+
+/// A list as a script.
+pub fn script(events: &[Event]) -> String {
+    events.iter().map(|e| format!("{e}\n")).collect()
+}
+
+/// What imago's side writes for a list: for each event its lines, and what breaks demand 3, if anything does.
+pub struct ImagoTrace {
+    pub lines: Vec<String>,
+    pub broken: Option<Difference>,
+}
+
+/// imago's trace of a list, up to where imago and document 01 depart.
+pub fn imago_trace(events: &[Event]) -> ImagoTrace {
+    let mut session = Session::new(ImagoSide::new(SCRIPTS.data as usize, SCRIPTS.store()));
+    let mut plain = Plain::new(SCRIPTS.store());
+    let mut flight = Flight::default();
+    let mut traced = ImagoTrace { lines: Vec::with_capacity(events.len()), broken: None };
+    for (at, event) in events.iter().enumerate() {
+        if !departures::is_comparable(event, &flight) {
+            break;
+        }
+        let seen = session.perform(event);
+        if let Some(what) = plain.feed(event, &seen, &session.side) {
+            traced.broken.get_or_insert(Difference { at, what });
+        }
+        flight.note(event, &seen.answer);
+        traced.lines.push(trace::event(event, &seen, &session.side));
+    }
+    traced
+}
+
+impl Replay {
+    /// The trace of a script.
+    pub fn run(&self, script: String) -> io::Result<String> {
+        let mut child = Command::new(&self.program).stdin(Stdio::piped()).stdout(Stdio::piped()).spawn()?;
+        let mut stdin = child.stdin.take().expect("stdin is piped");
+        let writer = thread::spawn(move || stdin.write_all(script.as_bytes()));
+        let output = child.wait_with_output()?;
+        writer.join().expect("the writer does not panic")?;
+        Ok(String::from_utf8_lossy(&output.stdout).into_owned())
+    }
+
+    /// The first event whose lines differ, of a list that is run alone.
+    pub fn compare(&self, events: &[Event]) -> io::Result<Option<Difference>> {
+        let traced = imago_trace(events);
+        let text = self.run(script(&events[..traced.lines.len()]))?;
+        Ok(traced.broken.or_else(|| first_difference(&traced.lines, &text)))
+    }
+}
+
+/// Where a trace of `replay` departs from imago's lines.
+pub fn first_difference(lines: &[String], text: &str) -> Option<Difference> {
+    let mut rest = text;
+    for (at, expected) in lines.iter().enumerate() {
+        match rest.strip_prefix(expected.as_str()) {
+            Some(after) => rest = after,
+            None => {
+                let got = &rest[..expected.len().min(rest.len())];
+                return Some(Difference { at, what: format!("imago's side\n{expected}replay\n{got}") });
+            }
+        }
+    }
+    (rest != "ok\n").then(|| Difference { at: lines.len(), what: format!("replay's last line is {rest:?}") })
+}

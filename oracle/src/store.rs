@@ -1,0 +1,118 @@
+//! The stand-in store of both sides: bytes in memory at the lowest and the highest offsets, zero elsewhere.
+//!
+//! Writes outside the two windows are dropped. What a code leaves open is chosen by the carry's choice, for each byte by its
+//! offset o on the store: bit o mod 64 says whether the byte of a failed write or zero request is new, byte o mod 8 what a byte
+//! is where it may be anything.
+
+use crate::side::Act;
+
+#[derive(Clone, Debug, PartialEq, Eq)]
+pub struct Store {
+    low: Vec<u8>,
+    /// The window that ends at 2^64.
+    high: Vec<u8>,
+}
+
+/// Whether a choice makes the byte at offset o new.
+fn is_new(choice: u64, o: u64) -> bool {
+    (choice >> (o % 64)) & 1 == 1
+}
+
+/// The byte of a choice at offset o.
+fn chosen(choice: u64, o: u64) -> u8 {
+    (choice >> (o % 8 * 8)) as u8
+}
+
+impl Act {
+    /// Where a write or a zero request makes bytes new: all with code 0, those of the choice with another.
+    pub fn makes_new(&self, o: u64) -> bool {
+        self.code == 0 || is_new(self.choice.unwrap_or(0), o)
+    }
+
+    /// What a discard, whatever its code, leaves at offset o; as it was without a choice.
+    pub fn discarded(&self, o: u64) -> Option<u8> {
+        self.choice.map(|choice| chosen(choice, o))
+    }
+}
+
+impl Store {
+    pub fn new(low: usize, high: usize) -> Self {
+        Store { low: vec![0; low], high: vec![0; high] }
+    }
+
+    fn high_start(&self) -> u64 {
+        (u64::MAX - self.high.len() as u64).wrapping_add(1)
+    }
+
+    /// Each byte of the range that lies in a window, with its offset.
+    pub fn each(&mut self, at: u64, length: u64, mut f: impl FnMut(u64, &mut u8)) {
+        let end = at as u128 + length as u128;
+        let high_start = self.high_start();
+        for (start, window) in [(0, &mut self.low), (high_start, &mut self.high)] {
+            let from = at.max(start);
+            let to = end.min(start as u128 + window.len() as u128);
+            if (from as u128) < to {
+                let part = (from - start) as usize..(to - start as u128) as usize;
+                for (i, byte) in window[part].iter_mut().enumerate() {
+                    f(from + i as u64, byte);
+                }
+            }
+        }
+    }
+
+    pub fn byte(&self, o: u64) -> u8 {
+        if o < self.low.len() as u64 {
+            return self.low[o as usize];
+        }
+        if self.high.is_empty() || o < self.high_start() {
+            return 0;
+        }
+        self.high[(o - self.high_start()) as usize]
+    }
+
+    /// What a read leaves in its piece, whose bytes lie from `at` on.
+    pub fn read(&self, at: u64, act: Act, piece: &mut [u8]) {
+        for (i, byte) in piece.iter_mut().enumerate() {
+            let o = at + i as u64;
+            *byte = if act.code == 0 { self.byte(o) } else { chosen(act.choice.unwrap_or(0), o) };
+        }
+    }
+
+    pub fn write(&mut self, at: u64, act: Act, piece: &[u8]) {
+        self.each(at, piece.len() as u64, |o, byte| {
+            if act.makes_new(o) {
+                *byte = piece[(o - at) as usize];
+            }
+        });
+    }
+
+    pub fn zero(&mut self, at: u64, length: u64, act: Act) {
+        self.each(at, length, |o, byte| {
+            if act.makes_new(o) {
+                *byte = 0;
+            }
+        });
+    }
+
+    pub fn discard(&mut self, at: u64, length: u64, act: Act) {
+        self.each(at, length, |o, byte| *byte = act.discarded(o).unwrap_or(*byte));
+    }
+
+    pub fn fill(&mut self, at: u64, length: u64, value: u8) {
+        self.each(at, length, |_, byte| *byte = value);
+    }
+
+    /// The lower window.
+    pub fn low(&self) -> &[u8] {
+        &self.low
+    }
+
+    /// The first offset at which two stores of the same windows differ.
+    pub fn difference(&self, other: &Store) -> Option<u64> {
+        if self == other {
+            return None;
+        }
+        let unlike = |a: &[u8], b: &[u8]| a.iter().zip(b).position(|(x, y)| x != y).map(|i| i as u64);
+        unlike(&self.low, &other.low).or_else(|| unlike(&self.high, &other.high).map(|i| self.high_start() + i))
+    }
+}
