@@ -85,7 +85,7 @@ pub fn total(segments: &[Segment]) -> u64 {
 
 /// Whether two segments share a byte.
 pub fn overlap(a: &Segment, b: &Segment) -> bool {
-    a.start < b.start + b.length && b.start < a.start + a.length
+    a.start < b.start.saturating_add(b.length) && b.start < a.start.saturating_add(a.length)
 }
 
 /// `is_aligned` of a vector over data at `address`.

@@ -77,7 +77,8 @@ impl Maker {
         if !self.random.once_in(3) {
             return self.random.pick(&ROWS);
         }
-        Alignments::new(self.power(13), self.power(12), self.power(13), self.power(16))
+        let most = if self.random.once_in(4) { 16 } else { 12 };
+        Alignments::new(self.power(most), self.power(most), self.power(most), self.power(16))
     }
 
     /// A share that fits: the least, a larger one, or imago's.
@@ -185,17 +186,29 @@ impl Maker {
         segments
     }
 
+    /// Two segments whose total is a multiple of L while their lengths are not: a write of them is padded, and may read nothing.
+    fn uneven_segments(&mut self) -> Vec<Segment> {
+        let l = self.flight.opening.align.length().clamp(2, self.world.data);
+        let total = l * (1 + self.random.below(3));
+        let first = 1 + self.random.below(total - 1);
+        let start = self.random.below(self.world.data) / l * l;
+        let second = start + first + self.random.below(8);
+        vec![Segment { start, length: first }, Segment { start: second, length: total - first }]
+    }
+
     fn vector_job(&mut self) -> Begin {
         let job = self.random.pick(&[Job::Read, Job::Write, Job::Write]);
         let offset = self.offset();
         let fits = |s: &Vec<Segment>, m: &Maker| document::vector(s, m.world.data) == 0;
         let apart = |s: &Vec<Segment>, m: &Maker| !s.iter().any(|s| m.flight.uses(s));
-        let mut segments = self.segments();
+        let uneven = self.random.once_in(5);
+        let make = |m: &mut Maker| if uneven { m.uneven_segments() } else { m.segments() };
+        let mut segments = make(self);
         for _ in 0..6 {
             if fits(&segments, self) && apart(&segments, self) {
                 break;
             }
-            segments = self.segments();
+            segments = make(self);
         }
         if self.random.once_in(60) {
             segments.clear();

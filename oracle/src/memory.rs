@@ -60,13 +60,16 @@ impl Data {
         self.start().wrapping_add(s.start as usize)
     }
 
+    /// The bytes of a segment, for imago. They must be given up before the data is dropped.
+    pub fn slice(&self, s: &Segment) -> &'static [u8] {
+        // SAFETY: the segment lies in the allocation, which outlives the slice.
+        unsafe { slice::from_raw_parts(self.address_of(s), s.length as usize) }
+    }
+
     /// The segments as imago's vector. It must be dropped before the data is.
     pub fn vector(&self, segments: &[Segment]) -> IoVector<'static> {
         let mut v = IoVector::new();
-        for s in segments {
-            // SAFETY: the segment lies in the allocation; the caller drops the vector before it.
-            v.push(unsafe { slice::from_raw_parts(self.address_of(s), s.length as usize) });
-        }
+        segments.iter().for_each(|s| v.push(self.slice(s)));
         v
     }
 

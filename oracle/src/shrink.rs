@@ -1,7 +1,7 @@
 //! A list that shows a difference, made as small as it gets.
 
 use crate::event::Event;
-use crate::side::{Act, Begin};
+use crate::side::{Act, Alignments, Begin, Lent, Opening, SLOTS};
 
 /// The smallest list found that still differs: fewer events first, then smaller numbers.
 pub fn shrink(events: &[Event], mut differs: impl FnMut(&[Event]) -> bool) -> Vec<Event> {
@@ -9,6 +9,7 @@ pub fn shrink(events: &[Event], mut differs: impl FnMut(&[Event]) -> bool) -> Ve
     loop {
         let before = list.clone();
         remove_events(&mut list, &mut differs);
+        remove_slots(&mut list, &mut differs);
         shrink_numbers(&mut list, &mut differs);
         if list == before {
             return list;
@@ -31,6 +32,38 @@ fn remove_events(list: &mut Vec<Event>, differs: &mut impl FnMut(&[Event]) -> bo
             }
         }
         run /= 2;
+    }
+}
+
+/// The event without the job of `slot`: later slots move down by one, and events in it are none.
+fn without_slot(event: &Event, gone: u64) -> Option<Event> {
+    let moved = |slot: u64| if slot > gone && slot < SLOTS as u64 { slot - 1 } else { slot };
+    match event {
+        Event::Next(slot) | Event::Collect(slot) | Event::Carry { slot, .. } | Event::Tell { slot, .. }
+            if *slot == gone =>
+        {
+            None
+        }
+        Event::Next(slot) => Some(Event::Next(moved(*slot))),
+        Event::Collect(slot) => Some(Event::Collect(moved(*slot))),
+        Event::Carry { slot, act } => Some(Event::Carry { slot: moved(*slot), act: *act }),
+        Event::Tell { slot, code } => Some(Event::Tell { slot: moved(*slot), code: *code }),
+        other => Some(other.clone()),
+    }
+}
+
+/// Takes out a begin with its slot, where the rest, its slots counted anew, still differs.
+fn remove_slots(list: &mut Vec<Event>, differs: &mut impl FnMut(&[Event]) -> bool) {
+    let mut at = 0;
+    while at < list.len() {
+        let tried = (0..SLOTS as u64).filter(|_| matches!(list[at], Event::Begin(_))).map(|slot| {
+            let rest = list[at + 1..].iter().filter_map(|e| without_slot(e, slot));
+            list[..at].iter().cloned().chain(rest).collect::<Vec<_>>()
+        });
+        match tried.collect::<Vec<_>>().into_iter().find(|rest| differs(rest)) {
+            Some(rest) => *list = rest,
+            None => at += 1,
+        }
     }
 }
 
@@ -73,6 +106,21 @@ fn smaller_begins(b: &Begin) -> Vec<Begin> {
     begins
 }
 
+/// Openings with one alignment of 1, or with the data at address 0.
+fn smaller_openings(o: &Opening) -> Vec<Opening> {
+    let a = o.align;
+    let aligns = [
+        Alignments { mem: 1, ..a },
+        Alignments { req: 1, ..a },
+        Alignments { zero: 1, ..a },
+        Alignments { discard: 1, ..a },
+    ];
+    let mut openings: Vec<Opening> = aligns.into_iter().map(|align| Opening { align, ..*o }).collect();
+    openings.push(Opening { data: Lent { address: 0, ..o.data }, ..*o });
+    openings.retain(|smaller| smaller != o);
+    openings
+}
+
 fn smaller_acts(act: &Act) -> Vec<Act> {
     let mut acts = Vec::new();
     if act.choice.is_some() {
@@ -86,6 +134,7 @@ fn smaller_acts(act: &Act) -> Vec<Act> {
 
 fn smaller_events(event: &Event) -> Vec<Event> {
     match event {
+        Event::Open(o) => smaller_openings(o).into_iter().map(Event::Open).collect(),
         Event::Begin(b) => smaller_begins(b).into_iter().map(Event::Begin).collect(),
         Event::Carry { slot, act } => {
             smaller_acts(act).into_iter().map(|act| Event::Carry { slot: *slot, act }).collect()

@@ -1,0 +1,107 @@
+//! Document 01's vectors and planner; its blockers are those of `document_side.rs`.
+
+use crate::document;
+use crate::side::{Alignments, Opening, Planner, Segment, Vectors};
+
+pub struct DocumentVectors {
+    data: Vec<u8>,
+}
+
+impl DocumentVectors {
+    pub fn new(bytes: &[u8]) -> Self {
+        DocumentVectors { data: bytes.to_vec() }
+    }
+
+    fn accepted(&self, v: Vec<Segment>) -> Result<Vec<Segment>, u8> {
+        match document::vector(&v, self.data.len() as u64) {
+            0 => Ok(v),
+            refusal => Err(refusal),
+        }
+    }
+}
+
+/// The segments of the bytes at flat positions `from` up to `to` of a vector.
+fn between(v: &[Segment], from: u64, to: u64) -> Vec<Segment> {
+    let mut position = 0;
+    let mut parts = Vec::new();
+    for s in v {
+        let (first, last) = (from.max(position), to.min(position + s.length));
+        if first < last {
+            parts.push(Segment { start: s.start + (first - position), length: last - first });
+        }
+        position += s.length;
+    }
+    parts
+}
+
+/// The positions in the data of a vector's bytes, in order.
+fn positions(v: &[Segment]) -> impl Iterator<Item = usize> + '_ {
+    v.iter().flat_map(|s| s.start as usize..(s.start + s.length) as usize)
+}
+
+impl Vectors for DocumentVectors {
+    fn push(&mut self, v: &[Segment], s: Segment) -> Result<Vec<Segment>, u8> {
+        self.insert(v, v.len(), s)
+    }
+
+    fn insert(&mut self, v: &[Segment], index: usize, s: Segment) -> Result<Vec<Segment>, u8> {
+        if index > v.len() {
+            return Err(document::SEGMENT);
+        }
+        self.accepted([&v[..index], &[s], &v[index..]].concat())
+    }
+
+    fn append(&mut self, v: &[Segment], other: &[Segment]) -> Result<Vec<Segment>, u8> {
+        self.accepted([v, other].concat())
+    }
+
+    fn split_at(&mut self, v: &[Segment], mid: u64) -> (Vec<Segment>, Vec<Segment>) {
+        (between(v, 0, mid), between(v, mid, u64::MAX))
+    }
+
+    fn split_tail_at(&mut self, v: &[Segment], mid: u64) -> Vec<Segment> {
+        between(v, mid, u64::MAX)
+    }
+
+    fn copy_into_slice(&mut self, v: &[Segment], slice: &mut [u8]) -> u8 {
+        if slice.len() as u64 != document::total(v) {
+            return document::SEGMENT;
+        }
+        positions(v).zip(slice).for_each(|(at, byte)| *byte = self.data[at]);
+        0
+    }
+
+    fn copy_from_slice(&mut self, v: &[Segment], slice: &[u8]) -> u8 {
+        if slice.len() as u64 != document::total(v) {
+            return document::SEGMENT;
+        }
+        positions(v).zip(slice).for_each(|(at, byte)| self.data[at] = *byte);
+        0
+    }
+
+    fn fill(&mut self, v: &[Segment], value: u8) {
+        positions(v).for_each(|at| self.data[at] = value);
+    }
+
+    fn is_aligned(&mut self, v: &[Segment], mem: u64, req: u64) -> bool {
+        document::is_aligned(v, 0, &Alignments::new(mem, req, 1, 1))
+    }
+
+    fn data(&self) -> &[u8] {
+        &self.data
+    }
+}
+
+pub struct DocumentPlanner;
+
+impl Planner for DocumentPlanner {
+    fn chunks(&mut self, opening: &Opening, offset: u64, length: u64) -> Result<Vec<(u64, u64)>, u8> {
+        match document::planner(opening, offset, length) {
+            0 => {
+                let count = length.div_ceil(opening.bounce);
+                Ok((0..count).map(|i| document::planned_chunk(opening, offset, length, i)).collect())
+            }
+            refusal => Err(refusal),
+        }
+    }
+}

@@ -1,0 +1,127 @@
+//! Runs over random lists: two sides in one process, or imago's side and the program `replay`.
+
+use crate::compare::{compare, Difference};
+use crate::event::Event;
+use crate::lists::{random_list, World, MEMORY, SCRIPTS};
+use crate::parts;
+use crate::progress::Progress;
+use crate::random::Random;
+use crate::replay::{first_difference, imago_trace, script, Replay, LONGEST_SCRIPT};
+use crate::shrink::shrink;
+use crate::side::{Blockers, Planner, Side, Vectors};
+use crate::store::Store;
+use std::io;
+
+/// How many lists, and from which seed.
+#[derive(Clone, Copy)]
+pub struct Run {
+    pub lists: u64,
+    pub seed: u64,
+}
+
+/// A difference, in the smallest list found that shows it.
+pub struct Found {
+    pub list: Vec<Event>,
+    pub difference: Difference,
+}
+
+impl Found {
+    pub fn show(&self) {
+        println!("the smallest list found, {} events:\n{}", self.list.len(), script(&self.list));
+        println!("after event {}: {}", self.difference.at + 1, self.difference.what);
+    }
+}
+
+/// Compares the two sides, made anew for every list over a store and so many bytes of data, up to the first difference.
+pub fn run_lists<A: Side, B: Side>(
+    run: Run,
+    world: World,
+    left: impl Fn(usize, Store) -> A,
+    right: impl Fn(usize, Store) -> B,
+) -> (Progress, Option<Found>) {
+    let mut progress = Progress::default();
+    let content = world.store();
+    let data = world.data as usize;
+    let differs = |events: &[Event]| {
+        compare(events, left(data, content.clone()), right(data, content.clone()), &content)
+    };
+    for list in 0..run.lists {
+        let events = random_list(run.seed, list, world);
+        progress.list(events.len());
+        if differs(&events).is_some() {
+            progress.difference();
+            let list = shrink(&events, |tried| differs(tried).is_some());
+            let difference = differs(&list).expect("the smallest list differs");
+            return (progress, Some(Found { list, difference }));
+        }
+    }
+    (progress, None)
+}
+
+/// The calls on blockers of one list, and how many calls a list has at least.
+const BLOCKER_CALLS: u64 = 40;
+const CALLS: usize = BLOCKER_CALLS as usize + 8;
+
+/// Compares vectors, blockers and the planner of two sides; blockers are made anew for every list.
+pub fn run_parts<X: Blockers, Y: Blockers>(
+    run: Run,
+    blockers: (impl Fn() -> X, impl Fn() -> Y),
+    vectors: (&mut impl Vectors, &mut impl Vectors),
+    planners: (&mut impl Planner, &mut impl Planner),
+) -> (Progress, parts::Found) {
+    let mut progress = Progress::default();
+    for list in 0..run.lists {
+        let mut random = Random::new(run.seed, list);
+        let (mut left, mut right) = (blockers.0(), blockers.1());
+        let found = parts::blockers(&mut random, &mut left, &mut right, BLOCKER_CALLS)
+            .or_else(|| parts::vectors(&mut random, vectors.0, vectors.1))
+            .or_else(|| parts::planner(&mut random, planners.0, planners.1));
+        progress.list(CALLS);
+        if found.is_some() {
+            progress.difference();
+            return (progress, found);
+        }
+    }
+    (progress, None)
+}
+
+/// The bytes that vectors are over.
+pub fn vector_data() -> Vec<u8> {
+    (0..MEMORY.data).map(|i| (i * 7 % 251) as u8).collect()
+}
+
+/// Lists whose scripts together are one that `replay` takes, from number `from` on.
+fn batch(run: Run, from: u64) -> Vec<Vec<Event>> {
+    let mut batch = Vec::new();
+    let mut bytes = 0;
+    for list in from..run.lists {
+        let events = random_list(run.seed, list, SCRIPTS);
+        bytes += script(&events).len();
+        if bytes > LONGEST_SCRIPT {
+            break;
+        }
+        batch.push(events);
+    }
+    batch
+}
+
+/// Compares imago's trace with that of `replay`, many lists to a script, up to the first difference.
+pub fn run_replay(run: Run, replay: &Replay) -> io::Result<(Progress, Option<Found>)> {
+    let mut progress = Progress::default();
+    let mut at = 0;
+    while at < run.lists {
+        let batch = batch(run, at);
+        at += batch.len() as u64;
+        let all = batch.concat();
+        let traced = imago_trace(&all);
+        let text = replay.run(script(&all))?;
+        batch.iter().for_each(|events| progress.list(events.len()));
+        if traced.broken.is_some() || first_difference(&traced.lines, &text).is_some() {
+            progress.difference();
+            let list = shrink(&all, |tried| matches!(replay.compare(tried), Ok(Some(_))));
+            let difference = replay.compare(&list)?.expect("the smallest list differs");
+            return Ok((progress, Some(Found { list, difference })));
+        }
+    }
+    Ok((progress, None))
+}
