@@ -1,0 +1,20 @@
+//! The committed fixed list is the one that the seed gives.
+
+use oracle::fixed::fixed;
+
+/// The seed of the committed list.
+const SEED: u64 = 1;
+
+#[test]
+fn the_fixed_list_is_as_committed() {
+    let made = fixed(SEED);
+    assert!(made.script == include_str!("../fixed/script"), "oracle fixed --seed {SEED} gives another script");
+    assert!(made.trace == include_str!("../fixed/trace"), "oracle fixed --seed {SEED} gives another trace");
+}
+
+#[test]
+fn every_refusal_of_scripts_is_reached() {
+    let counts = fixed(SEED).coverage.counts;
+    let missing: Vec<u64> = (201..=209).filter(|n| !counts.contains_key(&format!("refused {n}"))).collect();
+    assert_eq!(missing, Vec::<u64>::new());
+}
