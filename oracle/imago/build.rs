@@ -5,13 +5,8 @@ use std::fs;
 use std::path::{Path, PathBuf};
 use std::process::exit;
 
-const FILES: [&str; 5] = [
-    "src/io_buffers.rs",
-    "src/misc_helpers.rs",
-    "src/storage/mod.rs",
-    "src/storage/drivers.rs",
-    "src/storage/ext.rs",
-];
+const FILES: [&str; 5] =
+    ["src/io_buffers.rs", "src/misc_helpers.rs", "src/storage/mod.rs", "src/storage/drivers.rs", "src/storage/ext.rs"];
 
 const MODULES: [(&str, &str); 3] = [
     ("pub mod io_buffers;", "src/io_buffers.rs"),
@@ -30,10 +25,8 @@ fn main() {
         fs::create_dir_all(to.parent().expect("every name has a folder")).expect("OUT_DIR can be written");
         fs::write(&to, fs::read(&from).expect("the file was found")).expect("OUT_DIR can be written");
     }
-    let lines: String = MODULES
-        .iter()
-        .map(|(declaration, name)| format!("#[path = {:?}]\n{declaration}\n", out.join(name)))
-        .collect();
+    let lines: String =
+        MODULES.iter().map(|(declaration, name)| format!("#[path = {:?}]\n{declaration}\n", out.join(name))).collect();
     fs::write(out.join("modules.rs"), lines).expect("OUT_DIR can be written");
 }
 

@@ -90,9 +90,7 @@ pub fn overlap(a: &Segment, b: &Segment) -> bool {
 
 /// `is_aligned` of a vector over data at `address`.
 pub fn is_aligned(segments: &[Segment], address: u64, align: &Alignments) -> bool {
-    let fits = |s: &Segment| {
-        (address + s.start).is_multiple_of(align.mem) && s.length.is_multiple_of(align.length())
-    };
+    let fits = |s: &Segment| (address + s.start).is_multiple_of(align.mem) && s.length.is_multiple_of(align.length());
     (align.mem == 1 && align.req == 1) || segments.iter().all(fits)
 }
 

@@ -6,17 +6,37 @@ use std::fmt::{self, Display, Formatter};
 #[derive(Clone, Debug, PartialEq, Eq)]
 pub enum Event {
     /// By drive row, with the buffers of `replay`.
-    OpenRow { row: u64, bounce: u64 },
+    OpenRow {
+        row: u64,
+        bounce: u64,
+    },
     /// With any alignments and buffers: scripts have no such line.
     Open(Opening),
-    Store { offset: u64, length: u64, byte: u8 },
-    Data { offset: u64, length: u64, byte: u8 },
+    Store {
+        offset: u64,
+        length: u64,
+        byte: u8,
+    },
+    Data {
+        offset: u64,
+        length: u64,
+        byte: u8,
+    },
     Begin(Begin),
     Next(u64),
-    Carry { slot: u64, act: Act },
-    Tell { slot: u64, code: u8 },
+    Carry {
+        slot: u64,
+        act: Act,
+    },
+    Tell {
+        slot: u64,
+        code: u8,
+    },
     Collect(u64),
-    Show { offset: u64, length: u64 },
+    Show {
+        offset: u64,
+        length: u64,
+    },
 }
 
 /// The buffers of `replay`: data of 4096 bytes at address 0, scratch of 131,072 at 65,536.

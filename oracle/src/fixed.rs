@@ -126,7 +126,7 @@ pub fn fixed(seed: u64) -> Fixed {
 
 /// Script and trace, with a comment before each list.
 fn written(choice: Choice) -> Fixed {
-    let traced = imago_trace(&choice.lists.concat());
+    let traced = imago_trace(&choice.lists.concat(), None);
     assert_eq!(traced.broken, None, "imago's side keeps demand 3");
     let mut lines = traced.lines.iter();
     let (mut text, mut trace) = (String::new(), String::new());

@@ -114,7 +114,7 @@ impl Maker {
 
     /// What the store and the data hold before the first job, whatever they held before.
     pub fn content(&mut self) {
-        let bytes = self.random.next().to_le_bytes();
+        let bytes = self.random.word().to_le_bytes();
         self.push(Event::Store { offset: 0, length: self.world.low as u64, byte: bytes[0] });
         self.push(Event::Data { offset: 0, length: self.world.data, byte: bytes[1] });
         for _ in 0..1 + self.random.below(4) {
@@ -230,7 +230,7 @@ impl Maker {
     }
 
     fn act(&mut self) -> Act {
-        let word = self.random.next();
+        let word = self.random.word();
         let choice = self.random.pick(&[None, Some(word), Some(word), Some(u64::MAX), Some(0x5555_5555_5555_5555)]);
         let code = if self.random.once_in(200) { 200 } else { self.code() };
         Act { code, choice }

@@ -18,11 +18,12 @@ use std::path::Path;
 use std::process::ExitCode;
 
 const USAGE: &str = "\
-oracle lists  [--lists N] [--seed S] [--plant NAME]    imago against document 01's rules, in one process
-oracle parts  [--lists N] [--seed S]                   vectors, write blockers and the planner, each alone
-oracle replay [--lists N] [--seed S] [--program PATH]  imago against the program `replay`, by scripts
-oracle fixed  [--seed S] [--out DIR]                   writes the fixed list: DIR/script and imago's DIR/trace
-oracle trace                                           imago's trace of a script on standard input";
+oracle lists  [--lists N] [--seed S] [--plant NAME]   imago against document 01's rules, in one process
+oracle parts  [--lists N] [--seed S]                  vectors, write blockers and the planner, each alone
+oracle replay [--lists N] [--seed S] [--plant NAME] [--program PATH]
+                                                      imago against the program `replay`, by scripts
+oracle fixed  [--seed S] [--out DIR]                  writes the fixed list: DIR/script and imago's DIR/trace
+oracle trace                                          imago's trace of a script on standard input";
 
 struct Options {
     run: Run,
@@ -76,7 +77,7 @@ fn parts(o: &Options) -> u64 {
 }
 
 fn replay(o: &Options) -> Result<u64, String> {
-    let replay = Replay { program: o.program.clone().into() };
+    let replay = Replay { program: o.program.clone().into(), fault: o.fault };
     let (progress, found) = run_replay(o.run, &replay).map_err(|e| format!("{}: {e}", o.program))?;
     found.iter().for_each(|f| f.show());
     progress.show();
@@ -105,8 +106,9 @@ fn trace() -> Result<u64, String> {
     let mut text = String::new();
     io::stdin().read_to_string(&mut text).map_err(|e| e.to_string())?;
     let lines = text.lines().filter(|line| !is_comment(line));
-    let events: Vec<Event> = lines.map(|l| parse(l).ok_or_else(|| format!("no event: {l}"))).collect::<Result<_, _>>()?;
-    let mut traced = imago_trace(&events).lines.into_iter();
+    let events: Vec<Event> =
+        lines.map(|l| parse(l).ok_or_else(|| format!("no event: {l}"))).collect::<Result<_, _>>()?;
+    let mut traced = imago_trace(&events, None).lines.into_iter();
     for line in text.lines() {
         if is_comment(line) {
             println!("{line}");

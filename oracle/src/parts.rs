@@ -78,7 +78,7 @@ fn vector_bytes(random: &mut Random, v: &[Segment], left: &mut impl Vectors, rig
     if copied.is_some() || !is_apart(v) {
         return copied;
     }
-    let (value, word) = (random.below(256) as u8, random.next());
+    let (value, word) = (random.below(256) as u8, random.word());
     let bytes: Vec<u8> = (0..length as u64).map(|i| (word >> (i % 57)) as u8).collect();
     let answers = (left.copy_from_slice(v, &bytes), right.copy_from_slice(v, &bytes));
     let found = unlike(&format!("{v:?} copy_from_slice"), answers.0, answers.1)

@@ -28,11 +28,15 @@ pub enum Fault {
     MiddleOnly,
     /// Answer 1 to a discard ends its job with 1.
     DiscardFails,
-    /// A begin takes the highest free slot.
+    /// A begin names another slot.
     OtherSlot,
+    /// A padded write of one block with head and tail reads it once.
+    OneRead,
+    /// The end of a request from or into scratch is rounded to L, not its length.
+    RoundedEnd,
 }
 
-pub const FAULTS: [(&str, Fault); 12] = [
+pub const FAULTS: [(&str, Fault); 14] = [
     ("long-request", Fault::LongRequest),
     ("shifted-piece", Fault::ShiftedPiece),
     ("other-answer", Fault::OtherAnswer),
@@ -45,12 +49,16 @@ pub const FAULTS: [(&str, Fault); 12] = [
     ("middle-only", Fault::MiddleOnly),
     ("discard-fails", Fault::DiscardFails),
     ("other-slot", Fault::OtherSlot),
+    ("one-read", Fault::OneRead),
+    ("rounded-end", Fault::RoundedEnd),
 ];
 
 /// A side with a fault, or none.
 pub struct Planted<S> {
     side: S,
     fault: Option<Fault>,
+    /// L, as opened.
+    length_align: u64,
     /// By slot, the middle of a zero job whose zero request was answered 1.
     middles: [Option<Range<u64>>; SLOTS],
     /// By slot, whether a discard was answered 1.
@@ -59,7 +67,7 @@ pub struct Planted<S> {
 
 impl<S: Side> Planted<S> {
     pub fn new(side: S, fault: Option<Fault>) -> Self {
-        Planted { side, fault, middles: Default::default(), discards: Default::default() }
+        Planted { side, fault, length_align: 1, middles: Default::default(), discards: Default::default() }
     }
 
     fn has(&self, fault: Fault) -> bool {
@@ -67,11 +75,13 @@ impl<S: Side> Planted<S> {
     }
 
     fn request(&self, mut r: Request) -> Request {
-        if self.has(Fault::LongRequest) {
-            r.length += 1;
-        }
-        if let (true, Some(Piece::Data(s) | Piece::Scratch(s))) = (self.has(Fault::ShiftedPiece), r.pieces.last_mut()) {
-            s.start += 1;
+        match (self.fault, r.pieces.last_mut()) {
+            (Some(Fault::LongRequest), _) => r.length += 1,
+            (Some(Fault::ShiftedPiece), Some(Piece::Data(s) | Piece::Scratch(s))) => s.start += 1,
+            (Some(Fault::RoundedEnd), Some(Piece::Scratch(_))) => {
+                r.length += (r.offset + r.length).wrapping_neg() % self.length_align;
+            }
+            _ => {}
         }
         r
     }
@@ -93,6 +103,14 @@ impl<S: Side> Planted<S> {
         }
     }
 
+    /// The first byte of the data that a tell changed is changed again.
+    fn spoil(&mut self, before: &[u8]) {
+        let changed = self.side.data().iter().zip(before).position(|(a, b)| a != b);
+        if let Some(at) = changed {
+            self.side.data_mut()[at] ^= 1;
+        }
+    }
+
     fn note_unsupported(&mut self, slot: usize) {
         match self.out(slot) {
             Some((Kind::Zero | Kind::AllocatedZero, range)) => self.middles[slot] = Some(range),
@@ -108,6 +126,7 @@ fn disjoint(a: &Range<u64>, b: &Range<u64>) -> bool {
 
 impl<S: Side> Side for Planted<S> {
     fn open(&mut self, opening: &Opening) -> u8 {
+        self.length_align = opening.align.length();
         self.side.open(opening)
     }
 
@@ -141,17 +160,15 @@ impl<S: Side> Side for Planted<S> {
 
     fn carry(&mut self, slot: usize, act: Act) {
         let Some((kind, range)) = self.out(slot) else { return };
-        let before = self.side.store().clone();
-        self.side.carry(slot, act);
-        if kind != Kind::Write {
-            return;
-        }
         let outside = self.middles[slot].as_ref().is_some_and(|middle| disjoint(middle, &range));
-        match self.fault {
-            Some(Fault::LostWrite) => *self.side.store_mut() = before,
-            Some(Fault::MiddleOnly) if outside => *self.side.store_mut() = before,
-            Some(Fault::NeighbourByte) => self.side.store_mut().each(range.start.saturating_sub(1), 1, |_, b| *b ^= 1),
-            _ => {}
+        let is_lost = self.has(Fault::LostWrite) || (self.has(Fault::MiddleOnly) && outside);
+        let before = (kind == Kind::Write && is_lost).then(|| self.side.store().clone());
+        self.side.carry(slot, act);
+        if let Some(store) = before {
+            *self.side.store_mut() = store;
+        }
+        if kind == Kind::Write && self.has(Fault::NeighbourByte) {
+            self.side.store_mut().each(range.start.saturating_sub(1), 1, |_, b| *b ^= 1);
         }
     }
 
@@ -160,12 +177,14 @@ impl<S: Side> Side for Planted<S> {
         if code == 1 {
             self.note_unsupported(slot);
         }
-        let before = self.side.data().to_vec();
+        let before = self.has(Fault::WrongRead).then(|| self.side.data().to_vec());
         let told = self.side.tell(slot, code);
-        let reads = matches!(out, Some((Kind::Read, _))) && self.side.data() != before;
-        if reads && self.has(Fault::WrongRead) {
-            let at = self.side.data().iter().zip(&before).position(|(a, b)| a != b).expect("the data changed");
-            self.side.data_mut()[at] ^= 1;
+        if let Some(before) = before {
+            self.spoil(&before);
+        }
+        if self.has(Fault::OneRead) && told == 0 && matches!(out, Some((Kind::Read, _))) && self.out(slot) == out {
+            self.side.carry(slot, Act { code: 0, choice: None });
+            self.side.tell(slot, 0);
         }
         told
     }

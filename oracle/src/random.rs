@@ -6,11 +6,11 @@ impl Random {
     /// The numbers of list `list` of a run with that seed.
     pub fn new(seed: u64, list: u64) -> Self {
         let mut random = Random(seed ^ list.wrapping_mul(0xd134_2543_de82_ef95));
-        random.next();
+        random.word();
         random
     }
 
-    pub fn next(&mut self) -> u64 {
+    pub fn word(&mut self) -> u64 {
         self.0 = self.0.wrapping_add(0x9e37_79b9_7f4a_7c15);
         let mut z = self.0;
         z = (z ^ (z >> 30)).wrapping_mul(0xbf58_476d_1ce4_e5b9);
@@ -20,7 +20,7 @@ impl Random {
 
     /// A number below n, which is not 0.
     pub fn below(&mut self, n: u64) -> u64 {
-        self.next() % n
+        self.word() % n
     }
 
     /// True once in n times.

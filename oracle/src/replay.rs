@@ -7,6 +7,7 @@ use crate::flight::Flight;
 use crate::imago_side::ImagoSide;
 use crate::lists::SCRIPTS;
 use crate::plain::Plain;
+use crate::plant::{Fault, Planted};
 use crate::session::Session;
 use crate::trace;
 use std::io::{self, Write};
@@ -19,6 +20,8 @@ pub const LONGEST_SCRIPT: usize = 65_535;
 
 pub struct Replay {
     pub program: PathBuf,
+    /// A fault planted into imago's side.
+    pub fault: Option<Fault>,
 }
 
 /// A list as a script.
@@ -33,8 +36,9 @@ pub struct ImagoTrace {
 }
 
 /// imago's trace of a list, up to where imago and document 01 depart.
-pub fn imago_trace(events: &[Event]) -> ImagoTrace {
-    let mut session = Session::new(ImagoSide::new(SCRIPTS.data as usize, SCRIPTS.store()));
+pub fn imago_trace(events: &[Event], fault: Option<Fault>) -> ImagoTrace {
+    let side = ImagoSide::new(SCRIPTS.data as usize, SCRIPTS.store());
+    let mut session = Session::new(Planted::new(side, fault));
     let mut plain = Plain::new(SCRIPTS.store());
     let mut flight = Flight::default();
     let mut traced = ImagoTrace { lines: Vec::with_capacity(events.len()), broken: None };
@@ -65,9 +69,9 @@ impl Replay {
 
     /// The first event whose lines differ, of a list that is run alone.
     pub fn compare(&self, events: &[Event]) -> io::Result<Option<Difference>> {
-        let traced = imago_trace(events);
+        let traced = imago_trace(events, self.fault);
         let text = self.run(script(&events[..traced.lines.len()]))?;
-        Ok(traced.broken.or_else(|| first_difference(&traced.lines, &text)))
+        Ok(first_difference(&traced.lines, &text).or(traced.broken))
     }
 }
 

@@ -42,9 +42,8 @@ pub fn run_lists<A: Side, B: Side>(
     let mut progress = Progress::default();
     let content = world.store();
     let data = world.data as usize;
-    let differs = |events: &[Event]| {
-        compare(events, left(data, content.clone()), right(data, content.clone()), &content)
-    };
+    let differs =
+        |events: &[Event]| compare(events, left(data, content.clone()), right(data, content.clone()), &content);
     for list in 0..run.lists {
         let events = random_list(run.seed, list, world);
         progress.list(events.len());
@@ -113,7 +112,7 @@ pub fn run_replay(run: Run, replay: &Replay) -> io::Result<(Progress, Option<Fou
         let batch = batch(run, at);
         at += batch.len() as u64;
         let all = batch.concat();
-        let traced = imago_trace(&all);
+        let traced = imago_trace(&all, replay.fault);
         let text = replay.run(script(&all))?;
         batch.iter().for_each(|events| progress.list(events.len()));
         if traced.broken.is_some() || first_difference(&traced.lines, &text).is_some() {

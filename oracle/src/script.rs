@@ -31,9 +31,7 @@ pub fn parse(line: &str) -> Option<Event> {
         ("discard", &[offset, length]) => Event::Begin(Begin::range(Job::Discard, offset, length)),
         ("next", &[slot]) => Event::Next(slot),
         ("carry", &[slot, code]) => Event::Carry { slot, act: Act { code: byte(code)?, choice: None } },
-        ("carry", &[slot, code, choice]) => {
-            Event::Carry { slot, act: Act { code: byte(code)?, choice: Some(choice) } }
-        }
+        ("carry", &[slot, code, choice]) => Event::Carry { slot, act: Act { code: byte(code)?, choice: Some(choice) } },
         ("tell", &[slot, code]) => Event::Tell { slot, code: byte(code)? },
         ("collect", &[slot]) => Event::Collect(slot),
         ("show", &[offset, length]) => Event::Show { offset, length },

@@ -105,9 +105,7 @@ impl<S: Side> Session<S> {
             Event::Next(slot) => Answer::Due(self.side.next(*slot as usize)),
             Event::Carry { slot, act } => self.carry(*slot as usize, *act),
             Event::Tell { slot, code } => self.tell(*slot as usize, *code),
-            Event::Collect(slot) => {
-                self.side.collect(*slot as usize).map_or_else(Answer::Refused, Answer::Code)
-            }
+            Event::Collect(slot) => self.side.collect(*slot as usize).map_or_else(Answer::Refused, Answer::Code),
             Event::Show { offset, length } => Answer::Bytes(self.shown(*offset, *length)),
         }
     }

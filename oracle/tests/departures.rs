@@ -1,5 +1,7 @@
 //! The departures of docs/DIFFERENCES.md that a run steps around, each shown on imago by its smallest input.
 
+use imago::io_buffers::IoVector;
+use imago::StorageExt;
 use oracle::document_parts::DocumentPlanner;
 use oracle::document_side::DocumentSide;
 use oracle::event::{row_opening, Event, REPLAY_DATA};
@@ -11,8 +13,6 @@ use oracle::port::Port;
 use oracle::script::parse;
 use oracle::session::{Answer, Session};
 use oracle::side::{Lent, Opening, Planner, Side, ROWS};
-use imago::io_buffers::IoVector;
-use imago::StorageExt;
 use std::panic::catch_unwind;
 use std::sync::Arc;
 
@@ -29,8 +29,16 @@ fn shown(side: impl Side, list: &[&str]) -> Answer {
 #[test]
 fn number_3_the_time_of_the_copy() {
     let list = [
-        "open 1 4096", "data 0 2048 1", "write 512 0 512", "write 512 1024 256 1536 256", "data 1024 1 2", "carry 0 0",
-        "tell 0 0", "carry 1 0", "tell 1 0", "show 512 1",
+        "open 1 4096",
+        "data 0 2048 1",
+        "write 512 0 512",
+        "write 512 1024 256 1536 256",
+        "data 1024 1 2",
+        "carry 0 0",
+        "tell 0 0",
+        "carry 1 0",
+        "tell 1 0",
+        "show 512 1",
     ];
     let data = REPLAY_DATA as usize;
     assert_eq!(shown(DocumentSide::new(data, SCRIPTS.store()), &list), Answer::Bytes(vec![1]));

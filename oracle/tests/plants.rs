@@ -6,7 +6,7 @@ use oracle::imago_parts::{ImagoBlockers, ImagoPlanner, ImagoVectors};
 use oracle::imago_side::ImagoSide;
 use oracle::lists::MEMORY;
 use oracle::parts::Found;
-use oracle::plant::{Planted, FAULTS};
+use oracle::plant::{Fault, Planted, FAULTS};
 use oracle::runner::{run_lists, run_parts, vector_data, Run};
 use oracle::side::{Blockers, Opening, Planner, Segment, Vectors};
 use std::ops::Range;
@@ -24,6 +24,17 @@ fn every_fault_is_seen() {
     for (name, fault) in FAULTS {
         let planted = |data, store| Planted::new(DocumentSide::new(data, store), Some(fault));
         let (_, found) = run_lists(RUN, MEMORY, ImagoSide::new, planted);
+        assert!(found.is_some(), "{name} is not seen");
+    }
+}
+
+/// With the same fault on both sides only the plain byte store can see it. It knows neither where pieces lie nor who waits.
+#[test]
+fn the_plain_byte_store_sees_faults() {
+    let unseen = [Fault::ShiftedPiece, Fault::LongWait];
+    for (name, fault) in FAULTS.into_iter().filter(|(_, fault)| !unseen.contains(fault)) {
+        let planted = |data, store| Planted::new(DocumentSide::new(data, store), Some(fault));
+        let (_, found) = run_lists(RUN, MEMORY, planted, planted);
         assert!(found.is_some(), "{name} is not seen");
     }
 }
@@ -101,27 +112,51 @@ struct WrongVectors(DocumentVectors, &'static str);
 
 impl Vectors for WrongVectors {
     fn push(&mut self, v: &[Segment], s: Segment) -> Result<Vec<Segment>, u8> {
-        if self.1 == "push" { self.0.insert(v, 0, s) } else { self.0.push(v, s) }
+        if self.1 == "push" {
+            self.0.insert(v, 0, s)
+        } else {
+            self.0.push(v, s)
+        }
     }
 
     fn insert(&mut self, v: &[Segment], index: usize, s: Segment) -> Result<Vec<Segment>, u8> {
-        if self.1 == "insert" { self.0.push(v, s) } else { self.0.insert(v, index, s) }
+        if self.1 == "insert" {
+            self.0.push(v, s)
+        } else {
+            self.0.insert(v, index, s)
+        }
     }
 
     fn append(&mut self, v: &[Segment], other: &[Segment]) -> Result<Vec<Segment>, u8> {
-        if self.1 == "append" { Ok([v, other].concat()) } else { self.0.append(v, other) }
+        if self.1 == "append" {
+            Ok([v, other].concat())
+        } else {
+            self.0.append(v, other)
+        }
     }
 
     fn split_at(&mut self, v: &[Segment], mid: u64) -> (Vec<Segment>, Vec<Segment>) {
-        if self.1 == "split_at" { self.0.split_at(v, mid + 1) } else { self.0.split_at(v, mid) }
+        if self.1 == "split_at" {
+            self.0.split_at(v, mid + 1)
+        } else {
+            self.0.split_at(v, mid)
+        }
     }
 
     fn split_tail_at(&mut self, v: &[Segment], mid: u64) -> Vec<Segment> {
-        if self.1 == "split_tail_at" { self.0.split_at(v, mid).0 } else { self.0.split_tail_at(v, mid) }
+        if self.1 == "split_tail_at" {
+            self.0.split_at(v, mid).0
+        } else {
+            self.0.split_tail_at(v, mid)
+        }
     }
 
     fn copy_into_slice(&mut self, v: &[Segment], slice: &mut [u8]) -> u8 {
-        if self.1 == "copy_into_slice" { 0 } else { self.0.copy_into_slice(v, slice) }
+        if self.1 == "copy_into_slice" {
+            0
+        } else {
+            self.0.copy_into_slice(v, slice)
+        }
     }
 
     fn copy_from_slice(&mut self, v: &[Segment], slice: &[u8]) -> u8 {
@@ -147,7 +182,15 @@ impl Vectors for WrongVectors {
 #[test]
 fn faults_of_vectors_and_planner_are_seen() {
     let calls = [
-        "push", "insert", "append", "split_at", "split_tail_at", "copy_into_slice", "copy_from_slice", "fill", "is_aligned",
+        "push",
+        "insert",
+        "append",
+        "split_at",
+        "split_tail_at",
+        "copy_into_slice",
+        "copy_from_slice",
+        "fill",
+        "is_aligned",
     ];
     for call in calls {
         let vectors = &mut WrongVectors(DocumentVectors::new(&vector_data()), call);
