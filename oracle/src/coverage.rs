@@ -89,6 +89,10 @@ impl Coverage {
         }
     }
 
+    pub fn show(&self) {
+        self.counts.iter().for_each(|(name, n)| println!("{n:8} {name}"));
+    }
+
     fn event(&mut self, event: &Event, seen: &Observed, before: &[Option<Kind>; SLOTS], side: &DocumentSide) {
         match &seen.answer {
             Answer::Refused(number) | Answer::Due(Due::Refused(number)) => {

@@ -17,6 +17,9 @@ pub struct Fixed {
     pub coverage: Coverage,
 }
 
+/// The first line of script and trace.
+const HEADER: &str = "# Made by `oracle fixed`; the trace is that of imago's side.\n";
+
 /// How many random lists are looked at.
 const CANDIDATES: u64 = 4000;
 
@@ -26,38 +29,20 @@ const ENOUGH: u64 = 3;
 /// Room for a comment before each list.
 const COMMENT: usize = 24;
 
-/// Lists that lead where random ones seldom go. `serve 0 0` stands for a carry and a tell in slot 0 with code 0.
-const DIRECTED: &str = "\
-open 1 4096/store 0 8192 17/data 0 4096 34/write 100 0 10/serve 0 0/serve 0 0/serve 0 0/collect 0\
-/write 100 0 412/serve 0 0/serve 0 0/collect 0/write 512 0 512/serve 0 0/collect 0\
-/write 512 0 256 512 256/serve 0 0/collect 0/write 100 0 900/serve 0 0/serve 0 0/collect 0\
-/write 100 0 1500/serve 0 0/serve 0 0/serve 0 0/collect 0/show 90 20/show 1590 20
-open 4 12288/store 0 8192 18/data 0 4096 35/write 700 1 10/serve 0 0/serve 0 0/serve 0 0/collect 0/show 690 30
-open 1 4096/store 0 8192 19/data 0 4096 36/zero 100 1000/serve 0 0/serve 0 0/serve 0 0/serve 0 0/serve 0 0/serve 0 0/serve 0 0\
-/collect 0/store 0 8192 20/zero 100 1000/serve 0 1/serve 0 0/serve 0 0/serve 0 0/serve 0 0/serve 0 0/collect 0\
-/zero 1 1022/serve 0 0/serve 0 0/collect 0/discard 100 400/discard 18446744073709551105 0/discard 18446744073709551104 0\
-/write 18446744073709551104 0 1/write 18446744073709551103 0 1/read 18446744073709551615/read 18446744073709551615 0 1
-open 1 4096/store 0 8192 21/data 0 4096 37/zero 18446744073709549568 2047/serve 0 0/collect 0\
-/alloc 18446744073709549568 2047/serve 0 1/serve 0 0/collect 0/zero 18446744073709551104 1
-open 3 16384/store 0 8192 22/data 0 4096 38/zero 18446744073709539839 8192/serve 0 1/collect 0
-open 0 16385/read 0 0 1/open 6 16384/read 0 0 1/next 0/tell 0 0/collect 0/open 1 1000/open 1 2048/write 1 0 4096/read 1 0 4096\
-/zero 0 0/read 0/write 0/discard 0 0/read 0 4095 2/read 0 0 0/write 0 0 4097
-open 1 16384/store 0 8192 23/data 0 4096 39/write 1 0 1/write 1 0 1/write 1 0 1/write 1 0 1/write 1 0 1/write 1 0 1/write 1 0 1\
-/write 1 0 1/write 1 0 1/discard 0 512/read 0 0 1/tell 7 0/tell 0 255/tell 7 255/carry 0 200/tell 0 200/tell 0 0";
+/// Document 01's traced jobs, and lists that lead where random ones seldom go.
+const DIRECTED: &str = include_str!("directed.txt");
 
-/// A list of `DIRECTED`.
-fn directed_list(line: &str) -> Vec<Event> {
-    let mut events = Vec::new();
-    for word in line.split('/') {
-        match word.strip_prefix("serve ") {
-            Some(rest) => {
-                events.push(parse(&format!("carry {rest}")));
-                events.push(parse(&format!("tell {rest}")));
-            }
-            None => events.push(parse(word)),
-        }
-    }
-    events.into_iter().map(|e| e.expect("the directed lists have events only")).collect()
+/// The events of a line of `DIRECTED`.
+fn directed_events(line: &str) -> Vec<Event> {
+    let lines = match line.strip_prefix("serve ") {
+        Some(rest) => vec![format!("carry {rest}"), format!("tell {rest}")],
+        None => vec![line.to_owned()],
+    };
+    lines.iter().map(|l| parse(l).expect("the directed lists have events only")).collect()
+}
+
+fn directed_list(text: &str) -> Vec<Event> {
+    text.lines().filter(|line| !line.starts_with('#')).flat_map(directed_events).collect()
 }
 
 fn bytes(events: &[Event]) -> usize {
@@ -115,9 +100,9 @@ pub fn fixed(seed: u64) -> Fixed {
         let coverage = Coverage::of(&events, SCRIPTS);
         (events, coverage)
     };
-    let mut choice = Choice { lists: Vec::new(), coverage: Coverage::default(), bytes: 0 };
-    for line in DIRECTED.lines() {
-        let (events, coverage) = with_coverage(directed_list(line));
+    let mut choice = Choice { lists: Vec::new(), coverage: Coverage::default(), bytes: HEADER.len() };
+    for text in DIRECTED.split("\n\n") {
+        let (events, coverage) = with_coverage(directed_list(text));
         choice.take(events, &coverage);
     }
     choice.choose((0..CANDIDATES).map(|list| with_coverage(random_list(seed, list, SCRIPTS))).collect());
@@ -129,7 +114,7 @@ fn written(choice: Choice) -> Fixed {
     let traced = imago_trace(&choice.lists.concat(), None);
     assert_eq!(traced.broken, None, "imago's side keeps demand 3");
     let mut lines = traced.lines.iter();
-    let (mut text, mut trace) = (String::new(), String::new());
+    let (mut text, mut trace) = (HEADER.to_owned(), HEADER.to_owned());
     for (i, events) in choice.lists.iter().enumerate() {
         let comment = format!("# list {}\n", i + 1);
         text += &comment;

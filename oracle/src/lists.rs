@@ -7,7 +7,7 @@ use crate::flight::Flight;
 use crate::imago_side::ImagoSide;
 use crate::random::Random;
 use crate::session::{Observed, Session, View};
-use crate::side::{Act, Alignments, Begin, Due, Job, Lent, Opening, Segment, ROWS, SLOTS};
+use crate::side::{Act, Alignments, Begin, Due, Job, Kind, Lent, Opening, Segment, ROWS, SLOTS};
 use crate::store::Store;
 
 /// The buffers and the store that lists are made for.
@@ -94,9 +94,9 @@ impl Maker {
 
     fn open(&mut self) {
         if self.world.scripts {
-            let row = if self.random.once_in(40) { 6 } else { self.random.below(6) };
+            let row = if self.random.once_in(60) { 6 } else { self.random.below(6) };
             let small = ROWS.get(row as usize).map_or(0, |a| 2 * a.zero + 2 * a.length());
-            let bounce = if self.random.once_in(8) { small } else { 16_384 };
+            let bounce = if self.random.once_in(4) { small } else { 16_384 };
             let bounce = if self.random.once_in(60) { self.random.pick(&[0, 1, 16_385, 131_072]) } else { bounce };
             return self.push(Event::OpenRow { row, bounce });
         }
@@ -145,7 +145,7 @@ impl Maker {
     fn near(&mut self, most: u64) -> u64 {
         let a = self.flight.opening.align;
         let unit = self.random.pick(&[a.req, a.req, a.length(), a.zero, a.discard, 512]).max(1);
-        let base = unit * self.random.below((most / unit).clamp(1, 5));
+        let base = unit * self.random.below((most / unit).clamp(2, 5));
         let shift = self.random.pick(&[0, 0, 0, 1, 10, 100, unit - 1, unit / 2]);
         base + shift
     }
@@ -176,7 +176,7 @@ impl Maker {
         let count = if self.random.once_in(30) { 15 + self.random.below(3) } else { 1 + self.random.below(3) };
         let unit = if aligned { l } else { 1 };
         let mut start = self.random.below(self.world.data) / unit * unit;
-        let longest = if count > 3 { unit * 8 } else { self.near(2048).max(unit) };
+        let longest = if count > 3 { unit * 8 } else { self.near(4096).max(unit) };
         let mut segments = Vec::new();
         for _ in 0..count {
             let length = self.random_length(longest).div_ceil(unit) * unit;
@@ -221,18 +221,23 @@ impl Maker {
         self.push(Event::Begin(begin));
     }
 
-    fn code(&mut self) -> u8 {
+    /// A code for a request; where 1 has a fallback it comes more often.
+    fn code(&mut self, kind: Kind) -> u8 {
+        let has_fallback = !matches!(kind, Kind::Read | Kind::Write);
+        if has_fallback && self.random.once_in(3) {
+            return 1;
+        }
         match self.random.below(20) {
-            0..=13 => 0,
-            14..=16 => 1,
+            0..=15 => 0,
+            16..=17 => 1,
             _ => self.random.pick(&[2, 5, 38, 95, 199]),
         }
     }
 
-    fn act(&mut self) -> Act {
+    fn act(&mut self, kind: Kind) -> Act {
         let word = self.random.word();
         let choice = self.random.pick(&[None, Some(word), Some(word), Some(u64::MAX), Some(0x5555_5555_5555_5555)]);
-        let code = if self.random.once_in(200) { 200 } else { self.code() };
+        let code = if self.random.once_in(200) { 200 } else { self.code(kind) };
         Act { code, choice }
     }
 
@@ -240,8 +245,8 @@ impl Maker {
     fn serve(&mut self, view: &View) {
         let slot = view.slot as u64;
         match (&view.due, self.session.carried(view.slot)) {
-            (Due::Make(_), None) => {
-                let act = self.act();
+            (Due::Make(request), None) => {
+                let act = self.act(request.kind);
                 self.push(Event::Carry { slot, act });
             }
             (Due::Make(_), Some(code)) => self.push(Event::Tell { slot, code }),

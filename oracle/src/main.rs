@@ -1,12 +1,13 @@
 //! The commands: see the usage below and README.md.
 
+use oracle::coverage::Coverage;
 use oracle::document_parts::{DocumentPlanner, DocumentVectors};
 use oracle::document_side::{DocumentSide, NotedBlockers};
 use oracle::event::Event;
 use oracle::fixed::fixed;
 use oracle::imago_parts::{ImagoBlockers, ImagoPlanner, ImagoVectors};
 use oracle::imago_side::ImagoSide;
-use oracle::lists::MEMORY;
+use oracle::lists::{random_list, MEMORY, SCRIPTS};
 use oracle::plant::{Fault, Planted, FAULTS};
 use oracle::replay::{imago_trace, Replay};
 use oracle::runner::{run_lists, run_parts, run_replay, vector_data, Run};
@@ -23,6 +24,7 @@ oracle parts  [--lists N] [--seed S]                  vectors, write blockers an
 oracle replay [--lists N] [--seed S] [--plant NAME] [--program PATH]
                                                       imago against the program `replay`, by scripts
 oracle fixed  [--seed S] [--out DIR]                  writes the fixed list: DIR/script and imago's DIR/trace
+oracle reach  [--lists N] [--seed S]                  how often the lists of `lists`, then of `replay`, reach what
 oracle trace                                          imago's trace of a script on standard input";
 
 struct Options {
@@ -91,10 +93,22 @@ fn fixed_list(o: &Options) -> Result<u64, String> {
         .and_then(|()| write("script", &made.script))
         .and_then(|()| write("trace", &made.trace));
     written.map_err(|e| format!("{}: {e}", o.out))?;
-    made.coverage.counts.iter().for_each(|(name, n)| println!("{n:6} {name}"));
+    made.coverage.show();
     let (script, trace) = (made.script.len(), made.trace.len());
     println!("{} lists, {} events, {script} bytes of script, {trace} of trace", made.lists, made.events);
     Ok(0)
+}
+
+fn reach(o: &Options) -> u64 {
+    for (name, world) in [("lists", MEMORY), ("replay", SCRIPTS)] {
+        let mut coverage = Coverage::default();
+        for list in 0..o.run.lists {
+            coverage.merge(&Coverage::of(&random_list(o.run.seed, list, world), world));
+        }
+        println!("{} lists of `oracle {name}`", o.run.lists);
+        coverage.show();
+    }
+    0
 }
 
 fn is_comment(line: &str) -> bool {
@@ -128,6 +142,7 @@ fn main() -> ExitCode {
         "parts" => Ok(parts(&o)),
         "replay" => replay(&o),
         "fixed" => fixed_list(&o),
+        "reach" => Ok(reach(&o)),
         "trace" => trace(),
         _ => Err(USAGE.to_owned()),
     });
