@@ -60,24 +60,28 @@ struct DocumentJob {
     course: Course,
 }
 
-pub struct DocumentSide {
+/// Document 01's rules over blockers of some kind.
+pub struct RulesSide<B> {
     jobs: [Option<DocumentJob>; SLOTS],
-    blockers: NotedBlockers,
+    blockers: B,
     opening: Opening,
     data: Vec<u8>,
     scratch: Vec<u8>,
     store: Store,
 }
 
+/// Document 01's rules over its own blockers.
+pub type DocumentSide = RulesSide<NotedBlockers>;
+
 fn range_of(s: &Segment) -> Range<usize> {
     s.start as usize..(s.start + s.length) as usize
 }
 
-impl DocumentSide {
+impl<B: Blockers + Default> RulesSide<B> {
     pub fn new(data_len: usize, store: Store) -> Self {
-        DocumentSide {
+        RulesSide {
             jobs: Default::default(),
-            blockers: NotedBlockers::default(),
+            blockers: B::default(),
             opening: CLOSED,
             data: vec![0; data_len],
             scratch: Vec::new(),
@@ -89,7 +93,7 @@ impl DocumentSide {
         self.jobs.get(slot)?.as_ref()
     }
 
-    pub fn blockers(&self) -> &NotedBlockers {
+    pub fn blockers(&self) -> &B {
         &self.blockers
     }
 
@@ -157,10 +161,10 @@ impl DocumentSide {
     }
 }
 
-impl Side for DocumentSide {
+impl<B: Blockers + Default> Side for RulesSide<B> {
     fn open(&mut self, opening: &Opening) -> u8 {
         self.jobs = Default::default();
-        self.blockers = NotedBlockers::default();
+        self.blockers = B::default();
         self.opening = *opening;
         let answer = document::opening(opening);
         if answer == 0 {

@@ -32,6 +32,20 @@ impl Found {
     }
 }
 
+/// Names the list in which a side, or imago itself, panics.
+struct Named {
+    seed: u64,
+    list: u64,
+}
+
+impl Drop for Named {
+    fn drop(&mut self) {
+        if std::thread::panicking() {
+            println!("panic in list {} of seed {}", self.list, self.seed);
+        }
+    }
+}
+
 /// Compares the two sides, made anew for every list over a store and so many bytes of data, up to the first difference.
 pub fn run_lists<A: Side, B: Side>(
     run: Run,
@@ -45,6 +59,7 @@ pub fn run_lists<A: Side, B: Side>(
     let differs =
         |events: &[Event]| compare(events, left(data, content.clone()), right(data, content.clone()), &content);
     for list in 0..run.lists {
+        let _named = Named { seed: run.seed, list };
         let events = random_list(run.seed, list, world);
         progress.list(events.len());
         if differs(&events).is_some() {
@@ -94,6 +109,7 @@ fn batch(run: Run, from: u64) -> Vec<Vec<Event>> {
     let mut batch = Vec::new();
     let mut bytes = 0;
     for list in from..run.lists {
+        let _named = Named { seed: run.seed, list };
         let events = random_list(run.seed, list, SCRIPTS);
         bytes += script(&events).len();
         if bytes > LONGEST_SCRIPT {

@@ -1,7 +1,7 @@
 //! A run finds no difference, and every planted fault.
 
 use oracle::document_parts::{DocumentPlanner, DocumentVectors};
-use oracle::document_side::{DocumentSide, NotedBlockers};
+use oracle::document_side::{DocumentSide, NotedBlockers, RulesSide};
 use oracle::imago_parts::{ImagoBlockers, ImagoPlanner, ImagoVectors};
 use oracle::imago_side::ImagoSide;
 use oracle::lists::MEMORY;
@@ -66,6 +66,18 @@ impl Blockers for Impatient {
     fn leave(&mut self, slot: usize) {
         self.0.leave(slot);
     }
+}
+
+#[test]
+fn a_dock_that_does_not_wait_for_those_that_wait_is_seen() {
+    let (_, found) = run_lists(RUN, MEMORY, ImagoSide::new, RulesSide::<Impatient>::new);
+    assert!(found.is_some());
+}
+
+#[test]
+fn a_dock_over_imagos_blockers_agrees() {
+    let (_, found) = run_lists(RUN, MEMORY, ImagoSide::new, RulesSide::<ImagoBlockers>::new);
+    assert!(found.is_none(), "{:?}", found.map(|f| f.difference));
 }
 
 /// Blockers that take empty ranges for none.
