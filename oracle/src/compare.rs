@@ -6,7 +6,7 @@ use crate::flight::Flight;
 use crate::plain::Plain;
 use crate::session::{Observed, Session};
 use crate::side::Side;
-use crate::store::Store;
+use crate::store::Content;
 use crate::trace;
 
 /// The first difference of a list.
@@ -64,10 +64,10 @@ fn answers(left: &Observed, right: &Observed) -> Option<String> {
     Some(format!("[{}] and [{}]", text(left), text(right)))
 }
 
-/// Feeds the list to both sides, whose stores hold `content`, up to the first difference. A list that goes where imago and
+/// Feeds the list to both sides, which hold `content`, up to the first difference. A list that goes where imago and
 /// document 01 depart is compared up to there.
-pub fn compare<A: Side, B: Side>(events: &[Event], left: A, right: B, content: &Store) -> Option<Difference> {
-    let plain = [Plain::new(content.clone()), Plain::new(content.clone())];
+pub fn compare<A: Side, B: Side>(events: &[Event], left: A, right: B, content: &Content) -> Option<Difference> {
+    let plain = [Plain::new(content.store.clone()), Plain::new(content.store.clone())];
     let mut pair = Pair { left: Session::new(left), right: Session::new(right), plain };
     let mut flight = Flight::default();
     for (at, event) in events.iter().enumerate() {

@@ -70,7 +70,7 @@ impl Coverage {
     /// What a list reaches, by document 01's rules.
     pub fn of(events: &[Event], world: World) -> Self {
         let mut coverage = Coverage::default();
-        let mut session = Session::new(DocumentSide::new(world.data as usize, world.store()));
+        let mut session = Session::new(DocumentSide::new(&world.content()));
         for event in events {
             let before = session.side.requests();
             let seen = session.perform(event);

@@ -3,7 +3,7 @@
 use crate::document::{self, Course, First, InFlight};
 use crate::imago_side::CLOSED;
 use crate::side::{Act, Begin, Begun, Blockers, Due, Job, Kind, Opening, Piece, Request, Segment, Side, SLOTS};
-use crate::store::Store;
+use crate::store::{Content, Store};
 use std::ops::Range;
 
 /// A blocker that is entered, and those that it noted and that are still there.
@@ -78,14 +78,14 @@ fn range_of(s: &Segment) -> Range<usize> {
 }
 
 impl<B: Blockers + Default> RulesSide<B> {
-    pub fn new(data_len: usize, store: Store) -> Self {
+    pub fn new(content: &Content) -> Self {
         RulesSide {
             jobs: Default::default(),
             blockers: B::default(),
             opening: CLOSED,
-            data: vec![0; data_len],
+            data: content.data.clone(),
             scratch: Vec::new(),
-            store,
+            store: content.store.clone(),
         }
     }
 

@@ -72,9 +72,7 @@ pub struct ImagoVectors {
 
 impl ImagoVectors {
     pub fn new(bytes: &[u8]) -> Self {
-        let mut data = Data::new(bytes.len());
-        data.bytes_mut().copy_from_slice(bytes);
-        ImagoVectors { data }
+        ImagoVectors { data: Data::new(bytes) }
     }
 
     fn segments(&self, v: IoVector<'static>) -> Vec<Segment> {

@@ -9,7 +9,7 @@ use crate::executor::Task;
 use crate::memory::Data;
 use crate::port::{self, Memory, Pending, Port};
 use crate::side::{Act, Alignments, Begin, Begun, Due, Job, Kind, Lent, Opening, Piece, Request, Segment, Side, SLOTS};
-use crate::store::Store;
+use crate::store::{Content, Store};
 use imago::StorageExt;
 use std::sync::Arc;
 use std::{io, slice};
@@ -63,13 +63,13 @@ fn future_of(port: &Arc<Port>, data: &Data, begin: &Begin) -> Task<io::Result<()
 }
 
 impl ImagoSide {
-    pub fn new(data_len: usize, store: Store) -> Self {
+    pub fn new(content: &Content) -> Self {
         ImagoSide {
             jobs: Default::default(),
             port: Arc::new(Port::new(CLOSED.align)),
             opening: CLOSED,
-            data: Data::new(data_len),
-            store,
+            data: Data::new(&content.data),
+            store: content.store.clone(),
         }
     }
 

@@ -8,7 +8,7 @@ use crate::imago_side::ImagoSide;
 use crate::random::Random;
 use crate::session::{Observed, Session, View};
 use crate::side::{Act, Alignments, Begin, Due, Job, Kind, Lent, Opening, Segment, ROWS, SLOTS};
-use crate::store::Store;
+use crate::store::{Content, Store};
 
 /// The buffers and the store that lists are made for.
 #[derive(Clone, Copy)]
@@ -24,9 +24,20 @@ pub const SCRIPTS: World = World { data: REPLAY_DATA, low: REPLAY_STORE, high: 0
 pub const MEMORY: World = World { data: 8192, low: 16_384, high: 8192, scripts: false };
 
 impl World {
-    pub fn store(&self) -> Store {
-        Store::new(self.low, self.high)
+    /// What a list starts with: zeroes as in `replay`, otherwise bytes that differ from one offset to the next.
+    pub fn content(&self) -> Content {
+        let mut content = Content { store: Store::new(self.low, self.high), data: vec![0; self.data as usize] };
+        if !self.scripts {
+            content.store.each(0, u64::MAX, |o, byte| *byte = mixed(o));
+            content.data.iter_mut().enumerate().for_each(|(i, byte)| *byte = mixed(!(i as u64)));
+        }
+        content
     }
+}
+
+/// A byte that says little about its offset.
+fn mixed(o: u64) -> u8 {
+    (o.wrapping_mul(0x9e37_79b9_7f4a_7c15) >> 56) as u8
 }
 
 /// A list while it is made: imago's side runs along, so that events fit what is out.
@@ -42,19 +53,25 @@ pub struct Maker {
 /// A random list.
 pub fn random_list(seed: u64, list: u64, world: World) -> Vec<Event> {
     let mut maker = Maker::new(Random::new(seed, list), world);
+    if world.scripts {
+        maker.mixed_bytes();
+    }
     maker.open();
-    maker.content();
+    maker.fills();
     let events = 10 + maker.random.below(50);
     for _ in 0..events {
         maker.any();
     }
     maker.drain();
+    if world.scripts {
+        maker.shows();
+    }
     maker.events
 }
 
 impl Maker {
     pub fn new(random: Random, world: World) -> Self {
-        let session = Session::new(ImagoSide::new(world.data as usize, world.store()));
+        let session = Session::new(ImagoSide::new(&world.content()));
         let seen = Observed { answer: crate::session::Answer::Done, views: Vec::new() };
         Maker { random, world, session, flight: Flight::default(), seen, events: Vec::new() }
     }
@@ -112,11 +129,40 @@ impl Maker {
         self.push(Event::Open(Opening { align, bounce, data, scratch }));
     }
 
-    /// What the store and the data hold before the first job, whatever they held before.
-    pub fn content(&mut self) {
-        let bytes = self.random.word().to_le_bytes();
-        self.push(Event::Store { offset: 0, length: self.world.low as u64, byte: bytes[0] });
-        self.push(Event::Data { offset: 0, length: self.world.data, byte: bytes[1] });
+    /// A script sets runs of one byte only; by a discard with a choice, and a read, store and data get eight bytes over and over.
+    fn mixed_bytes(&mut self) {
+        let choice = Some(self.random.word());
+        self.push(Event::OpenRow { row: 0, bounce: 4 });
+        let all = Segment { start: 0, length: self.world.data };
+        for begin in [
+            Begin::range(Job::Discard, 0, self.world.low as u64),
+            Begin::vector(Job::Read, self.random.below(8), vec![all]),
+        ] {
+            self.push(Event::Begin(begin));
+            self.push(Event::Carry { slot: 0, act: Act { code: 0, choice } });
+            self.push(Event::Tell { slot: 0, code: 0 });
+            self.push(Event::Collect(0));
+        }
+    }
+
+    /// The trace of a script has sums only: bytes of the store, and of the data by way of the store, are shown.
+    fn shows(&mut self) {
+        for _ in 0..3 {
+            let offset = self.near(self.world.low as u64).saturating_sub(20);
+            self.push(Event::Show { offset, length: 64 });
+        }
+        self.push(Event::OpenRow { row: 0, bounce: 4 });
+        let all = Segment { start: 0, length: self.world.data };
+        self.push(Event::Begin(Begin::vector(Job::Write, 0, vec![all])));
+        self.push(Event::Carry { slot: 0, act: Act { code: 0, choice: None } });
+        for _ in 0..3 {
+            let offset = self.random.below(self.world.data);
+            self.push(Event::Show { offset, length: 64 });
+        }
+    }
+
+    /// Runs of one byte in the store and the data, before the first job.
+    fn fills(&mut self) {
         for _ in 0..1 + self.random.below(4) {
             let (offset, byte) = (self.random.below(self.world.low as u64), self.random.below(256) as u8);
             let length = self.random_length(4096);

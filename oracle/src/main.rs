@@ -12,6 +12,7 @@ use oracle::plant::{Fault, Planted, FAULTS};
 use oracle::replay::{imago_trace, Replay};
 use oracle::runner::{run_lists, run_parts, run_replay, vector_data, Run};
 use oracle::script::parse;
+use oracle::store::Content;
 use std::env;
 use std::fs;
 use std::io::{self, Read};
@@ -61,7 +62,7 @@ fn options(mut args: env::Args) -> Result<Options, String> {
 }
 
 fn lists(o: &Options) -> u64 {
-    let planted = |data, store| Planted::new(DocumentSide::new(data, store), o.fault);
+    let planted = |content: &Content| Planted::new(DocumentSide::new(content), o.fault);
     let (progress, found) = run_lists(o.run, MEMORY, ImagoSide::new, planted);
     found.iter().for_each(|f| f.show());
     progress.show();

@@ -15,11 +15,14 @@ pub struct Data {
 }
 
 impl Data {
-    pub fn new(length: usize) -> Self {
+    pub fn new(bytes: &[u8]) -> Self {
+        let length = bytes.len();
         // SAFETY: the layout's size is not 0.
         let base = unsafe { alloc_zeroed(Data::layout(length)) };
         assert!(!base.is_null(), "no memory for the data");
-        Data { base, shift: 0, length }
+        let mut data = Data { base, shift: 0, length };
+        data.bytes_mut().copy_from_slice(bytes);
+        data
     }
 
     fn layout(length: usize) -> Layout {

@@ -37,9 +37,10 @@ pub struct ImagoTrace {
 
 /// imago's trace of a list, up to where imago and document 01 depart.
 pub fn imago_trace(events: &[Event], fault: Option<Fault>) -> ImagoTrace {
-    let side = ImagoSide::new(SCRIPTS.data as usize, SCRIPTS.store());
+    let content = SCRIPTS.content();
+    let side = ImagoSide::new(&content);
     let mut session = Session::new(Planted::new(side, fault));
-    let mut plain = Plain::new(SCRIPTS.store());
+    let mut plain = Plain::new(content.store);
     let mut flight = Flight::default();
     let mut traced = ImagoTrace { lines: Vec::with_capacity(events.len()), broken: None };
     for (at, event) in events.iter().enumerate() {

@@ -9,7 +9,7 @@ use crate::random::Random;
 use crate::replay::{first_difference, imago_trace, script, Replay, LONGEST_SCRIPT};
 use crate::shrink::shrink;
 use crate::side::{Blockers, Planner, Side, Vectors};
-use crate::store::Store;
+use crate::store::Content;
 use std::io;
 
 /// How many lists, and from which seed.
@@ -46,18 +46,16 @@ impl Drop for Named {
     }
 }
 
-/// Compares the two sides, made anew for every list over a store and so many bytes of data, up to the first difference.
+/// Compares the two sides, made anew for every list with the same content, up to the first difference.
 pub fn run_lists<A: Side, B: Side>(
     run: Run,
     world: World,
-    left: impl Fn(usize, Store) -> A,
-    right: impl Fn(usize, Store) -> B,
+    left: impl Fn(&Content) -> A,
+    right: impl Fn(&Content) -> B,
 ) -> (Progress, Option<Found>) {
     let mut progress = Progress::default();
-    let content = world.store();
-    let data = world.data as usize;
-    let differs =
-        |events: &[Event]| compare(events, left(data, content.clone()), right(data, content.clone()), &content);
+    let content = world.content();
+    let differs = |events: &[Event]| compare(events, left(&content), right(&content), &content);
     for list in 0..run.lists {
         let _named = Named { seed: run.seed, list };
         let events = random_list(run.seed, list, world);

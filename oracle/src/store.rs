@@ -13,6 +13,13 @@ pub struct Store {
     high: Vec<u8>,
 }
 
+/// What the store and the data hold before a list.
+#[derive(Clone)]
+pub struct Content {
+    pub store: Store,
+    pub data: Vec<u8>,
+}
+
 /// Whether a choice makes the byte at offset o new.
 fn is_new(choice: u64, o: u64) -> bool {
     (choice >> (o % 64)) & 1 == 1

@@ -4,7 +4,7 @@ use imago::io_buffers::IoVector;
 use imago::StorageExt;
 use oracle::document_parts::DocumentPlanner;
 use oracle::document_side::DocumentSide;
-use oracle::event::{row_opening, Event, REPLAY_DATA};
+use oracle::event::Event;
 use oracle::executor::Task;
 use oracle::imago_parts::ImagoPlanner;
 use oracle::imago_side::ImagoSide;
@@ -40,9 +40,9 @@ fn number_3_the_time_of_the_copy() {
         "tell 1 0",
         "show 512 1",
     ];
-    let data = REPLAY_DATA as usize;
-    assert_eq!(shown(DocumentSide::new(data, SCRIPTS.store()), &list), Answer::Bytes(vec![1]));
-    assert_eq!(shown(ImagoSide::new(data, SCRIPTS.store()), &list), Answer::Bytes(vec![2]));
+    let content = SCRIPTS.content();
+    assert_eq!(shown(DocumentSide::new(&content), &list), Answer::Bytes(vec![1]));
+    assert_eq!(shown(ImagoSide::new(&content), &list), Answer::Bytes(vec![2]));
 }
 
 fn opening(bounce: u64) -> Opening {
@@ -96,8 +96,7 @@ fn number_7_no_limit_of_a_vector() {
 fn number_9_the_share() {
     let list = ["open 1 4096", "zero 0 4097", "carry 0 1", "tell 0 1", "next 0"];
     let text = |answer: Answer| oracle::trace::answer(&answer);
-    let data = REPLAY_DATA as usize;
-    assert_eq!(row_opening(1, 4096).align, ROWS[1]);
-    assert_eq!(text(shown(DocumentSide::new(data, SCRIPTS.store()), &list)), " write 0+4096 from scratch 0+4096");
-    assert_eq!(text(shown(ImagoSide::new(data, SCRIPTS.store()), &list)), " read 4096+512 into scratch 4096+512");
+    let content = SCRIPTS.content();
+    assert_eq!(text(shown(DocumentSide::new(&content), &list)), " write 0+4096 from scratch 0+4096");
+    assert_eq!(text(shown(ImagoSide::new(&content), &list)), " read 4096+512 into scratch 4096+512");
 }

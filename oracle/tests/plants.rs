@@ -9,6 +9,7 @@ use oracle::parts::Found;
 use oracle::plant::{Fault, Planted, FAULTS};
 use oracle::runner::{run_lists, run_parts, vector_data, Run};
 use oracle::side::{Blockers, Opening, Planner, Segment, Vectors};
+use oracle::store::Content;
 use std::ops::Range;
 
 const RUN: Run = Run { lists: 400, seed: 11 };
@@ -22,7 +23,7 @@ fn sides_agree() {
 #[test]
 fn every_fault_is_seen() {
     for (name, fault) in FAULTS {
-        let planted = |data, store| Planted::new(DocumentSide::new(data, store), Some(fault));
+        let planted = |content: &Content| Planted::new(DocumentSide::new(content), Some(fault));
         let (_, found) = run_lists(RUN, MEMORY, ImagoSide::new, planted);
         assert!(found.is_some(), "{name} is not seen");
     }
@@ -33,7 +34,7 @@ fn every_fault_is_seen() {
 fn the_plain_byte_store_sees_faults() {
     let unseen = [Fault::ShiftedPiece, Fault::LongWait];
     for (name, fault) in FAULTS.into_iter().filter(|(_, fault)| !unseen.contains(fault)) {
-        let planted = |data, store| Planted::new(DocumentSide::new(data, store), Some(fault));
+        let planted = |content: &Content| Planted::new(DocumentSide::new(content), Some(fault));
         let (_, found) = run_lists(RUN, MEMORY, planted, planted);
         assert!(found.is_some(), "{name} is not seen");
     }

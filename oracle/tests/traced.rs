@@ -1,7 +1,7 @@
 //! Document 01's traced jobs, on imago's side and by its rules.
 
 use oracle::document_side::DocumentSide;
-use oracle::event::{row_opening, REPLAY_DATA};
+use oracle::event::row_opening;
 use oracle::imago_side::ImagoSide;
 use oracle::lists::SCRIPTS;
 use oracle::side::{Act, Begin, Begun, Due, Job, Segment, Side};
@@ -30,8 +30,8 @@ fn requests(side: &mut impl Side, row: u64, bounce: u64, begin: &Begin, first: u
 }
 
 fn check(row: u64, bounce: u64, begin: Begin, first: u8, expected: &[&str]) {
-    let imago = requests(&mut ImagoSide::new(REPLAY_DATA as usize, SCRIPTS.store()), row, bounce, &begin, first);
-    let rules = requests(&mut DocumentSide::new(REPLAY_DATA as usize, SCRIPTS.store()), row, bounce, &begin, first);
+    let imago = requests(&mut ImagoSide::new(&SCRIPTS.content()), row, bounce, &begin, first);
+    let rules = requests(&mut DocumentSide::new(&SCRIPTS.content()), row, bounce, &begin, first);
     assert_eq!(imago, expected, "imago, {begin:?}");
     assert_eq!(rules, expected, "rules, {begin:?}");
 }
