@@ -24,6 +24,8 @@ pub enum Fault {
     LostWrite,
     /// A read leaves one wrong byte in the data.
     WrongRead,
+    /// A read leaves two bytes in each other's place.
+    SwappedBytes,
     /// After answer 1 only the middle of a zero job is zeroed.
     MiddleOnly,
     /// Answer 1 to a discard ends its job with 1.
@@ -36,7 +38,7 @@ pub enum Fault {
     RoundedEnd,
 }
 
-pub const FAULTS: [(&str, Fault); 14] = [
+pub const FAULTS: [(&str, Fault); 15] = [
     ("long-request", Fault::LongRequest),
     ("shifted-piece", Fault::ShiftedPiece),
     ("other-answer", Fault::OtherAnswer),
@@ -46,6 +48,7 @@ pub const FAULTS: [(&str, Fault); 14] = [
     ("neighbour-byte", Fault::NeighbourByte),
     ("lost-write", Fault::LostWrite),
     ("wrong-read", Fault::WrongRead),
+    ("swapped-bytes", Fault::SwappedBytes),
     ("middle-only", Fault::MiddleOnly),
     ("discard-fails", Fault::DiscardFails),
     ("other-slot", Fault::OtherSlot),
@@ -103,11 +106,13 @@ impl<S: Side> Planted<S> {
         }
     }
 
-    /// The first byte of the data that a tell changed is changed again.
+    /// The first byte of the data that a tell changed is changed again, or changes places with the next.
     fn spoil(&mut self, before: &[u8]) {
-        let changed = self.side.data().iter().zip(before).position(|(a, b)| a != b);
-        if let Some(at) = changed {
-            self.side.data_mut()[at] ^= 1;
+        let Some(at) = self.side.data().iter().zip(before).position(|(a, b)| a != b) else { return };
+        let swaps = self.has(Fault::SwappedBytes) && at + 1 < before.len();
+        match self.side.data_mut() {
+            data if swaps => data.swap(at, at + 1),
+            data => data[at] ^= 1,
         }
     }
 
@@ -177,7 +182,8 @@ impl<S: Side> Side for Planted<S> {
         if code == 1 {
             self.note_unsupported(slot);
         }
-        let before = self.has(Fault::WrongRead).then(|| self.side.data().to_vec());
+        let spoils = self.has(Fault::WrongRead) || self.has(Fault::SwappedBytes);
+        let before = spoils.then(|| self.side.data().to_vec());
         let told = self.side.tell(slot, code);
         if let Some(before) = before {
             self.spoil(&before);
