@@ -24,7 +24,7 @@ oracle lists  [--lists N] [--seed S] [--plant NAME]   imago against document 01'
 oracle parts  [--lists N] [--seed S]                  vectors, write blockers and the planner, each alone
 oracle replay [--lists N] [--seed S] [--plant NAME] [--program PATH]
                                                       imago against the program `replay`, by scripts
-oracle fixed  [--seed S] [--out DIR]                  writes the fixed list: DIR/script and imago's DIR/trace
+oracle fixed  [--seed S] [--out DIR]                  writes the fixed list: DIR/stdin and imago's DIR/stdout
 oracle reach  [--lists N] [--seed S]                  how often the lists of `lists`, then of `replay`, reach what
 oracle trace                                          imago's trace of a script on standard input";
 
@@ -46,7 +46,7 @@ fn fault_named(name: &str) -> Result<Fault, String> {
 }
 
 fn options(mut args: env::Args) -> Result<Options, String> {
-    let (program, out) = ("../target/bin/replay".to_owned(), "fixed".to_owned());
+    let (program, out) = ("../target/bin/replay".to_owned(), "../crates/imago_list".to_owned());
     let mut o = Options { run: Run { lists: 10_000, seed: 1 }, fault: None, program, out };
     while let Some(arg) = args.next() {
         match arg.as_str() {
@@ -91,8 +91,8 @@ fn fixed_list(o: &Options) -> Result<u64, String> {
     let made = fixed(o.run.seed);
     let write = |name: &str, text: &str| fs::write(Path::new(&o.out).join(name), text);
     let written = fs::create_dir_all(&o.out)
-        .and_then(|()| write("script", &made.script))
-        .and_then(|()| write("trace", &made.trace));
+        .and_then(|()| write("stdin", &made.script))
+        .and_then(|()| write("stdout", &made.trace));
     written.map_err(|e| format!("{}: {e}", o.out))?;
     made.coverage.show();
     let (script, trace) = (made.script.len(), made.trace.len());

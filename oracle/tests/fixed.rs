@@ -8,8 +8,8 @@ const SEED: u64 = 1;
 #[test]
 fn the_fixed_list_is_as_committed() {
     let made = fixed(SEED);
-    assert!(made.script == include_str!("../fixed/script"), "oracle fixed --seed {SEED} gives another script");
-    assert!(made.trace == include_str!("../fixed/trace"), "oracle fixed --seed {SEED} gives another trace");
+    assert!(made.script == include_str!("../../crates/imago_list/stdin"), "oracle fixed --seed {SEED} gives another script");
+    assert!(made.trace == include_str!("../../crates/imago_list/stdout"), "oracle fixed --seed {SEED} gives another trace");
 }
 
 #[test]
