@@ -12,7 +12,7 @@ ghost use mathlib.Core.Bool.{true};
 ghost use lib.Dec.{ltb};
 ghost use mathlib.Core.Path.{_≡_};
 ghost use Prim.Native.Nat.{_<_};
-ghost use Rattle.arithmetic.specs.Zeroes.{cutFits, hasMiddle, cutOf, zeroCutOf, discardCutOf, chunkLength, chunkOf};
+ghost use Rattle.arithmetic.specs.Zeroes.{cutFits, cutOf, zeroCutOf, discardCutOf, chunkLength, chunkOf};
 
 // A range with its aligned middle: head, middle and tail are adjacent; head and tail may be empty.
 pub struct Cut {

@@ -1,4 +1,4 @@
--- Begin and tell, as far as one slot and the blockers go: what is stored in the dock where it is done. Laws (proofs/Slots.antt): stored, it is what Begin and Tell say.
+-- Begin and tell, as far as one slot and the blockers go: what is stored in the dock where it is done. Stored, it is what Begin and Tell say: SlotLaws.
 use mathlib.Core.Path.{_≡_}
 use mathlib.Core.Bool.{Bool, true, _&&_}
 use mathlib.Core.List.{List}

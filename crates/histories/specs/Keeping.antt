@@ -50,18 +50,24 @@ strong-present true = refl
 strong-present false = refl
 
 module _ (b : Blockers) (p : ℕ) (y : State) (rank : ℕ → ℕ) (clock : ℕ) (R : Reached b rank clock) where
-  -- no blocker was there, and none comes
-  pub none-changes : isEntered (blockerAt b p) ≡ false → isBlocking (y .phase) ≡ false → Changes b p y (record { blockers = b; outcome = Done })
-  none-changes e f = record {
+  -- the blockers stay as they are
+  unchanged : isEntered (blockerAt b p) ≡ isBlocking (y .phase)
+      → (isBlocking (y .phase) ≡ true → (blockerAt b p .kind ≡ strength (y .stage .strong)) × (blockerAt b p .range ≡ y .stage .request))
+      → Changes b p y (record { blockers = b; outcome = Done })
+  unchanged e o = record {
     done = refl;
     rank = rank;
     clock = clock;
     reached = R;
     kinds = λ q n. refl;
     ranges = λ q n. refl;
-    entered = e ∙ sym f;
-    own = λ u. never (sym f ∙ u);
+    entered = e;
+    own = o;
   }
+
+  -- no blocker was there, and none comes
+  pub none-changes : isEntered (blockerAt b p) ≡ false → isBlocking (y .phase) ≡ false → Changes b p y (record { blockers = b; outcome = Done })
+  none-changes e f = unchanged (e ∙ sym f) (λ u. never (sym f ∙ u))
 
 module _ (b : Blockers) (p : ℕ) (y : State) (rank : ℕ → ℕ) (clock : ℕ) (R : Reached b rank clock) (h : p < 8) where
   -- a blocker enters into a vacant slot
@@ -114,16 +120,7 @@ module _ (b : Blockers) (p : ℕ) (y : State) (rank : ℕ → ℕ) (clock : ℕ)
   pub stay-changes : (x : State) → y .stage ≡ x .stage → isBlocking (y .phase) ≡ isBlocking (x .phase) → present (blockerAt b p .kind) ≡ isBlocking (x .phase)
       → (isBlocking (x .phase) ≡ true → (blockerAt b p .kind ≡ strength (x .stage .strong)) × (blockerAt b p .range ≡ x .stage .request))
       → Changes b p y (record { blockers = b; outcome = Done })
-  stay-changes x g f e o = record {
-    done = refl;
-    rank = rank;
-    clock = clock;
-    reached = R;
-    kinds = λ q n. refl;
-    ranges = λ q n. refl;
-    entered = e ∙ sym f;
-    own = λ u. rw g (o (sym f ∙ u));
-  }
+  stay-changes x g f e o = unchanged b p y rank clock R (e ∙ sym f) (λ u. rw g (o (sym f ∙ u)))
 
 -- ---- one slot anew
 
