@@ -47,7 +47,7 @@ pub fn range_overlaps(a: Range, b: Range) -> bool
 }
 
 // Whether a blocker of kind `entering` notes an overlapping one of kind `there`: not where both are weak.
-fn conflicts(entering: Kind, there: Kind) -> bool
+pub fn conflicts(entering: Kind, there: Kind) -> bool
     ensures { λ r. ⌜ r ≡ conflict entering there ⌝ }
 {
     match entering {
@@ -65,7 +65,8 @@ fn conflicts(entering: Kind, there: Kind) -> bool
     }
 }
 
-fn vacant() -> Blocker
+// No blocker.
+pub fn vacant() -> Blocker
     ensures { λ r. ⌜ r ≡ vacant ⌝ }
 {
     Blocker {
