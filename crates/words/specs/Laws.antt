@@ -2,7 +2,7 @@
 use mathlib.Core.Path.{_≡_, refl, sym, ap, _∙_}
 use mathlib.Core.Bool.{Bool, true, false}
 use mathlib.Core.List.{List, [], _∷_, _++_, map}
-use Prim.Native.Nat.{ℕ, zero, suc, _+_, _-_, _*_, _≤_, _<_}
+use Prim.Native.Nat.{ℕ, zero, suc, _+_, _-_, _*_, _<_}
 use native.Mathlib.Nat.{add-zero, mod-eq-of-lt}
 use native.Mathlib.Omega.{arith}
 use lib.ListN.{length, take, drop, getD, set, length-map, length-set, List·getD-map}
@@ -19,21 +19,20 @@ use Rattle.stages.specs.declared.state.Job.{Job}
 use Rattle.stages.specs.declared.state.Job.the-variants.{Read, Write, Zeroes, AllocatedZeroes, Discard}
 use Rattle.stages.specs.declared.state.Course.{Course}
 use Rattle.stages.specs.declared.state.Course.the-variants.{Last, Middle, Head, Chunks}
-use Rattle.stages.specs.declared.state.Stage.{Stage}
 use Rattle.stages.specs.declared.state.State.{State}
 use Rattle.vectors.specs.declared.vector.Segment.{Segment}
 use Rattle.vectors.specs.declared.vector.IoVector.{IoVector}
 use Rattle.dock.specs.Dock.{noState, noVector}
-use Rattle.words.specs.Rows.{rows, row, put, rows-get, rows-past, rows-put, row-word, row-length, row-set, part-put}
+use Rattle.words.specs.Rows.{rows, row, put, rows-get, rows-put, row-word, row-length, row-set, part-put}
 use Rattle.words.specs.View.{flagOf, flagWord, phaseOf, phaseTag, jobOf, jobTag, courseOf, courseTag, kindOf, kindTag, stageOf, stateOf, stateWords, blockerOf, blockerWords, segmentOf, segmentWords, vectorFrom, vectorWords, blockersOf, statesOf, vectorsOf}
 
 -- ---- one word
 
-pub flag-back : (b : Bool) → flagOf (flagWord b) ≡ b
+flag-back : (b : Bool) → flagOf (flagWord b) ≡ b
 flag-back true = refl
 flag-back false = refl
 
-pub phase-back : (p : Phase) → phaseOf (phaseTag p) ≡ p
+phase-back : (p : Phase) → phaseOf (phaseTag p) ≡ p
 unfolding phaseOf
 phase-back Free = refl
 phase-back Ended = refl
@@ -46,7 +45,7 @@ phase-back DirectWrite = refl
 phase-back ZeroRequest = refl
 phase-back DiscardRequest = refl
 
-pub job-back : (j : Job) → jobOf (jobTag j) ≡ j
+job-back : (j : Job) → jobOf (jobTag j) ≡ j
 unfolding jobOf
 job-back Read = refl
 job-back Write = refl
@@ -54,14 +53,14 @@ job-back Zeroes = refl
 job-back AllocatedZeroes = refl
 job-back Discard = refl
 
-pub course-back : (c : Course) → courseOf (courseTag c) ≡ c
+course-back : (c : Course) → courseOf (courseTag c) ≡ c
 unfolding courseOf
 course-back Last = refl
 course-back Middle = refl
 course-back Head = refl
 course-back Chunks = refl
 
-pub kind-back : (k : Kind) → kindOf (kindTag k) ≡ k
+kind-back : (k : Kind) → kindOf (kindTag k) ≡ k
 unfolding kindOf
 kind-back Absent = refl
 kind-back Weak = refl
@@ -133,9 +132,6 @@ vector-length v i = let e : 3 + 2 * i ≡ suc (suc (suc (2 * i))) = omega arith 
 pub state-row : (w : List ℕ) (p : ℕ) → p < 8 → getD (statesOf w) p noState ≡ stateOf (row 18 p w)
 state-row w p h = rows-get stateOf 18 8 p w noState h
 
-pub state-past : (w : List ℕ) (p : ℕ) → 8 ≤ p → getD (statesOf w) p noState ≡ noState
-state-past w p h = rows-past stateOf 18 8 p w noState h
-
 pub state-put : (w : List ℕ) (p : ℕ) (x : State) → p < 8 → length w ≡ 144 → x .answer < 256 → statesOf (put 18 p w (stateWords x)) ≡ set (statesOf w) p x
 state-put w p x h l a = rows-put stateOf 18 8 p w (stateWords x) h (omega arith) refl ∙ rw (state-back x a)
 
@@ -151,9 +147,6 @@ phase-word w p h = rw (state-row w p h, row-word 18 p w 0 (omega arith), add-zer
 
 pub vector-row : (w : List ℕ) (p : ℕ) → p < 8 → getD (vectorsOf w) p noVector ≡ vectorFrom (row 34 p w)
 vector-row w p h = rows-get vectorFrom 34 8 p w noVector h
-
-pub vector-past : (w : List ℕ) (p : ℕ) → 8 ≤ p → getD (vectorsOf w) p noVector ≡ noVector
-vector-past w p h = rows-past vectorFrom 34 8 p w noVector h
 
 pub vector-put : (w : List ℕ) (p : ℕ) (v : IoVector) → p < 8 → length w ≡ 272 → length (v .segments) ≡ 16 → vectorsOf (put 34 p w (vectorWords v)) ≡ set (vectorsOf w) p v
 vector-put w p v h l n = rows-put vectorFrom 34 8 p w (vectorWords v) h (omega arith) (vector-width v n) ∙ rw (vector-back v n)

@@ -5,7 +5,7 @@ use native.Mathlib.Omega.{arith}
 use mathlib.Core.Path.{_≡_, refl, sym, ap, _∙_}
 use mathlib.Core.List.{List, [], _∷_, _++_, append-assoc}
 use borrow.Rule.Slice.PartMut.{set-mid-at}
-use lib.ListN.{length, take, drop, getD, set, length-drop, List·getD-eq-default}
+use lib.ListN.{length, take, drop, getD, set, length-drop}
 use lib.Seq.{take-at, drop-at, take-add, drop-drop, length-take-le, getD-take, getD-drop}
 
 unfoldable pub rows : {A : Type 0} → (List ℕ → A) → ℕ → ℕ → List ℕ → List A
@@ -62,9 +62,6 @@ module _ {A : Type 0} (dec : List ℕ → A) (k : ℕ) where
   rows-get zero i w d h = absurd (omega arith)
   rows-get (suc n) zero w d h = rw zero-mul
   rows-get (suc n) (suc i) w d h = rows-get n i (drop k w) d (omega arith) ∙ rw (swap i, ← drop-drop (i * k) k w)
-
-  pub rows-past : (n i : ℕ) (w : List ℕ) (d : A) → n ≤ i → getD (rows dec k n w) i d ≡ d
-  rows-past n i w d h = List·getD-eq-default (rows dec k n w) d (rw (rows-length n w) h)
 
   put-first : (w b : List ℕ) → put k 0 w b ≡ b ++ drop k w
   put-first w b = rw zero-mul

@@ -12,6 +12,7 @@ use blockers::Kind;
 use blockers::conflicts;
 use blockers::range_overlaps;
 use blockers::vacant;
+use dock::dock::SLOTS;
 ghost use mathlib.Core.Path.{_≡_};
 ghost use mathlib.Core.List.{map};
 ghost use Prim.Native.Nat.{_<_};
@@ -19,7 +20,8 @@ ghost use lib.ListN.{length};
 ghost use Rattle.blockers.specs.Blockers.{present, notes, notesOf, forgetting, enteredOf, leftOf, waitsOf};
 ghost use Rattle.words.specs.View.{kindOf, blockerOf, blockerWords, blockersOf};
 
-const SLOTS: usize = 8;
+// How many words a blocker has.
+const BLOCKER_WORDS: usize = 11;
 
 // Whether a tag says that a blocker is entered.
 fn is_entered(tag: u64) -> bool
@@ -46,8 +48,8 @@ fn notes(all: &[u64], kind: Kind, range: Range) -> [bool; 8]
     let mut noted = [false; 8];
     let mut i: usize = 0;
     while i < SLOTS {
-        let a = i * 11;
-        let e = a + 11;
+        let a = i * BLOCKER_WORDS;
+        let e = a + BLOCKER_WORDS;
         let n = is_noted(&all[a..e], kind, range);
         noted[i] = n;
         i += 1;
@@ -81,10 +83,10 @@ pub fn waits(all: &[u64], slot: usize) -> bool
     if SLOTS <= slot {
         return false;
     }
-    let own = slot * 11 + 3;
+    let own = slot * BLOCKER_WORDS + 3;
     let mut i: usize = 0;
     while i < SLOTS {
-        let there = is_entered(all[i * 11]);
+        let there = is_entered(all[i * BLOCKER_WORDS]);
         if (all[own + i] != 0) & there {
             return true;
         }
@@ -102,12 +104,12 @@ pub fn enter(all: &mut [u64], kind: Kind, slot: usize, range: Range) -> Outcome
     if SLOTS <= slot {
         return Outcome::Refused(Refusal::Slot);
     }
-    let a = slot * 11;
+    let a = slot * BLOCKER_WORDS;
     if is_entered(all[a]) {
         return Outcome::Refused(Refusal::Slot);
     }
     let noted = notes(all, kind, range);
-    let e = a + 11;
+    let e = a + BLOCKER_WORDS;
     put_blocker(&mut all[a..e], Blocker { kind, range, noted });
     Outcome::Done
 }
@@ -119,7 +121,7 @@ fn forget(all: &mut [u64], slot: usize)
 {
     let mut i: usize = 0;
     while i < SLOTS {
-        all[i * 11 + 3 + slot] = 0;
+        all[i * BLOCKER_WORDS + 3 + slot] = 0;
         i += 1;
     }
 }
@@ -133,12 +135,12 @@ pub fn leave(all: &mut [u64], slot: usize) -> Outcome
     if SLOTS <= slot {
         return Outcome::Refused(Refusal::Slot);
     }
-    let a = slot * 11;
+    let a = slot * BLOCKER_WORDS;
     if !is_entered(all[a]) {
         return Outcome::Refused(Refusal::Slot);
     }
     forget(all, slot);
-    let e = a + 11;
+    let e = a + BLOCKER_WORDS;
     put_blocker(&mut all[a..e], vacant());
     Outcome::Done
 }

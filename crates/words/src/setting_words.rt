@@ -7,7 +7,7 @@ ghost use mathlib.Core.Path.{_≡_};
 ghost use lib.ListN.{length};
 ghost use Rattle.words.specs.View.{settingsOf, buffersOf, settingsWords};
 
-// Public, as the two that follow, with the length required, for the calls on a dock in words.
+// The settings in the first 5 words. Public, as the two that follow, with the length required, for the calls on a dock in words.
 pub fn get_settings(words: &[u64]) -> Settings
     requires { ⌜ length (now words) ≡ 9 ⌝ }
     ensures { λ s. ⌜ s ≡ settingsOf (now (words .entry)) ⌝ }
@@ -23,6 +23,7 @@ pub fn get_settings(words: &[u64]) -> Settings
     }
 }
 
+// The buffers of opening in the other 4.
 pub fn get_buffers(words: &[u64]) -> Buffers
     requires { ⌜ length (now words) ≡ 9 ⌝ }
     ensures { λ b. ⌜ b ≡ buffersOf (now (words .entry)) ⌝ }

@@ -13,6 +13,7 @@ use crate::tags::size_word;
 use arithmetic::offsets::BufferOffset;
 use arithmetic::offsets::Range;
 use arithmetic::offsets::StoreOffset;
+use dock::dock::SLOTS;
 use stages::state::Stage;
 use stages::state::State;
 use stages::state::is_free;
@@ -23,12 +24,10 @@ ghost use lib.Seq.{sets};
 ghost use Rattle.dock.specs.Dock.{firstFree};
 ghost use Rattle.words.specs.View.{rangeAt, rangeWords, stageOf, stageWords, stateOf, stateWords, statesOf};
 
-const SLOTS: usize = 8;
-
-// How many words a state has.
+// How many words a state has. Public for the calls on a dock in words.
 pub const STATE_WORDS: usize = 18;
 
-// The range in words i and i + 1.
+// The range in words i and i + 1 of a row.
 pub(crate) fn get_range(row: &[u64], i: usize) -> Range
     requires { ⌜ i + 1 < length (now row) ⌝ }
     ensures { λ r. ⌜ r ≡ rangeAt (now (row .entry)) i ⌝ }
@@ -39,6 +38,7 @@ pub(crate) fn get_range(row: &[u64], i: usize) -> Range
     }
 }
 
+// Write a range there.
 pub(crate) fn put_range(row: &mut [u64], i: usize, r: Range)
     requires { ⌜ i + 1 < length (now row) ⌝ }
     ensures { λ t. ⌜ now (row .exit) ≡ sets (now (row .entry)) i (rangeWords r) ⌝ }
@@ -68,6 +68,7 @@ fn get_stage(row: &[u64]) -> Stage
     }
 }
 
+// Write a stage there.
 fn put_stage(row: &mut [u64], g: Stage)
     requires { ⌜ length (now row) ≡ 18 ⌝ }
     ensures { λ t. ⌜ now (row .exit) ≡ sets (now (row .entry)) 8 (stageWords g) ⌝ }
@@ -128,7 +129,7 @@ pub fn first_free(states: &[u64]) -> usize
 {
     let mut i: usize = 0;
     while i < SLOTS {
-        let phase = phase_of(states[i * 18]);
+        let phase = phase_of(states[i * STATE_WORDS]);
         if is_free(phase) {
             return i;
         }

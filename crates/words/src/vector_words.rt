@@ -7,9 +7,6 @@ ghost use mathlib.Core.Path.{_≡_};
 ghost use lib.ListN.{length};
 ghost use Rattle.words.specs.View.{vectorFrom, vectorWords};
 
-// How many words a vector has.
-pub const VECTOR_WORDS: usize = 34;
-
 const SEGMENTS: usize = 16;
 
 // The vector in a row. Public, with the row's length required, for the calls on a dock in words.

@@ -7,7 +7,6 @@ use mathlib.Core.List.{List, map}
 use lib.ListN.{length, getD, set, length-map, length-set, List·getD-map}
 use lib.Seq.{getD-set-other}
 use Rattle.blockers.specs.Blockers.{blockerAt, nowhere, forgetting}
-use Rattle.blockers.specs.declared.Blocker.{Blocker}
 use Rattle.blockers.specs.declared.Blockers.{Blockers}
 use Rattle.words.specs.Rows.{rows-length}
 use Rattle.words.specs.View.{blockerOf, blockersOf}

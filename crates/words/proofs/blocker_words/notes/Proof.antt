@@ -5,7 +5,7 @@ use mathlib.Core.Path.{_≡_, refl, sym, ap, _∙_}
 use mathlib.Core.List.{List}
 use lib.ListN.{length, length-map}
 use Rattle.arithmetic.specs.declared.offsets.Range.{Range}
-use Rattle.blockers.specs.Blockers.{notes, notesOf, nowhere}
+use Rattle.blockers.specs.Blockers.{notes, notesOf}
 use Rattle.blockers.specs.declared.Kind.{Kind}
 use Rattle.words.specs.Rows.{rows-length, row-part, part-length}
 use Rattle.words.specs.View.{blockerOf, blockersOf}

@@ -1,9 +1,8 @@
 -- `words::vector_words::get_vector` meets its contract: after i turns the first i segments are read. Assumes nothing.
 use borrow.Author.Needs.{needs}
-use native.Mathlib.Omega.{arith}
 use Prim.Native.Nat.{ℕ, _≤_, _-_}
 use mathlib.Core.List.{List}
-use mathlib.Core.Path.{_≡_, refl, sym, _∙_}
+use mathlib.Core.Path.{_≡_, refl, sym}
 use lib.ListN.{length, drop}
 use Rattle.vectors.specs.Vectors.{none}
 use Rattle.words.specs.Rows.{rows-length}

@@ -2,10 +2,9 @@
 use borrow.Author.Needs.{needs}
 use native.Mathlib.Omega.{arith}
 use Prim.Native.Nat.{ℕ, _+_, _*_, _≤_, _-_}
-use mathlib.Core.Path.{_≡_, refl, sym, _∙_}
+use mathlib.Core.Path.{_≡_, sym, _∙_}
 use mathlib.Core.List.{List, [], _∷_, map}
 use lib.ListN.{length, length-map, length-set}
-use Rattle.vectors.specs.Vectors.{none}
 use Rattle.vectors.specs.declared.vector.Segment.{Segment}
 use Rattle.words.specs.View.{vectorWords, segmentWords}
 use Rattle.words.specs.Laws.{vector-width, vector-start, vector-length}
