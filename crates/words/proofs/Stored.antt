@@ -1,11 +1,12 @@
 -- Stores into a list, one place after the other from the first on. Assumes nothing.
 use mathlib.Core.Path.{_≡_, refl, sym, _∙_}
-use mathlib.Core.List.{List, _++_, append-nil}
+use mathlib.Core.List.{List, _++_, map, append-nil}
 use Prim.Native.Nat.{ℕ, _+_, _≤_, _<_}
 use native.Mathlib.Nat.{zero-add}
 use native.Mathlib.Numerals.{add-one}
 use native.Mathlib.Omega.{arith}
-use lib.ListN.{length, take, drop, getD, set, length-set, length-append}
+use lib.ListN.{length, take, drop, getD, set, length-set, length-append, length-map}
+use Rattle.vectors.specs.declared.vector.Segment.{Segment}
 use lib.Seq.{sets, sets-eq, length-sets, drop-length, take-at, take-all, take-suc, take-suc-set}
 
 -- a list that is written whole is what was written
@@ -33,3 +34,7 @@ like-first l vs ws e = (
   length-sets l 0 vs ∙ e ∙ sym (length-append vs ws),
   rw (sets-eq vs l 0 (omega (arith, e)), take-at vs (drop (0 + length vs) l) (length vs) refl, take-at vs ws (length vs) refl),
 )
+
+-- an array of structs has its length by the relation that owning it gives, which stands at a map over the list
+pub long : {Y : Type 0} (f : Segment → Y) (l : List Segment) (n : ℕ) → length (map f l) ≡ n → length l ≡ n
+long f l n e = sym (length-map l f) ∙ e

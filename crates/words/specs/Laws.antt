@@ -7,8 +7,10 @@ use native.Mathlib.Nat.{add-zero, mod-eq-of-lt}
 use native.Mathlib.Omega.{arith}
 use lib.ListN.{length, take, drop, getD, set, length-map, length-set, List·getD-map}
 use lib.Seq.{getD-drop, getD-set-other, drop-set-add}
-use Rattle.vectors.specs.Vectors.{segment, none}
 use Rattle.arithmetic.specs.declared.offsets.Range.{Range}
+use Rattle.vectors.specs.Vectors.{segment, none}
+use Rattle.vectors.specs.declared.vector.Segment.{Segment}
+use Rattle.vectors.specs.declared.vector.IoVector.{IoVector}
 use Rattle.blockers.specs.Blockers.{blockerAt, nowhere, notes, notesOf, hasNoted, forgetting}
 use Rattle.blockers.specs.declared.Kind.{Kind}
 use Rattle.blockers.specs.declared.Kind.the-variants.{Absent, Weak, Strong}
@@ -20,8 +22,6 @@ use Rattle.stages.specs.declared.state.Job.the-variants.{Read, Write, Zeroes, A
 use Rattle.stages.specs.declared.state.Course.{Course}
 use Rattle.stages.specs.declared.state.Course.the-variants.{Last, Middle, Head, Chunks}
 use Rattle.stages.specs.declared.state.State.{State}
-use Rattle.vectors.specs.declared.vector.Segment.{Segment}
-use Rattle.vectors.specs.declared.vector.IoVector.{IoVector}
 use Rattle.dock.specs.Dock.{noState, noVector}
 use Rattle.words.specs.Rows.{rows, row, put, rows-get, rows-put, row-word, row-length, row-set, part-put}
 use Rattle.words.specs.View.{flagOf, flagWord, phaseOf, phaseTag, jobOf, jobTag, courseOf, courseTag, kindOf, kindTag, stageOf, stateOf, stateWords, blockerOf, blockerWords, segmentOf, segmentWords, vectorFrom, vectorWords, blockersOf, statesOf, vectorsOf}
@@ -127,7 +127,7 @@ vector-start v i = let e : 2 + 2 * i ≡ suc (suc (2 * i)) = omega arith in rw e
 pub vector-length : (v : IoVector) (i : ℕ) → getD (v .segments) i none .length ≡ getD (vectorWords v) (3 + 2 * i) 0
 vector-length v i = let e : 3 + 2 * i ≡ suc (suc (suc (2 * i))) = omega arith in rw e (sym (length-word (v .segments) i))
 
--- ---- a row among the rows: what is read, and what a row put in its place changes
+-- ---- a state's row among the rows: what is read there, and what a row put in its place changes
 
 pub state-row : (w : List ℕ) (p : ℕ) → p < 8 → getD (statesOf w) p noState ≡ stateOf (row 18 p w)
 state-row w p h = rows-get stateOf 18 8 p w noState h
@@ -135,7 +135,7 @@ state-row w p h = rows-get stateOf 18 8 p w noState h
 pub state-put : (w : List ℕ) (p : ℕ) (x : State) → p < 8 → length w ≡ 144 → x .answer < 256 → statesOf (put 18 p w (stateWords x)) ≡ set (statesOf w) p x
 state-put w p x h l a = rows-put stateOf 18 8 p w (stateWords x) h (omega arith) refl ∙ rw (state-back x a)
 
--- as code puts it back: the part of the words that was lent, come back as b
+-- as code puts it: the words, of which the part that was lent has come back as b
 pub state-part : (w : List ℕ) (p : ℕ) (x : State) (b : List ℕ) → p < 8 → length w ≡ 144 → x .answer < 256 → b ≡ stateWords x
     → statesOf (take (p * 18) w ++ (b ++ drop (p * 18 + 18 - p * 18) (drop (p * 18) w))) ≡ set (statesOf w) p x
 state-part w p x b h l a e = ap statesOf (part-put 18 p w b) ∙ rw e (state-put w p x h l a)
@@ -144,6 +144,8 @@ state-part w p x b h l a e = ap statesOf (part-put 18 p w b) ∙ rw e (state-put
 pub phase-word : (w : List ℕ) (p : ℕ) → p < 8 → getD (statesOf w) p noState .phase ≡ phaseOf (getD w (p * 18) 0)
 unfolding stateOf
 phase-word w p h = rw (state-row w p h, row-word 18 p w 0 (omega arith), add-zero)
+
+-- ---- a vector's
 
 pub vector-row : (w : List ℕ) (p : ℕ) → p < 8 → getD (vectorsOf w) p noVector ≡ vectorFrom (row 34 p w)
 vector-row w p h = rows-get vectorFrom 34 8 p w noVector h
@@ -155,10 +157,12 @@ pub vector-part : (w : List ℕ) (p : ℕ) (v : IoVector) (b : List ℕ) → p <
     → vectorsOf (take (p * 34) w ++ (b ++ drop (p * 34 + 34 - p * 34) (drop (p * 34) w))) ≡ set (vectorsOf w) p v
 vector-part w p v b h l n e = ap vectorsOf (part-put 34 p w b) ∙ rw e (vector-put w p v h l n)
 
+-- ---- a blocker's
+
 pub blocker-row : (w : List ℕ) (p : ℕ) → p < 8 → blockerAt (blockersOf w) p ≡ blockerOf (row 11 p w)
 blocker-row w p h = rows-get blockerOf 11 8 p w nowhere h
 
--- of any row, decoded as it stands
+-- any words of a row, decoded
 pub blocker-put : (w : List ℕ) (p : ℕ) (b : List ℕ) → p < 8 → length w ≡ 88 → length b ≡ 11 → blockersOf (put 11 p w b) ≡ record { slots = set (blockersOf w .slots) p (blockerOf b) }
 blocker-put w p b h l e = rw (rows-put blockerOf 11 8 p w b h (omega arith) e)
 

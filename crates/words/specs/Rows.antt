@@ -20,7 +20,7 @@ row k i w = take k (drop (i * k) w)
 abbrev pub put : ℕ → ℕ → List ℕ → List ℕ → List ℕ
 put k i w b = take (i * k) w ++ (b ++ drop k (drop (i * k) w))
 
--- ---- a row, as code takes it out and puts it back: the part from i * k up to i * k + k
+-- ---- a row as code takes it out and puts it back: the part from i * k up to i * k + k
 
 module _ (k i : ℕ) (w : List ℕ) where
   same : i * k + k - i * k ≡ k

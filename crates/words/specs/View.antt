@@ -1,5 +1,5 @@
--- What lent words mean: the dock by value. Any words are a dock: a tag that is none is the first variant, an answer counts modulo 256, a flag is any word but 0.
--- Each row's words stand in the order of the definition that reads them, from word 0 on.
+-- What lent words mean: the dock by value. Any words are a dock: a tag that is none is the first variant, an answer counts modulo 256,
+-- a flag is true at any word but 0. `..Of` and `..From` read a row, `..Words` write it.
 use mathlib.Core.Bool.{Bool, true, false, not}
 use mathlib.Core.List.{List, [], _∷_, _++_, map}
 use Prim.Native.Nat.{ℕ, _+_, _%_}
@@ -94,7 +94,7 @@ rangeAt w i = rangeOf (getD w i 0) (getD w (i + 1) 0)
 abbrev pub rangeWords : Range → List ℕ
 rangeWords r = r .start .0 ∷ r .end .0 ∷ []
 
--- ---- settings and buffers: 9 words
+-- ---- settings and buffers: 9 words. Alignments, bounce buffer length; address and length of the data, then of the scratch
 
 abbrev pub settingsOf : List ℕ → Settings
 settingsOf w = record { align = record { mem = getD w 0 0; req = getD w 1 0; zero = getD w 2 0; discard = getD w 3 0 }; bounce = getD w 4 0 }
@@ -107,9 +107,9 @@ settingsWords s b =
     s .align .mem ∷ s .align .req ∷ s .align .zero ∷ s .align .discard ∷ s .bounce
     ∷ b .«data» .address ∷ b .«data» .length ∷ b .scratch .address ∷ b .scratch .length ∷ []
 
--- ---- a state: 18 words
+-- ---- a state: 18 words. Phase, answer, job, course, the job's range, the middle; of the stage the four ranges, head, whether strong
 
--- of a state's words, those from 8 on
+-- of a state's words: those from 8 on
 unfoldable pub stageOf : List ℕ → Stage
 stageOf w =
     record {
@@ -139,7 +139,7 @@ stateOf w =
 abbrev pub stateWords : State → List ℕ
 stateWords x = phaseTag (x .phase) ∷ x .answer ∷ jobTag (x .job) ∷ courseTag (x .course) ∷ rangeWords (x .range) ++ rangeWords (x .middle) ++ stageWords (x .stage)
 
--- ---- a blocker: 11 words
+-- ---- a blocker: 11 words. Kind, range, the 8 notes
 
 unfoldable pub blockerOf : List ℕ → Blocker
 blockerOf w = record { kind = kindOf (getD w 0 0); range = rangeAt w 1; noted = map flagOf (drop 3 w) }
@@ -147,7 +147,7 @@ blockerOf w = record { kind = kindOf (getD w 0 0); range = rangeAt w 1; noted = 
 abbrev pub blockerWords : Blocker → List ℕ
 blockerWords b = kindTag (b .kind) ∷ rangeWords (b .range) ++ map flagWord (b .noted)
 
--- ---- a vector: 34 words
+-- ---- a vector: 34 words. Count, total, start and length of each of the 16 segments
 
 abbrev pub segmentOf : List ℕ → Segment
 segmentOf w = record { start = getD w 0 0; length = getD w 1 0 }
@@ -162,7 +162,7 @@ vectorFrom w = record { count = getD w 0 0; total = getD w 1 0; segments = rows 
 abbrev pub vectorWords : IoVector → List ℕ
 vectorWords v = v .count ∷ v .total ∷ segmentWords (v .segments)
 
--- ---- the dock: 9 words of settings, 88 of blockers, 144 of states, 272 of vectors
+-- ---- the dock: 9 words of settings; for the 8 slots 88 of blockers, 144 of states, 272 of vectors
 
 abbrev pub blockersOf : List ℕ → Blockers
 blockersOf w = record { slots = rows blockerOf 11 8 w }

@@ -19,13 +19,13 @@ use stages::state::State;
 use stages::state::is_free;
 ghost use mathlib.Core.Path.{_≡_};
 ghost use Prim.Native.Nat.{_+_, _<_};
-ghost use lib.ListN.{length};
+ghost use lib.ListN.{length, getD, set};
 ghost use lib.Seq.{sets};
-ghost use Rattle.dock.specs.Dock.{firstFree};
+ghost use Rattle.dock.specs.Dock.{noState, firstFree};
 ghost use Rattle.words.specs.View.{rangeAt, rangeWords, stageOf, stageWords, stateOf, stateWords, statesOf};
 
-// How many words a state has. Public for the calls on a dock in words.
-pub const STATE_WORDS: usize = 18;
+// How many words a state has.
+const STATE_WORDS: usize = 18;
 
 // The range in words i and i + 1 of a row.
 pub(crate) fn get_range(row: &[u64], i: usize) -> Range
@@ -82,8 +82,8 @@ fn put_stage(row: &mut [u64], g: Stage)
     row[17] = flag_word(g.strong);
 }
 
-// The state in a row. Public, with the row's length required, for the calls on a dock in words.
-pub fn get_state(row: &[u64]) -> State
+// The state in a row.
+fn get_state(row: &[u64]) -> State
     requires { ⌜ length (now row) ≡ 18 ⌝ }
     ensures { λ x. ⌜ x ≡ stateOf (now (row .entry)) ⌝ }
 {
@@ -105,8 +105,8 @@ pub fn get_state(row: &[u64]) -> State
     }
 }
 
-// Write a state over a whole row. Public for the calls on a dock in words.
-pub fn put_state(row: &mut [u64], x: State)
+// Write a state over a whole row.
+fn put_state(row: &mut [u64], x: State)
     requires { ⌜ length (now row) ≡ 18 ⌝ }
     ensures { λ t. ⌜ now (row .exit) ≡ stateWords x ⌝ }
 {
@@ -122,7 +122,27 @@ pub fn put_state(row: &mut [u64], x: State)
     put_stage(row, x.stage);
 }
 
-// The lowest free slot; 8 where there is none. Of each row it reads the phase's word alone. Public for the calls on a dock in words.
+// The state of a slot. Public, as the two that follow, with the lengths required, for the calls on a dock in words.
+pub fn state_at(states: &[u64], slot: usize) -> State
+    requires { ⌜ (length (now states) ≡ 144) × (slot < 8) ⌝ }
+    ensures { λ x. ⌜ x ≡ getD (statesOf (now (states .entry))) slot noState ⌝ }
+{
+    let a = slot * STATE_WORDS;
+    let e = a + STATE_WORDS;
+    get_state(&states[a..e])
+}
+
+// Make x the state of a slot. The others stay.
+pub fn put_state_at(states: &mut [u64], slot: usize, x: State)
+    requires { ⌜ (length (now states) ≡ 144) × (slot < 8) ⌝ }
+    ensures { λ t. ⌜ statesOf (now (states .exit)) ≡ set (statesOf (now (states .entry))) slot x ⌝ }
+{
+    let a = slot * STATE_WORDS;
+    let e = a + STATE_WORDS;
+    put_state(&mut states[a..e], x);
+}
+
+// The lowest free slot; 8 where there is none. Of each row it reads the phase's word alone.
 pub fn first_free(states: &[u64]) -> usize
     requires { ⌜ length (now states) ≡ 144 ⌝ }
     ensures { λ p. ⌜ p ≡ firstFree (statesOf (now (states .entry))) ⌝ }

@@ -4,13 +4,18 @@ use crate::tags::size_word;
 use vectors::vector::IoVector;
 use vectors::vector::Segment;
 ghost use mathlib.Core.Path.{_≡_};
-ghost use lib.ListN.{length};
-ghost use Rattle.words.specs.View.{vectorFrom, vectorWords};
+ghost use Prim.Native.Nat.{_<_};
+ghost use lib.ListN.{length, getD, set};
+ghost use Rattle.dock.specs.Dock.{noVector};
+ghost use Rattle.words.specs.View.{vectorFrom, vectorWords, vectorsOf};
+
+// How many words a vector has.
+const VECTOR_WORDS: usize = 34;
 
 const SEGMENTS: usize = 16;
 
-// The vector in a row. Public, with the row's length required, for the calls on a dock in words.
-pub fn get_vector(row: &[u64]) -> IoVector
+// The vector in a row.
+fn get_vector(row: &[u64]) -> IoVector
     requires { ⌜ length (now row) ≡ 34 ⌝ }
     ensures { λ v. ⌜ v ≡ vectorFrom (now (row .entry)) ⌝ }
 {
@@ -34,8 +39,8 @@ pub fn get_vector(row: &[u64]) -> IoVector
     }
 }
 
-// Write a vector over a whole row. Public for the calls on a dock in words.
-pub fn put_vector(row: &mut [u64], v: IoVector)
+// Write a vector over a whole row.
+fn put_vector(row: &mut [u64], v: IoVector)
     requires { ⌜ length (now row) ≡ 34 ⌝ }
     ensures { λ t. ⌜ now (row .exit) ≡ vectorWords v ⌝ }
 {
@@ -48,4 +53,24 @@ pub fn put_vector(row: &mut [u64], v: IoVector)
         row[3 + 2 * i] = size_word(s.length);
         i += 1;
     }
+}
+
+// The vector of a slot. Public, as the one that follows, with the lengths required, for the calls on a dock in words.
+pub fn vector_at(vectors: &[u64], slot: usize) -> IoVector
+    requires { ⌜ (length (now vectors) ≡ 272) × (slot < 8) ⌝ }
+    ensures { λ v. ⌜ v ≡ getD (vectorsOf (now (vectors .entry))) slot noVector ⌝ }
+{
+    let a = slot * VECTOR_WORDS;
+    let e = a + VECTOR_WORDS;
+    get_vector(&vectors[a..e])
+}
+
+// Make v the vector of a slot. The others stay.
+pub fn put_vector_at(vectors: &mut [u64], slot: usize, v: IoVector)
+    requires { ⌜ (length (now vectors) ≡ 272) × (slot < 8) ⌝ }
+    ensures { λ t. ⌜ vectorsOf (now (vectors .exit)) ≡ set (vectorsOf (now (vectors .entry))) slot v ⌝ }
+{
+    let a = slot * VECTOR_WORDS;
+    let e = a + VECTOR_WORDS;
+    put_vector(&mut vectors[a..e], v);
 }

@@ -1,20 +1,15 @@
 -- `words::vector_words::put_vector` meets its contract: after i turns the words of the first i segments are written. Assumes nothing.
 use borrow.Author.Needs.{needs}
 use native.Mathlib.Omega.{arith}
-use Prim.Native.Nat.{ℕ, _+_, _*_, _≤_, _-_}
+use Prim.Native.Nat.{_+_, _*_, _≤_, _-_}
 use mathlib.Core.Path.{_≡_, sym, _∙_}
-use mathlib.Core.List.{List, [], _∷_, map}
-use lib.ListN.{length, length-map, length-set}
-use Rattle.vectors.specs.declared.vector.Segment.{Segment}
+use mathlib.Core.List.{[], _∷_}
+use lib.ListN.{length, length-set}
 use Rattle.words.specs.View.{vectorWords, segmentWords}
 use Rattle.words.specs.Laws.{vector-width, vector-start, vector-length}
-use Rattle.words.proofs.Stored.{Like, like-first, like-more, like-all}
+use Rattle.words.proofs.Stored.{long, Like, like-first, like-more, like-all}
 use Rattle.words.proofs.vector_words.put_vector.Statement.{statement}
 use Rattle.words.proofs.vector_words.put_vector.Tie as tie
-
--- an array of structs has its length by the relation that owning it gives, which stands at a map over the list
-long : {Y : Type 0} (f : Segment → Y) (l : List Segment) (n : ℕ) → length (map f l) ≡ n → length l ≡ n
-long f l n e = sym (length-map l f) ∙ e
 
 abbrev Inv-loop : tie.InvT-loop
 Inv-loop row₀ v i₀ row i = (i ≤ 16) × (length (vectorWords v) ≡ 34) × (Like (vectorWords v) row (2 + 2 * i))
