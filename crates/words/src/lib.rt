@@ -5,3 +5,4 @@ pub mod state_words; // states, and the lowest free slot
 pub mod setting_words; // settings and buffers
 pub mod vector_words; // vectors
 pub mod blocker_words; // blockers, in place
+pub mod calls; // the calls, so far collect
