@@ -75,8 +75,7 @@ fn put_blocker(row: &mut [u64], b: Blocker)
 }
 
 // Whether the slot's blocker waits: one that it noted is still there. Past slot 7 none waits.
-// Public, as the two that follow, with the length required, for the calls on a dock in words.
-pub fn waits(all: &[u64], slot: usize) -> bool
+pub(crate) fn waits(all: &[u64], slot: usize) -> bool
     requires { ⌜ length (now all) ≡ 88 ⌝ }
     ensures { λ t. ⌜ t ≡ waitsOf slot (blockersOf (now (all .entry))) ⌝ }
 {
@@ -96,7 +95,7 @@ pub fn waits(all: &[u64], slot: usize) -> bool
 }
 
 // Enter a blocker of this kind. Refused (208) past slot 7 and where one is entered.
-pub fn enter(all: &mut [u64], kind: Kind, slot: usize, range: Range) -> Outcome
+pub(crate) fn enter(all: &mut [u64], kind: Kind, slot: usize, range: Range) -> Outcome
     requires { ⌜ length (now all) ≡ 88 ⌝ }
     ensures { λ r. ⌜ (r ≡ enteredOf kind slot range (blockersOf (now (all .entry))) .outcome)
         × (blockersOf (now (all .exit)) ≡ enteredOf kind slot range (blockersOf (now (all .entry))) .blockers) ⌝ }
@@ -127,7 +126,7 @@ fn forget(all: &mut [u64], slot: usize)
 }
 
 // The slot's blocker is gone, and nobody notes it any more. Refused (208) past slot 7 and where none is entered.
-pub fn leave(all: &mut [u64], slot: usize) -> Outcome
+pub(crate) fn leave(all: &mut [u64], slot: usize) -> Outcome
     requires { ⌜ length (now all) ≡ 88 ⌝ }
     ensures { λ r. ⌜ (r ≡ leftOf slot (blockersOf (now (all .entry))) .outcome)
         × (blockersOf (now (all .exit)) ≡ leftOf slot (blockersOf (now (all .entry))) .blockers) ⌝ }

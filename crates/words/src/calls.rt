@@ -16,7 +16,7 @@ ghost use Rattle.dock.specs.Tell.{collectOf};
 ghost use Rattle.words.specs.View.{dockOf};
 
 // Take the final answer; the slot is free again.
-pub fn collect(
+pub(crate) fn collect(
     settings: &[u64],
     blockers: &[u64],
     states: &mut [u64],

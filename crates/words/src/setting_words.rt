@@ -7,8 +7,8 @@ ghost use mathlib.Core.Path.{_≡_};
 ghost use lib.ListN.{length};
 ghost use Rattle.words.specs.View.{settingsOf, buffersOf, settingsWords};
 
-// The settings in the first 5 words. Public, as the two that follow, with the length required, for the calls on a dock in words.
-pub fn get_settings(words: &[u64]) -> Settings
+// The settings in the first 5 words.
+pub(crate) fn get_settings(words: &[u64]) -> Settings
     requires { ⌜ length (now words) ≡ 9 ⌝ }
     ensures { λ s. ⌜ s ≡ settingsOf (now (words .entry)) ⌝ }
 {
@@ -24,7 +24,7 @@ pub fn get_settings(words: &[u64]) -> Settings
 }
 
 // The buffers of opening in the other 4.
-pub fn get_buffers(words: &[u64]) -> Buffers
+pub(crate) fn get_buffers(words: &[u64]) -> Buffers
     requires { ⌜ length (now words) ≡ 9 ⌝ }
     ensures { λ b. ⌜ b ≡ buffersOf (now (words .entry)) ⌝ }
 {
@@ -41,7 +41,7 @@ pub fn get_buffers(words: &[u64]) -> Buffers
 }
 
 // Write both, over the whole array.
-pub fn put_settings(words: &mut [u64], s: Settings, b: Buffers)
+pub(crate) fn put_settings(words: &mut [u64], s: Settings, b: Buffers)
     requires { ⌜ length (now words) ≡ 9 ⌝ }
     ensures { λ t. ⌜ now (words .exit) ≡ settingsWords s b ⌝ }
 {

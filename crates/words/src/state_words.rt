@@ -122,8 +122,8 @@ fn put_state(row: &mut [u64], x: State)
     put_stage(row, x.stage);
 }
 
-// The state of a slot. Public, as the two that follow, with the lengths required, for the calls on a dock in words.
-pub fn state_at(states: &[u64], slot: usize) -> State
+// The state of a slot.
+pub(crate) fn state_at(states: &[u64], slot: usize) -> State
     requires { ⌜ (length (now states) ≡ 144) × (slot < 8) ⌝ }
     ensures { λ x. ⌜ x ≡ getD (statesOf (now (states .entry))) slot noState ⌝ }
 {
@@ -133,7 +133,7 @@ pub fn state_at(states: &[u64], slot: usize) -> State
 }
 
 // Make x the state of a slot. The others stay.
-pub fn put_state_at(states: &mut [u64], slot: usize, x: State)
+pub(crate) fn put_state_at(states: &mut [u64], slot: usize, x: State)
     requires { ⌜ (length (now states) ≡ 144) × (slot < 8) ⌝ }
     ensures { λ t. ⌜ statesOf (now (states .exit)) ≡ set (statesOf (now (states .entry))) slot x ⌝ }
 {
@@ -143,7 +143,7 @@ pub fn put_state_at(states: &mut [u64], slot: usize, x: State)
 }
 
 // The lowest free slot; 8 where there is none. Of each row it reads the phase's word alone.
-pub fn first_free(states: &[u64]) -> usize
+pub(crate) fn first_free(states: &[u64]) -> usize
     requires { ⌜ length (now states) ≡ 144 ⌝ }
     ensures { λ p. ⌜ p ≡ firstFree (statesOf (now (states .entry))) ⌝ }
 {

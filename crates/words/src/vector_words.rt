@@ -55,8 +55,8 @@ fn put_vector(row: &mut [u64], v: IoVector)
     }
 }
 
-// The vector of a slot. Public, as the one that follows, with the lengths required, for the calls on a dock in words.
-pub fn vector_at(vectors: &[u64], slot: usize) -> IoVector
+// The vector of a slot.
+pub(crate) fn vector_at(vectors: &[u64], slot: usize) -> IoVector
     requires { ⌜ (length (now vectors) ≡ 272) × (slot < 8) ⌝ }
     ensures { λ v. ⌜ v ≡ getD (vectorsOf (now (vectors .entry))) slot noVector ⌝ }
 {
@@ -66,7 +66,7 @@ pub fn vector_at(vectors: &[u64], slot: usize) -> IoVector
 }
 
 // Make v the vector of a slot. The others stay.
-pub fn put_vector_at(vectors: &mut [u64], slot: usize, v: IoVector)
+pub(crate) fn put_vector_at(vectors: &mut [u64], slot: usize, v: IoVector)
     requires { ⌜ (length (now vectors) ≡ 272) × (slot < 8) ⌝ }
     ensures { λ t. ⌜ vectorsOf (now (vectors .exit)) ≡ set (vectorsOf (now (vectors .entry))) slot v ⌝ }
 {
