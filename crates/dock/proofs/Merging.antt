@@ -3,7 +3,6 @@ use mathlib.Core.Path.{_≡_, refl, sym, _∙_}
 use mathlib.Core.Bool.{Bool, true, false, _&&_, _||_, not}
 use mathlib.Core.List.{List}
 use Prim.Native.Nat.{ℕ, _+_, _-_, _*_, _≤_, _<_}
-use native.Mathlib.Nat.{mul-le-mul-right}
 use native.Mathlib.Omega.{arith}
 use lib.Dec.{eqb, leb}
 use lib.ListN.{length, take, drop, replicate, length-replicate, length-drop}
@@ -23,6 +22,7 @@ use Rattle.stages.specs.declared.state.Job.{Job}
 use Rattle.stages.specs.declared.state.State.{State}
 use Rattle.stages.specs.declared.state.Phase.{Phase}
 use Rattle.stages.specs.declared.state.Phase.the-variants.{Free, Ended, DirectRead, BouncedRead, FirstRead, SecondRead, BouncedWrite, DirectWrite, ZeroRequest, DiscardRequest}
+use Rattle.dock.proofs.SlotsOf.{share-in}
 use Rattle.dock.specs.Begin.{fills, isWriteJob, isBouncedWrite, sourceOf, sourceFits, mergedAt, filled, InShare}
 use Rattle.dock.specs.Tell.{hands, copiedAt, isBouncedRead, handed}
 
@@ -100,11 +100,7 @@ uses : (b : Bool) (t : Bool) → (not b || t) ≡ true → b ≡ true → t ≡ 
 uses true t e p = e
 uses false t e p = let z : _≡_ {A = Bool} false true = p in cc
 
--- the share of slot p lies in the scratch
-pub share-lies : (p b n : ℕ) → p < 8 → 8 * b ≤ n → p * b + b ≤ n
-share-lies p b n h k = omega (arith, mul-le-mul-right b h)
-
--- and the asked bytes of a sound state in the share
+-- the asked bytes of a sound state lie in the share of slot p
 pub in-share : (p b : ℕ) (x : State) (n : ℕ) → p < 8 → isSound b x ≡ true → 8 * b ≤ n → InShare (p * b) x n
 unfolding isSound liesIn
 in-share p b x n h e k u =
@@ -115,7 +111,7 @@ in-share p b x n h e k u =
     let t3 = leb (sizeOf (g .first)) b in
     let t4 = leb (secondAt g + sizeOf (g .second)) b in
     let m = leb-true (g .head .0 + sizeOf (g .asked)) b (and-left t1 t2 (and-left (t1 && t2) t3 (and-left (t1 && t2 && t3) t4 l))) in
-    omega (arith, m, share-lies p b n h k)
+    omega (arith, m, share-in p b h)
 
 -- the phases that are filled or copied out use the bounce buffer
 pub writes-use : (ph : Phase) → isBouncedWrite ph ≡ true → usesBounce ph ≡ true

@@ -14,7 +14,7 @@ use Rattle.arithmetic.specs.declared.refusals.Refusal.the-variants.{Overlap, Fu
 use Rattle.arithmetic.specs.declared.refusals.Outcome.{Outcome}
 use Rattle.arithmetic.specs.declared.refusals.Outcome.the-variants.{Done, Refused}
 use Rattle.arithmetic.specs.Settings.{openingOf}
-use Rattle.arithmetic.specs.SettingsLaws.{and-left, and-right, opened}
+use Rattle.arithmetic.specs.SettingsLaws.{and-right, opened}
 use Rattle.arithmetic.specs.declared.settings.Settings.{Settings}
 use Rattle.arithmetic.specs.declared.settings.Buffers.{Buffers}
 use Rattle.arithmetic.specs.declared.offsets.StoreOffset.{StoreOffset}
@@ -269,7 +269,3 @@ kept-room x s b m n l k =
     let e = eqb-true n (b .scratch .length) (and-right (eqb m (b .«data» .length)) (eqb n (b .scratch .length)) l) in
     let h = leb-true (8 * s .bounce) (b .scratch .length) (and-right (isSound (s .bounce) x) (leb (8 * s .bounce) (b .scratch .length)) k) in
     omega arith
-
-pub kept-is-sound : (x : State) (s : Settings) (b : Buffers) → isKeptBy x s b ≡ true → isSound (s .bounce) x ≡ true
-unfolding isKeptBy
-kept-is-sound x s b k = and-left (isSound (s .bounce) x) (leb (8 * s .bounce) (b .scratch .length)) k

@@ -6,7 +6,8 @@ use lib.ListN.{length}
 use Rattle.stages.specs.declared.plan.Plan.{Plan}
 use Rattle.dock.specs.Slots.{PlanInShare, admits, admitAt}
 use Rattle.dock.specs.declared.begin.Admission.{Admission}
-use Rattle.dock.proofs.Merging.{in-share, share-lies}
+use Rattle.dock.proofs.Merging.{in-share}
+use Rattle.dock.proofs.SlotsOf.{share-in}
 use Rattle.dock.proofs.Steps.{admit-refused, admit-placed}
 use borrow.Author.Needs.{needs}
 use Rattle.dock.proofs.begin.admit.Statement.{statement}
@@ -34,7 +35,7 @@ enum-known-plan-2 : tie.Need-enum-known-plan-2
 enum-known-plan-2 c = search needs
 
 mul-share : tie.Need-mul-share
-mul-share c = let s = c .before .before .before .before .before in let a = s .args in let k = subst (PlanInShare (a .slot) (a .bounce) (length (now (a .scratch)))) (c .before .plan2 .given .1) (s .pre) in omega (arith, share-lies (a .slot) (a .bounce) (length (now (a .scratch))) (k .0) (k .2), s .good)
+mul-share c = let s = c .before .before .before .before .before in let a = s .args in let k = subst (PlanInShare (a .slot) (a .bounce) (length (now (a .scratch)))) (c .before .plan2 .given .1) (s .pre) in omega (arith, share-in (a .slot) (a .bounce) (k .0), k .2, s .good)
 
 enter-requires : tie.Need-enter-requires
 enter-requires c κs = let s = c .before .before .before .before .before .before in let a = s .args in let k = subst (PlanInShare (a .slot) (a .bounce) (length (now (a .scratch)))) (c .before .before .plan2 .given .1) (s .pre) in in-share (a .slot) (a .bounce) _ (length (now (a .scratch))) (k .0) (k .1) (k .2)

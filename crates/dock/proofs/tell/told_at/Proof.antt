@@ -6,8 +6,8 @@ use Rattle.dock.specs.declared.tell.Stepping.{Stepping}
 use native.Mathlib.Omega.{arith}
 use borrow.Author.Tests.{not-true, not-false}
 use lib.ListN.{length}
-use Rattle.dock.proofs.SlotsOf.{share-kept}
-use Rattle.dock.proofs.Steps.{told-none, told-unkept, told-answered, kept-room, kept-is-sound, leads-in-share}
+use Rattle.dock.proofs.SlotsOf.{share-kept, kept-sound}
+use Rattle.dock.proofs.Steps.{told-none, told-unkept, told-answered, kept-room, leads-in-share}
 use Rattle.dock.proofs.Merging.{in-share}
 use borrow.Author.Needs.{needs}
 use Rattle.dock.proofs.tell.told_at.Statement.{statement}
@@ -47,7 +47,7 @@ mul-share : tie.Need-mul-share
 mul-share c = let s = c .before .before .before .before .before .before .before .before .before .before in let a = s .args in omega (arith, share-kept (a .slot) (a .x) (a .settings) (a .buffers) (length (now (a .«data»))) (length (now (a .scratch))) (s .pre .0) (s .pre .1) (sym (c .before .before .before .before .before .is-kept .ensures) ∙ not-false _ (c .before .before .before .before .if2 .left)), s .good)
 
 step-requires : tie.Need-step-requires
-step-requires c κs = let s = c .before .before .before .before .before .before .before .before .before .before .before .before in let a = s .args in let n = length (now (a .scratch)) in let k = (sym (c .before .before .before .before .before .before .before .is-kept .ensures) ∙ not-false _ (c .before .before .before .before .before .before .if2 .left)) in let r = kept-room (a .x) (a .settings) (a .buffers) (length (now (a .«data»))) n (s .pre .1) k in let w = kept-is-sound (a .x) (a .settings) (a .buffers) k in (in-share (a .slot) (a .settings .bounce) (a .x) n (s .pre .0) w r, leads-in-share (a .slot) (a .settings) (a .x) (a .code) n (s .pre .0) w r _ (sym (c .before .before .before .before .before .told .ensures) ∙ c .before .before .before .answer2 .given .1))
+step-requires c κs = let s = c .before .before .before .before .before .before .before .before .before .before .before .before in let a = s .args in let n = length (now (a .scratch)) in let k = (sym (c .before .before .before .before .before .before .before .is-kept .ensures) ∙ not-false _ (c .before .before .before .before .before .before .if2 .left)) in let r = kept-room (a .x) (a .settings) (a .buffers) (length (now (a .«data»))) n (s .pre .1) k in let w = kept-sound (a .x) (a .settings) (a .buffers) k in (in-share (a .slot) (a .settings .bounce) (a .x) n (s .pre .0) w r, leads-in-share (a .slot) (a .settings) (a .x) (a .code) n (s .pre .0) w r _ (sym (c .before .before .before .before .before .told .ensures) ∙ c .before .before .before .answer2 .given .1))
 
 returns-3 : tie.Need-returns-3
 returns-3 c = let a = c .before .before .before .before .before .before .before .before .before .before .before .args in told-answered (a .b) (a .slot) (a .settings) (a .buffers) (a .x) (a .v) (a .code) (now (a .«data»)) (now (a .scratch)) (sym (c .before .before .before .before .before .before .before .before .is-out .ensures) ∙ not-false _ (c .before .before .before .before .before .before .before .if1 .left)) (sym (c .before .before .before .before .before .before .is-kept .ensures) ∙ not-false _ (c .before .before .before .before .before .if2 .left)) _ (c .before .before .before .before .told .ensures) _ (c .before .before .answer .given .1) _ (ap (λ (z : Stepping). steps z (now (a .«data»)) (now (a .scratch))) (c .unstepped3 .ensures))
