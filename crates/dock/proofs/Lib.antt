@@ -2,3 +2,4 @@
 pub mod SlotsOf
 pub mod Merging
 pub mod Steps
+pub mod Shares

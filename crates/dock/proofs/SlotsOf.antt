@@ -1,6 +1,6 @@
 -- Laws on the slots: the lowest free one by its position, a slot's share of the scratch, and what a sound stage holds. Assumes nothing.
-use mathlib.Core.Path.{_≡_, sym, ap, _∙_}
-use mathlib.Core.Bool.{true, false, _&&_, _||_, not}
+use mathlib.Core.Path.{_≡_, refl, sym, ap, _∙_}
+use mathlib.Core.Bool.{Bool, true, false, _&&_, _||_, not}
 use mathlib.Core.List.{List, map}
 use Prim.Native.Nat.{ℕ, suc, _+_, _*_, _/_, _≤_, _<_}
 use native.Mathlib.Decide.{decLe}
@@ -11,6 +11,7 @@ use lib.Dec.{leb, eqb}
 use lib.ListN.{length, getD, drop, length-map, drop-of-length-le}
 use lib.Seq.{drop-cons}
 use borrow.Author.Tests.{leb-true, eqb-true, le-leb, lt-leb, lt-ltb, le-ltb}
+use Rattle.arithmetic.specs.Rounding.{pick}
 use Rattle.arithmetic.specs.SettingsLaws.{and-left, and-right}
 use Rattle.arithmetic.specs.declared.refusals.Refusal.the-variants.{Buffer, Slot}
 use Rattle.arithmetic.specs.declared.settings.Settings.{Settings}
@@ -19,8 +20,8 @@ use Rattle.stages.specs.Stages.{sizeOf, isFree, usesBounce, secondAt, liesIn, i
 use Rattle.stages.specs.declared.state.Phase.{Phase}
 use Rattle.stages.specs.declared.state.Phase.the-variants.{SecondRead}
 use Rattle.stages.specs.declared.state.State.{State}
-use Rattle.dock.specs.Dock.{noState, lentFits, isOut, firstFree, stateAt, vectorAt}
-use Rattle.dock.specs.Next.{isKeptBy, isKept, pieceAt, pieceOf}
+use Rattle.dock.specs.Dock.{noState, lentFits, isOutBy, isOut, firstFree, stateAt, vectorAt}
+use Rattle.dock.specs.Next.{isKeptBy, isKept, pieceIn, pieceAt, pieceOf}
 use Rattle.dock.specs.declared.dock.Dock.{Dock}
 use Rattle.dock.specs.declared.next.Piece.the-variants.{Refused as NoPiece}
 
@@ -93,6 +94,11 @@ second-in n x e s =
 
 -- ---- a request's piece: 205, then 208 past the last slot, then the slot's
 
+-- two tests, one after the other
+both : {A : Type 0} (a b : Bool) (k z : A) → pick a (pick b k z) z ≡ pick (a && b) k z
+both true b k z = refl
+both false b k z = refl
+
 module _ (d : Dock) (p i m n : ℕ) where
   pub piece-unlent : lentFits (d .buffers) m n ≡ false → NoPiece Buffer ≡ pieceOf d p i m n
   unfolding pieceOf
@@ -104,5 +110,5 @@ module _ (d : Dock) (p i m n : ℕ) where
     piece-no-slot h = simp (f, le-ltb p 8 h)
 
     pub piece-there : p < 8 → pieceAt (d .blockers) p (d .settings) (d .buffers) (stateAt d p) (vectorAt d p) i m ≡ pieceOf d p i m n
-    unfolding pieceOf isOut isKept pieceAt
-    piece-there h = simp (f, lt-ltb p 8 h)
+    unfolding pieceOf isOut isKept pieceIn pieceAt
+    piece-there h = simp (f, lt-ltb p 8 h) (both (isOutBy (d .blockers) (stateAt d p) p) _ _ _)

@@ -23,7 +23,7 @@ use Rattle.vectors.specs.declared.vector.IoVector.{IoVector}
 use Rattle.blockers.specs.declared.Blockers.{Blockers}
 use Rattle.blockers.specs.declared.Changed.{Changed}
 use Rattle.stages.specs.Stages.{isSound, toldOf}
-use Rattle.stages.specs.Laws.{told-stays, told-enters, read-opens, write-opens, zero-opens, discard-opens}
+use Rattle.stages.specs.Laws.{told-stays, told-enters}
 use Rattle.stages.specs.declared.state.Job.{Job}
 use Rattle.stages.specs.declared.state.Job.the-variants.{Read, Write, Zeroes, AllocatedZeroes, Discard}
 use Rattle.stages.specs.declared.plan.Plan.{Plan}
@@ -36,7 +36,8 @@ use Rattle.dock.specs.Begin.{Filled, fills, filled, blockersWith, Begins
 use Rattle.dock.specs.Next.{isKeptBy}
 use Rattle.dock.specs.Tell.{Handed, hands, handed, blockersWithout, tells, tellOf}
 use Rattle.dock.specs.Slots.{Entered, enters, enterAt, decidedOf, admits, unplaced, admitBy, admitAt, PlanInShare, seatedBy, seated, Stepped, steps, unstepped, endsAt, entersBy, entersAt, StepInShare, answeredOf, answeredBy, toldAt, storedBy, stored}
-use Rattle.dock.specs.SlotLaws.{told-stored, begin-seated}
+use Rattle.dock.specs.SlotLaws.{told-stored}
+use Rattle.dock.specs.SeatLaws.{plan-sound, started, leads-told, begin-whole}
 use Rattle.dock.specs.declared.dock.Dock.{Dock}
 use Rattle.dock.specs.declared.begin.Asked.{Asked}
 use Rattle.dock.specs.declared.begin.Begun.{Begun}
@@ -118,13 +119,8 @@ module _ (b : Blockers) (p : ℕ) (s : Settings) (l : Buffers) (x : State) (v : 
 -- the stage that an accepted code leads to lies in its share
 pub leads-in-share : (p : ℕ) (s : Settings) (x : State) (code n : ℕ) → p < 8 → isSound (s .bounce) x ≡ true → 8 * s .bounce ≤ n → (t : Step) → answeredOf s x code ≡ Leads t
     → StepInShare (p * s .bounce) n t
-unfolding answeredOf
-leads-in-share p s x code n h w r t e = by t (leads (ltb code 200) e)
+leads-in-share p s x code n h w r t e = by t (leads-told s x code t e)
   where
-    leads : (u : Bool) → pick u (Leads (toldOf s x code)) (NoLead NoAnswer) ≡ Leads t → toldOf s x code ≡ t
-    leads true e = cc
-    leads false e = let z : _≡_ {A = ℕ} 0 1 = cc in absurd (omega arith)
-
     by : (t : Step) → toldOf s x code ≡ t → StepInShare (p * s .bounce) n t
     by (Stays y) e = in-share p (s .bounce) y n h (told-stays s x code y e .sound w) r
     by (Ends y) e = tt
@@ -174,27 +170,6 @@ lent-room s b m n l e d = go (openingOf s b) refl (lentFits b m n) refl (sym e �
 
 -- ---- a job is begun
 
--- the first stage of a plan is sound
-plan-sound : (j : Job) (s : Settings) (b : Buffers) (o : StoreOffset) (n : ℕ) (v : IoVector) (x : State) → planOf j s b o n v ≡ Started x → isSound (s .bounce) x ≡ true
-plan-sound Read s b o n v x e = read-opens s o (v .total) _ x e .sound
-plan-sound Write s b o n v x e = write-opens s o (v .total) _ x e .sound
-plan-sound Zeroes s b o n v x e = zero-opens s o n false x e .sound
-plan-sound AllocatedZeroes s b o n v x e = zero-opens s o n true x e .sound
-plan-sound Discard s b o n v x e = discard-opens s o n x e .sound
-
--- a plan that was decided is done, was there before, and has its slot
-started : (l : Outcome) (t : Bool) (plan : Plan) (met : Bool) (f : ℕ) (x : State) → decidedOf l t plan met f ≡ Started x → (l ≡ Done) × (plan ≡ Started x) × (f < 8)
-started (Refused r) t plan met f x e = absurd (let z : _≡_ {A = ℕ} 0 1 = cc in omega arith)
-started Done false plan met f x e = absurd (let z : _≡_ {A = ℕ} 0 1 = cc in omega arith)
-started Done true NothingToDo met f x e = absurd (let z : _≡_ {A = ℕ} 0 1 = cc in omega arith)
-started Done true (PlanRefused r) met f x e = absurd (let z : _≡_ {A = ℕ} 0 1 = cc in omega arith)
-started Done true (Started y) met f x e = go met (ltb f 8) refl e
-  where
-    go : (a u : Bool) → ltb f 8 ≡ u → pick a (PlanRefused Overlap) (pick u (Started y) (PlanRefused Full)) ≡ Started x → (Done ≡ Done) × (Started y ≡ Started x) × (f < 8)
-    go true u h e = absurd (let z : _≡_ {A = ℕ} 0 1 = cc in omega arith)
-    go false true h e = (refl, e, ltb-true f 8 h)
-    go false false h e = absurd (let z : _≡_ {A = ℕ} 0 1 = cc in omega arith)
-
 pub decided-in-share : (j : Job) (s : Settings) (b : Buffers) (o : StoreOffset) (k : ℕ) (v : IoVector) (m n : ℕ) (l : Outcome) → l ≡ lentOf s b m n → (t : Bool) (plan : Plan) → plan ≡ planOf j s b o k v
     → (met : Bool) (f : ℕ) (q : Plan) → q ≡ decidedOf l t plan met f → PlanInShare f (s .bounce) n q
 decided-in-share j s b o k v m n l le t plan pe met f NothingToDo e = tt
@@ -233,21 +208,8 @@ module _ (d : Dock) (q : Asked) (memory scratch : List ℕ) (v : IoVector) (ve :
     (l : Outcome) (le : l ≡ lentOf (d .settings) (d .buffers) (length memory) (length scratch)) (f : ℕ) (fe : f ≡ firstFree (d .states))
     (plan : Plan) (pe : plan ≡ planOf (q .job) (d .settings) (d .buffers) (q .offset) (q .length) (q .vector)) (t : Bool) (te : t ≡ isValid (length memory) v)
     (r : Plan) (re : r ≡ decidedOf l t plan met f) (a : Admission) (s : List ℕ) (ae : admits a s ≡ admitAt (d .blockers) f (d .settings .bounce) v memory scratch r) where
-  abbrev by : IoVector → Outcome → Bool → Plan → Bool → ℕ → Begins
-  by v l t plan met f = seated d v (admitAt (d .blockers) f (d .settings .bounce) v memory scratch (decidedOf l t plan met f))
-
   whole : seated d v (admits a s) ≡ beginOf d q memory scratch
-  unfolding beginOf
-  whole =
-      ap (λ z. seated d v z) ae
-      ∙ ap (λ (z : Plan). seated d v (admitAt (d .blockers) f (d .settings .bounce) v memory scratch z)) re
-      ∙ ap (λ (z : Outcome). by v z t plan met f) le
-      ∙ ap (λ (z : Bool). by v (lentOf (d .settings) (d .buffers) (length memory) (length scratch)) z plan met f) te
-      ∙ ap (λ (z : Plan). by v (lentOf (d .settings) (d .buffers) (length memory) (length scratch)) (isValid (length memory) v) z met f) pe
-      ∙ ap (λ (z : Bool). by v (lentOf (d .settings) (d .buffers) (length memory) (length scratch)) (isValid (length memory) v) (planOf (q .job) (d .settings) (d .buffers) (q .offset) (q .length) (q .vector)) z f) me
-      ∙ ap (λ (z : ℕ). by v (lentOf (d .settings) (d .buffers) (length memory) (length scratch)) (isValid (length memory) v) (planOf (q .job) (d .settings) (d .buffers) (q .offset) (q .length) (q .vector)) (overlapsOf (d .states) (d .vectors) (q .job) v) z) fe
-      ∙ ap (λ (z : IoVector). by z (lentOf (d .settings) (d .buffers) (length memory) (length scratch)) (isValid (length memory) z) (planOf (q .job) (d .settings) (d .buffers) (q .offset) (q .length) (q .vector)) (overlapsOf (d .states) (d .vectors) (q .job) z) (firstFree (d .states))) ve
-      ∙ begin-seated d memory scratch (q .job) (q .offset) (q .length) (q .vector)
+  whole = ap (λ z. seated d v z) ae ∙ begin-whole d q memory scratch v ve met me l le f fe plan pe t te r re
 
   pub begin-placed : (p : ℕ) → a .answer ≡ Placed p → begins (record { answer = Placed p; dock = withJob d p (a .blockers) (a .state) v }) s ≡ beginOf d q memory scratch
   begin-placed p e = sym (ap (λ (z : Begun). seatedBy z d v (admits a s)) e) ∙ whole

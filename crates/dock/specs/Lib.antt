@@ -7,3 +7,4 @@ pub mod Slots
 pub mod SlotLaws
 pub mod Numbers
 pub mod RefusalLaws
+pub mod SeatLaws

@@ -26,10 +26,12 @@ use Rattle.dock.specs.declared.next.Piece.the-variants.{InData, InScratc
 -- ---- next
 
 -- "Next tells: waiting, the request, or the final answer"
+abbrev pub dueIn : State → Bool → ℕ → Due
+dueIn x waits count =
+    pick (isFree (x .phase)) (NotDue Slot) (pick (hasEnded (x .phase)) (Answer (x .answer)) (pick waits Waiting (Make (requestOf x count))))
+
 abbrev pub dueBy : Dock → ℕ → State → Due
-dueBy d p x =
-    pick (isFree (x .phase)) (NotDue Slot)
-    (pick (hasEnded (x .phase)) (Answer (x .answer)) (pick (waitsOf p (d .blockers)) Waiting (Make (requestOf x (vectorAt d p .count)))))
+dueBy d p x = dueIn x (waitsOf p (d .blockers)) (vectorAt d p .count)
 
 -- "Next [..]: 205, 208"
 unfoldable pub nextOf : Dock → ℕ → ℕ → ℕ → Due
@@ -42,6 +44,10 @@ isKeptBy x s b = isSound (s .bounce) x && leb (8 * s .bounce) (b .scratch .lengt
 
 unfoldable pub isKept : Dock → ℕ → Bool
 isKept d p = isKeptBy (stateAt d p) (d .settings) (d .buffers)
+
+-- and the scratch that is lent has n bytes
+unfoldable pub isSeated : ℕ → State → Settings → Buffers → ℕ → Bool
+isSeated p x s b n = (ltb p 8 && isKeptBy x s b) && eqb n (b .scratch .length)
 
 -- ---- a request's piece by number
 
@@ -67,8 +73,12 @@ pieceBy ZeroRequest share i m x v = NoPiece Slot
 pieceBy DiscardRequest share i m x v = NoPiece Slot
 
 -- the piece of the job x with the vector v in slot p
+unfoldable pub pieceIn : ℕ → Settings → Buffers → State → IoVector → ℕ → ℕ → Piece
+pieceIn p s lent x v i m = pick (ltb p 8 && isKeptBy x s lent) (pieceBy (x .phase) (p * s .bounce) i m x v) (NoPiece Slot)
+
+-- where its request is out
 unfoldable pub pieceAt : Blockers → ℕ → Settings → Buffers → State → IoVector → ℕ → ℕ → Piece
-pieceAt b p s lent x v i m = pick (isOutBy b x p && isKeptBy x s lent) (pieceBy (x .phase) (p * s .bounce) i m x v) (NoPiece Slot)
+pieceAt b p s lent x v i m = pick (isOutBy b x p) (pieceIn p s lent x v i m) (NoPiece Slot)
 
 -- "a request's piece [..]: 205, 208"; "208: [..] a piece number that the request lacks"
 unfoldable pub pieceOf : Dock → ℕ → ℕ → ℕ → ℕ → Piece

@@ -3,7 +3,8 @@ use mathlib.Core.Path.{_≡_}
 use mathlib.Core.Bool.{Bool, true, _&&_}
 use mathlib.Core.List.{List}
 use Prim.Native.Nat.{ℕ, _*_, _<_, _≤_}
-use lib.Dec.{ltb}
+use lib.Dec.{ltb, eqb}
+use lib.ListN.{length}
 use Rattle.arithmetic.specs.Rounding.{pick}
 use Rattle.arithmetic.specs.declared.refusals.Refusal.{Refusal}
 use Rattle.arithmetic.specs.declared.refusals.Refusal.the-variants.{Segment, Overlap, Full, Slot, NoAnswer}
@@ -21,9 +22,9 @@ use Rattle.stages.specs.declared.told.Step.the-variants.{Stays, Ends, Enters}
 use Rattle.stages.specs.declared.plan.Plan.{Plan}
 use Rattle.stages.specs.declared.plan.Plan.the-variants.{Done as NothingToDo, Started, Refused as PlanRefused}
 use Rattle.dock.specs.Dock.{vacant, isOutBy}
-use Rattle.dock.specs.Begin.{Begins, filled, InShare, blockersWith, withJob}
-use Rattle.dock.specs.Next.{isKeptBy}
-use Rattle.dock.specs.Tell.{Told, tells, accepted, refusedTell, blockersWithout, handed}
+use Rattle.dock.specs.Begin.{Begins, Filled, fills, isBouncedWrite, filled, InShare, blockersWith, withJob}
+use Rattle.dock.specs.Next.{isKeptBy, isSeated}
+use Rattle.dock.specs.Tell.{Told, tells, accepted, refusedTell, blockersWithout, Handed, hands, isBouncedRead, handed}
 use Rattle.dock.specs.declared.dock.Dock.{Dock}
 use Rattle.dock.specs.declared.begin.Begun.{Begun}
 use Rattle.dock.specs.declared.begin.Admission.{Admission}
@@ -36,6 +37,22 @@ use Rattle.dock.specs.declared.tell.Answered.the-variants.{Leads, Refuse
 abbrev pub whenDone : {A : Type 0} → Outcome → A → A → A
 whenDone Done k z = k
 whenDone (Refused r) k z = z
+
+-- ---- the bytes of one slot, of any job: refused where they do not lie in its share
+
+-- "Then the vector is copied in": into the share of slot p
+unfoldable pub filledShare : ℕ → Settings → Buffers → State → IoVector → List ℕ → List ℕ → Filled
+filledShare p s b x v memory scratch =
+    pick (isBouncedWrite (x .phase))
+    (pick (isSeated p x s b (length scratch)) (filled (p * s .bounce) x v memory scratch) (fills (Refused Slot) scratch))
+    (fills Done scratch)
+
+-- "then the asked bytes are copied out": of the share of slot p
+unfoldable pub handedShare : ℕ → Settings → Buffers → State → ℕ → IoVector → List ℕ → List ℕ → Handed
+handedShare p s b x code v memory scratch =
+    pick (isBouncedRead (x .phase) && eqb code 0)
+    (pick (isSeated p x s b (length scratch)) (handed (p * s .bounce) x code v memory scratch) (hands (Refused Slot) memory))
+    (hands Done memory)
 
 -- ---- a job comes to its stage: its blocker enters, its scratch is filled
 
@@ -92,6 +109,12 @@ abbrev pub PlanInShare : ℕ → ℕ → ℕ → Plan → Type 0
 PlanInShare p bounce n NothingToDo = Unit {0}
 PlanInShare p bounce n (PlanRefused r) = Unit {0}
 PlanInShare p bounce n (Started x) = (p < 8) × (isSound bounce x ≡ true) × (8 * bounce ≤ n)
+
+-- the same of the job that a plan starts, in any slot and over any buffers: it is seated
+abbrev pub PlanSeated : ℕ → Settings → Buffers → ℕ → Plan → Type 0
+PlanSeated p s b n NothingToDo = Unit {0}
+PlanSeated p s b n (PlanRefused r) = Unit {0}
+PlanSeated p s b n (Started x) = isSeated p x s b n ≡ true
 
 -- stored in the dock where it is placed
 abbrev pub seatedBy : Begun → Dock → IoVector → Admitted → Begins
@@ -154,6 +177,12 @@ abbrev pub StepInShare : ℕ → ℕ → Step → Type 0
 StepInShare share n (Stays y) = InShare share y n
 StepInShare share n (Ends y) = Unit {0}
 StepInShare share n (Enters y) = InShare share y n
+
+-- the same over any buffers: the job whose bytes are moved is seated
+abbrev pub StepSeated : ℕ → Settings → Buffers → State → ℕ → Step → Type 0
+StepSeated p s b x n (Stays y) = isSeated p y s b n ≡ true
+StepSeated p s b x n (Ends y) = isSeated p x s b n ≡ true
+StepSeated p s b x n (Enters y) = isSeated p y s b n ≡ true
 
 -- "0 done, 1 unsupported, 2 to 199 failed, 200 to 255 no answer"
 unfoldable pub answeredOf : Settings → State → ℕ → Answered

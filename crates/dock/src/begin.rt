@@ -112,7 +112,7 @@ impl Asked {
 }
 
 // The vector of a job: zeroes and discards have an empty one.
-fn moved(job: Job, vector: IoVector) -> IoVector
+pub fn moved(job: Job, vector: IoVector) -> IoVector
     ensures { λ v. ⌜ v ≡ movedOf job vector ⌝ }
 {
     match job {
@@ -136,7 +136,7 @@ fn is_aligned(v: IoVector, align: Alignments, data: Lent) -> bool
 }
 
 // The first stage of what is asked: 207 and 206, or no request to make.
-fn planned(asked: Asked, settings: Settings, buffers: Buffers) -> Plan
+pub fn planned(asked: Asked, settings: Settings, buffers: Buffers) -> Plan
     ensures { λ p. ⌜ p ≡ planOf (asked .job) settings buffers (asked .offset) (asked .length) (asked .vector) ⌝ }
 {
     let job = asked.job;
@@ -153,7 +153,7 @@ fn planned(asked: Asked, settings: Settings, buffers: Buffers) -> Plan
 }
 
 // The plan, where nothing refuses it: 201 and 205 by what is lent, 202, the plan's own, 203, 204.
-fn decided(lent: Outcome, valid: bool, plan: Plan, met: bool, free: usize) -> Plan
+pub fn decided(lent: Outcome, valid: bool, plan: Plan, met: bool, free: usize) -> Plan
     ensures { λ p. ⌜ p ≡ decidedOf lent valid plan met free ⌝ }
 {
     if let Outcome::Refused(r) = lent {

@@ -22,7 +22,7 @@ ghost use Prim.Native.Nat.{_+_, _<_, _^_};
 ghost use lib.ListN.{length};
 ghost use Rattle.stages.specs.Stages.{secondAt, isSound};
 ghost use Rattle.dock.specs.Dock.{isOutBy};
-ghost use Rattle.dock.specs.Next.{nextOf, isKeptBy, inScratch, inData, pieceBy, pieceAt, pieceOf, partOf, bytesAt, pieceBytes};
+ghost use Rattle.dock.specs.Next.{dueIn, nextOf, isKeptBy, isSeated, inScratch, inData, pieceBy, pieceIn, pieceAt, pieceOf, partOf, bytesAt, pieceBytes};
 
 // What next tells.
 pub enum Due {
@@ -61,6 +61,37 @@ pub fn is_kept(x: State, settings: Settings, buffers: Buffers) -> bool
     x.sound(settings.bounce) & (settings.bounce <= scratch.length / 8)
 }
 
+// Whether the job x is one that a call made, and its share, that of `slot`, lies in a scratch of `scratch_len` bytes.
+pub fn is_seated(
+    slot: usize,
+    x: State,
+    settings: Settings,
+    buffers: Buffers,
+    scratch_len: usize,
+) -> bool
+    ensures { λ t. ⌜ t ≡ isSeated slot x settings buffers «scratch_len» ⌝ }
+{
+    let scratch = buffers.scratch;
+    (slot < SLOTS) & is_kept(x, settings, buffers) & (scratch_len as u64 == scratch.length)
+}
+
+// What the job x needs now, which waits or not and whose vector has `count` segments.
+pub fn due_now(x: State, waits: bool, count: usize) -> Due
+    ensures { λ r. ⌜ r ≡ dueIn x waits count ⌝ }
+{
+    let phase = x.phase;
+    if is_free(phase) {
+        return Due::Refused(Refusal::Slot);
+    }
+    if has_ended(phase) {
+        return Due::Answer(x.answer);
+    }
+    if waits {
+        return Due::Waiting;
+    }
+    Due::Make(x.request(count))
+}
+
 impl Dock {
     // What the job in `slot` needs now. Changes nothing.
     pub fn next(self, slot: usize, data: &[u8], scratch: &[u8]) -> Due
@@ -74,17 +105,8 @@ impl Dock {
         }
         let x = self.states[slot];
         let v = self.vectors[slot];
-        let phase = x.phase;
-        if is_free(phase) {
-            return Due::Refused(Refusal::Slot);
-        }
-        if has_ended(phase) {
-            return Due::Answer(x.answer);
-        }
-        if self.blockers.waits(slot) {
-            return Due::Waiting;
-        }
-        Due::Make(x.request(v.count))
+        let waits = self.blockers.waits(slot);
+        due_now(x, waits, v.count)
     }
 }
 
@@ -153,7 +175,29 @@ fn piece_of(x: State, v: IoVector, share: u64, bounce: u64, i: usize, data_len: 
     }
 }
 
-// Piece i of the request of the job x in `slot`, where it is out and the job one that a call made.
+// Piece i of the request of the job x in `slot`, where the job is one that a call made.
+pub fn piece_in(
+    slot: usize,
+    settings: Settings,
+    buffers: Buffers,
+    x: State,
+    v: IoVector,
+    i: usize,
+    data_len: usize,
+) -> Piece
+    ensures { λ r. ⌜ r ≡ pieceIn slot settings buffers x v i data_len ⌝ }
+{
+    if SLOTS <= slot {
+        return Piece::Refused(Refusal::Slot);
+    }
+    if !is_kept(x, settings, buffers) {
+        return Piece::Refused(Refusal::Slot);
+    }
+    let share = slot as u64 * settings.bounce;
+    piece_of(x, v, share, settings.bounce, i, data_len)
+}
+
+// The same, where the request is out.
 fn piece_at(
     b: Blockers,
     slot: usize,
@@ -164,17 +208,12 @@ fn piece_at(
     i: usize,
     data_len: usize,
 ) -> Piece
-    requires { ⌜ slot < 8 ⌝ }
     ensures { λ r. ⌜ r ≡ pieceAt b slot settings buffers x v i data_len ⌝ }
 {
     if !is_out(b, x, slot) {
         return Piece::Refused(Refusal::Slot);
     }
-    if !is_kept(x, settings, buffers) {
-        return Piece::Refused(Refusal::Slot);
-    }
-    let share = slot as u64 * settings.bounce;
-    piece_of(x, v, share, settings.bounce, i, data_len)
+    piece_in(slot, settings, buffers, x, v, i, data_len)
 }
 
 // The n bytes of s from `start` on; none where they go past its end.

@@ -18,35 +18,17 @@ use Rattle.dock.specs.declared.begin.Begun.{Begun}
 use Rattle.dock.specs.declared.begin.Begun.the-variants.{Done as NoRequest, Placed, Refused}
 use Rattle.dock.proofs.begin.Begun.{enum}
 use Rattle.dock.specs.Dock.{meetsAt, meetsItself, overlapsOf}
+use Rattle.dock.specs.SeatLaws.{met-none, met-more, met-all}
 use Rattle.dock.proofs.Steps.{decided-in-share, admitted-slot, begin-placed, begin-unplaced}
 use borrow.Author.Needs.{needs}
 use Rattle.dock.proofs.dock.Dock.begin.Statement.{statement}
 use Rattle.dock.proofs.dock.Dock.begin.Tie as tie
-
--- the fold of the loop: none is met before its first turn, and one more with each
-none-yet : (a : Bool) (f : ℕ → Bool) → a ≡ (a || anyBelow 0 f)
-unfolding anyBelow
-none-yet true f = refl
-none-yet false f = refl
-
-one-more : (met m : Bool) (i : ℕ) (a : Bool) (f : ℕ → Bool) → met ≡ (a || anyBelow i f) → m ≡ f i → (met || m) ≡ (a || anyBelow (i + 1) f)
-unfolding anyBelow
-one-more met m i a f p q = rw (p, q, add-one) (assoc a (anyBelow i f) (f i))
-  where
-    assoc : (a b c : Bool) → ((a || b) || c) ≡ (a || (b || c))
-    assoc true b c = refl
-    assoc false b c = refl
 
 abbrev Inv-loop : tie.InvT-loop
 Inv-loop asked «data» scratch self settings buffers job v met₀ i₀ met i = (i ≤ 8) × (met ≡ (meetsItself job v || anyBelow i (meetsAt (self .states) (self .vectors) job v)))
 
 abbrev μ-loop : tie.MeasureT-loop
 μ-loop asked «data» scratch self settings buffers job v met₀ i₀ met i = 8 - i
-
--- after the last turn, whether one is met at all
-found : (xs : List State) (vs : List IoVector) (j : Job) (v : IoVector) (met : Bool) (i : ℕ) → i ≡ 8 → met ≡ (meetsItself j v || anyBelow i (meetsAt xs vs j v)) → met ≡ overlapsOf xs vs j v
-unfolding overlapsOf
-found xs vs j v met i h e = e ∙ ap (λ (n : ℕ). meetsItself j v || anyBelow n (meetsAt xs vs j v)) h
 
 -- an answer of another kind is no slot
 unplaced : (b : Begun) (p : ℕ) → OneOf (0 ∷ 2 ∷ []) (tagOf (declared enum) b) → b ≢ Placed p
@@ -61,7 +43,7 @@ meets-itself-requires : tie.Need-meets-itself-requires Inv-loop μ-loop
 meets-itself-requires c κs = tt
 
 loop-holds : tie.Need-loop-holds Inv-loop μ-loop
-loop-holds c = let a = c .before .before .before .before .before .before .args in (search needs, c .meets-itself .ensures ∙ none-yet (meetsItself (a .asked .job) (c .before .moved .result)) (meetsAt (a .t1 .states) (a .t1 .vectors) (a .asked .job) (c .before .moved .result)))
+loop-holds c = let a = c .before .before .before .before .before .before .args in (search needs, c .meets-itself .ensures ∙ met-none (meetsItself (a .asked .job) (c .before .moved .result)) (meetsAt (a .t1 .states) (a .t1 .vectors) (a .asked .job) (c .before .moved .result)))
 
 mul-x : tie.Need-mul-x Inv-loop μ-loop
 mul-x c = search needs
@@ -86,7 +68,7 @@ loop-less c = search needs
 
 loop-again : tie.Need-loop-again Inv-loop μ-loop
 unfolding meetsAt
-loop-again c = let a = c .before .before .before .before .before .before .before .before .before .before .before .args in let l = c .before .before .before .before .loop in (search needs, one-more _ _ (l .i) (meetsItself (a .asked .job) (c .before .before .before .before .before .before .moved .result)) (meetsAt (a .t1 .states) (a .t1 .vectors) (a .asked .job) (c .before .before .before .before .before .before .moved .result)) (l .inv .1) (c .meets .ensures))
+loop-again c = let a = c .before .before .before .before .before .before .before .before .before .before .before .args in let l = c .before .before .before .before .loop in (search needs, met-more _ _ (l .i) (meetsItself (a .asked .job) (c .before .before .before .before .before .before .moved .result)) (meetsAt (a .t1 .states) (a .t1 .vectors) (a .asked .job) (c .before .before .before .before .before .before .moved .result)) (l .inv .1) (c .meets .ensures))
 
 last : (c : tie.After-loop Inv-loop μ-loop) → c .before .loop .i ≡ 8
 last c = search needs
@@ -116,7 +98,7 @@ same-length : tie.Need-same-length Inv-loop μ-loop
 same-length c = search needs
 
 returns : tie.Need-returns Inv-loop μ-loop
-returns c = let a = c .before .before .before .before .before .before .before .before .before .before .before .before .before .before .before .before .before .before .before .before .args in begin-unplaced (a .t1) (a .asked) (now (a .«data»)) (now (a .scratch)) _ (c .before .before .before .before .before .before .before .before .before .before .before .before .before .before .before .moved .ensures) _ (found (a .t1 .states) (a .t1 .vectors) (a .asked .job) (c .before .before .before .before .before .before .before .before .before .before .before .before .before .before .before .moved .result) _ (c .before .before .before .before .before .before .before .before .before .before .before .before .before .loop .i) (last (c .before .before .before .before .before .before .before .before .before .before .before .before)) (c .before .before .before .before .before .before .before .before .before .before .before .before .before .loop .inv .1)) _ (c .before .before .before .before .before .before .before .before .before .before .before .lent .ensures) _ (c .before .before .before .before .before .before .before .before .before .first-free .ensures) _ (c .before .before .before .before .before .before .before .before .planned .ensures) _ (c .before .before .before .before .before .before .before .valid .ensures) _ (c .before .before .before .before .before .before .decided .ensures) _ _ (c .before .before .before .admit .ensures) (λ p e. unplaced _ p (c .match .keys2) e)
+returns c = let a = c .before .before .before .before .before .before .before .before .before .before .before .before .before .before .before .before .before .before .before .before .args in begin-unplaced (a .t1) (a .asked) (now (a .«data»)) (now (a .scratch)) _ (c .before .before .before .before .before .before .before .before .before .before .before .before .before .before .before .moved .ensures) _ (met-all (a .t1 .states) (a .t1 .vectors) (a .asked .job) (c .before .before .before .before .before .before .before .before .before .before .before .before .before .before .before .moved .result) _ (c .before .before .before .before .before .before .before .before .before .before .before .before .before .loop .i) (last (c .before .before .before .before .before .before .before .before .before .before .before .before)) (c .before .before .before .before .before .before .before .before .before .before .before .before .before .loop .inv .1)) _ (c .before .before .before .before .before .before .before .before .before .before .before .lent .ensures) _ (c .before .before .before .before .before .before .before .before .before .first-free .ensures) _ (c .before .before .before .before .before .before .before .before .planned .ensures) _ (c .before .before .before .before .before .before .before .valid .ensures) _ (c .before .before .before .before .before .before .decided .ensures) _ _ (c .before .before .before .admit .ensures) (λ p e. unplaced _ p (c .match .keys2) e)
 
 -- the slot that was found free is one of the eight
 slot : (c : tie.After-state Inv-loop μ-loop) → c .before .before .before .answer .given .0 .0 < 8
@@ -140,7 +122,7 @@ same-length-2 : tie.Need-same-length-2 Inv-loop μ-loop
 same-length-2 c = search needs
 
 returns-2 : tie.Need-returns-2 Inv-loop μ-loop
-returns-2 c = let a = c .before .before .before .before .before .before .before .before .before .before .before .before .before .before .before .before .before .before .before .before .before .before .before .before .args in begin-placed (a .t1) (a .asked) (now (a .«data»)) (now (a .scratch)) _ (c .before .before .before .before .before .before .before .before .before .before .before .before .before .before .before .before .before .before .before .moved .ensures) _ (found (a .t1 .states) (a .t1 .vectors) (a .asked .job) (c .before .before .before .before .before .before .before .before .before .before .before .before .before .before .before .before .before .before .before .moved .result) _ (c .before .before .before .before .before .before .before .before .before .before .before .before .before .before .before .before .before .loop .i) (last (c .before .before .before .before .before .before .before .before .before .before .before .before .before .before .before .before)) (c .before .before .before .before .before .before .before .before .before .before .before .before .before .before .before .before .before .loop .inv .1)) _ (c .before .before .before .before .before .before .before .before .before .before .before .before .before .before .before .lent .ensures) _ (c .before .before .before .before .before .before .before .before .before .before .before .before .before .first-free .ensures) _ (c .before .before .before .before .before .before .before .before .before .before .before .before .planned .ensures) _ (c .before .before .before .before .before .before .before .before .before .before .before .valid .ensures) _ (c .before .before .before .before .before .before .before .before .before .before .decided .ensures) _ _ (c .before .before .before .before .before .before .before .admit .ensures) _ (c .before .before .before .answer .given .1)
+returns-2 c = let a = c .before .before .before .before .before .before .before .before .before .before .before .before .before .before .before .before .before .before .before .before .before .before .before .before .args in begin-placed (a .t1) (a .asked) (now (a .«data»)) (now (a .scratch)) _ (c .before .before .before .before .before .before .before .before .before .before .before .before .before .before .before .before .before .before .before .moved .ensures) _ (met-all (a .t1 .states) (a .t1 .vectors) (a .asked .job) (c .before .before .before .before .before .before .before .before .before .before .before .before .before .before .before .before .before .before .before .moved .result) _ (c .before .before .before .before .before .before .before .before .before .before .before .before .before .before .before .before .before .loop .i) (last (c .before .before .before .before .before .before .before .before .before .before .before .before .before .before .before .before)) (c .before .before .before .before .before .before .before .before .before .before .before .before .before .before .before .before .before .loop .inv .1)) _ (c .before .before .before .before .before .before .before .before .before .before .before .before .before .before .before .lent .ensures) _ (c .before .before .before .before .before .before .before .before .before .before .before .before .before .first-free .ensures) _ (c .before .before .before .before .before .before .before .before .before .before .before .before .planned .ensures) _ (c .before .before .before .before .before .before .before .before .before .before .before .valid .ensures) _ (c .before .before .before .before .before .before .before .before .before .before .decided .ensures) _ _ (c .before .before .before .before .before .before .before .admit .ensures) _ (c .before .before .before .answer .given .1)
 
 pub begin-spec : {M : Type 1} → statement M
 begin-spec =

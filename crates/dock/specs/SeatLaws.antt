@@ -1,0 +1,175 @@
+-- What a seated job's calls rely on: which jobs are seated, what is filled and copied out then, and how a begin is decided. Assumes nothing.
+use mathlib.Core.Path.{_≡_, refl, sym, ap, _∙_}
+use mathlib.Core.Bool.{Bool, true, false, _&&_, _||_}
+use mathlib.Core.List.{List}
+use Prim.Native.Nat.{ℕ, _+_, _*_, _<_, _≤_}
+use native.Mathlib.Numerals.{add-one}
+use native.Mathlib.Omega.{arith}
+use lib.Dec.{leb, ltb, eqb}
+use lib.ListN.{length}
+use borrow.Author.Tests.{ltb-true, lt-ltb, eqb-true, leb-true, le-leb}
+use Rattle.arithmetic.specs.Rounding.{pick}
+use Rattle.arithmetic.specs.Loops.{anyBelow}
+use Rattle.arithmetic.specs.declared.refusals.Refusal.the-variants.{Overlap, Full, Slot, NoAnswer}
+use Rattle.arithmetic.specs.declared.refusals.Outcome.{Outcome}
+use Rattle.arithmetic.specs.declared.refusals.Outcome.the-variants.{Done, Refused}
+use Rattle.arithmetic.specs.Settings.{openingOf}
+use Rattle.arithmetic.specs.SettingsLaws.{and-left, and-right, opened}
+use Rattle.arithmetic.specs.declared.settings.Settings.{Settings}
+use Rattle.arithmetic.specs.declared.settings.Buffers.{Buffers}
+use Rattle.arithmetic.specs.declared.offsets.StoreOffset.{StoreOffset}
+use Rattle.vectors.specs.Vectors.{isValid}
+use Rattle.vectors.specs.declared.vector.IoVector.{IoVector}
+use Rattle.stages.specs.Stages.{isSound, toldOf}
+use Rattle.stages.specs.Laws.{told-stays, told-enters, read-opens, write-opens, zero-opens, discard-opens}
+use Rattle.stages.specs.declared.state.Job.{Job}
+use Rattle.stages.specs.declared.state.Job.the-variants.{Read, Write, Zeroes, AllocatedZeroes, Discard}
+use Rattle.stages.specs.declared.state.State.{State}
+use Rattle.stages.specs.declared.told.Step.{Step}
+use Rattle.stages.specs.declared.told.Step.the-variants.{Stays, Ends, Enters}
+use Rattle.stages.specs.declared.plan.Plan.{Plan}
+use Rattle.stages.specs.declared.plan.Plan.the-variants.{Done as NothingToDo, Started, Refused as PlanRefused}
+use Rattle.dock.specs.Dock.{lentFits, lentBy, lentOf, meetsAt, meetsItself, overlapsOf, firstFree}
+use Rattle.dock.specs.Begin.{Filled, fills, isBouncedWrite, merged, filled, Begins, movedOf, planOf, beginOf}
+use Rattle.dock.specs.Next.{isKeptBy, isSeated}
+use Rattle.dock.specs.Tell.{Handed, hands, isBouncedRead, copiedOut, handed}
+use Rattle.dock.specs.Slots.{filledShare, handedShare, decidedOf, admitAt, PlanSeated, seated, answeredOf, StepSeated}
+use Rattle.dock.specs.SlotLaws.{begin-seated}
+use Rattle.dock.specs.declared.dock.Dock.{Dock}
+use Rattle.dock.specs.declared.begin.Asked.{Asked}
+use Rattle.dock.specs.declared.tell.Answered.the-variants.{Leads, Refused as NoLead}
+
+-- ---- a kept job, in one of the eight slots and over the buffers of opening, is seated
+
+pub seated-here : (p : ℕ) (x : State) (s : Settings) (b : Buffers) (m n : ℕ) → p < 8 → lentFits b m n ≡ true → isKeptBy x s b ≡ true → isSeated p x s b n ≡ true
+unfolding isSeated lentFits
+seated-here p x s b m n h l k = simp (lt-ltb p 8 h, k) (and-right (eqb m (b .«data» .length)) (eqb n (b .scratch .length)) l)
+
+-- ---- what is filled, and copied out, then
+
+pub filled-share : (p : ℕ) (s : Settings) (b : Buffers) (x : State) (v : IoVector) (memory scratch : List ℕ) → isSeated p x s b (length scratch) ≡ true
+    → filledShare p s b x v memory scratch ≡ filled (p * s .bounce) x v memory scratch
+unfolding filledShare filled
+filled-share p s b x v memory scratch e = rw e (go (isBouncedWrite (x .phase)) (merged (p * s .bounce) x v memory scratch) (fills Done scratch))
+  where
+    go : (t : Bool) (k z : Filled) → pick t (pick t k z) z ≡ pick t k z
+    go true k z = refl
+    go false k z = refl
+
+pub handed-share : (p : ℕ) (s : Settings) (b : Buffers) (x : State) (code : ℕ) (v : IoVector) (memory scratch : List ℕ) → isSeated p x s b (length scratch) ≡ true
+    → handedShare p s b x code v memory scratch ≡ handed (p * s .bounce) x code v memory scratch
+unfolding handedShare handed
+handed-share p s b x code v memory scratch e = rw e (go (isBouncedRead (x .phase) && eqb code 0) (copiedOut (p * s .bounce) x v memory scratch) (hands Done memory))
+  where
+    go : (t : Bool) (k z : Handed) → pick t (pick t k z) z ≡ pick t k z
+    go true k z = refl
+    go false k z = refl
+
+-- ---- a code is told
+
+-- a code that leads on leads where the stage says
+pub leads-told : (s : Settings) (x : State) (code : ℕ) (t : Step) → answeredOf s x code ≡ Leads t → toldOf s x code ≡ t
+unfolding answeredOf
+leads-told s x code t e = leads (ltb code 200) e
+  where
+    leads : (u : Bool) → pick u (Leads (toldOf s x code)) (NoLead NoAnswer) ≡ Leads t → toldOf s x code ≡ t
+    leads true e = cc
+    leads false e = let z : _≡_ {A = ℕ} 0 1 = cc in absurd (omega arith)
+
+-- a job whose stage is sound is kept where another one is
+kept-too : (x y : State) (s : Settings) (b : Buffers) → isKeptBy x s b ≡ true → isSound (s .bounce) y ≡ true → isKeptBy y s b ≡ true
+unfolding isKeptBy
+kept-too x y s b k e = rw e (and-right (isSound (s .bounce) x) (leb (8 * s .bounce) (b .scratch .length)) k)
+
+kept-sound : (x : State) (s : Settings) (b : Buffers) → isKeptBy x s b ≡ true → isSound (s .bounce) x ≡ true
+unfolding isKeptBy
+kept-sound x s b k = and-left (isSound (s .bounce) x) (leb (8 * s .bounce) (b .scratch .length)) k
+
+pub leads-seated : (p : ℕ) (s : Settings) (b : Buffers) (x : State) (code m n : ℕ) → p < 8 → lentFits b m n ≡ true → isKeptBy x s b ≡ true → (t : Step) → answeredOf s x code ≡ Leads t
+    → StepSeated p s b x n t
+leads-seated p s b x code m n h l k t e = by t (leads-told s x code t e)
+  where
+    by : (t : Step) → toldOf s x code ≡ t → StepSeated p s b x n t
+    by (Stays y) e = seated-here p y s b m n h l (kept-too x y s b k (told-stays s x code y e .sound (kept-sound x s b k)))
+    by (Ends y) e = seated-here p x s b m n h l k
+    by (Enters y) e = seated-here p y s b m n h l (kept-too x y s b k (told-enters s x code y e .sound))
+
+-- ---- a begin meets the vectors of other jobs, one slot after the other
+
+pub met-none : (a : Bool) (f : ℕ → Bool) → a ≡ (a || anyBelow 0 f)
+unfolding anyBelow
+met-none true f = refl
+met-none false f = refl
+
+pub met-more : (met m : Bool) (i : ℕ) (a : Bool) (f : ℕ → Bool) → met ≡ (a || anyBelow i f) → m ≡ f i → (met || m) ≡ (a || anyBelow (i + 1) f)
+unfolding anyBelow
+met-more met m i a f p q = rw (p, q, add-one) (assoc a (anyBelow i f) (f i))
+  where
+    assoc : (a b c : Bool) → ((a || b) || c) ≡ (a || (b || c))
+    assoc true b c = refl
+    assoc false b c = refl
+
+pub met-all : (xs : List State) (vs : List IoVector) (j : Job) (v : IoVector) (met : Bool) (i : ℕ) → i ≡ 8 → met ≡ (meetsItself j v || anyBelow i (meetsAt xs vs j v)) → met ≡ overlapsOf xs vs j v
+unfolding overlapsOf
+met-all xs vs j v met i h e = e ∙ ap (λ (n : ℕ). meetsItself j v || anyBelow n (meetsAt xs vs j v)) h
+
+-- ---- a begin is decided
+
+-- the first stage of a plan is sound
+pub plan-sound : (j : Job) (s : Settings) (b : Buffers) (o : StoreOffset) (n : ℕ) (v : IoVector) (x : State) → planOf j s b o n v ≡ Started x → isSound (s .bounce) x ≡ true
+plan-sound Read s b o n v x e = read-opens s o (v .total) _ x e .sound
+plan-sound Write s b o n v x e = write-opens s o (v .total) _ x e .sound
+plan-sound Zeroes s b o n v x e = zero-opens s o n false x e .sound
+plan-sound AllocatedZeroes s b o n v x e = zero-opens s o n true x e .sound
+plan-sound Discard s b o n v x e = discard-opens s o n x e .sound
+
+-- a plan that was decided is done, was there before, and has its slot
+pub started : (l : Outcome) (t : Bool) (plan : Plan) (met : Bool) (f : ℕ) (x : State) → decidedOf l t plan met f ≡ Started x → (l ≡ Done) × (plan ≡ Started x) × (f < 8)
+started (Refused r) t plan met f x e = absurd (let z : _≡_ {A = ℕ} 0 1 = cc in omega arith)
+started Done false plan met f x e = absurd (let z : _≡_ {A = ℕ} 0 1 = cc in omega arith)
+started Done true NothingToDo met f x e = absurd (let z : _≡_ {A = ℕ} 0 1 = cc in omega arith)
+started Done true (PlanRefused r) met f x e = absurd (let z : _≡_ {A = ℕ} 0 1 = cc in omega arith)
+started Done true (Started y) met f x e = go met (ltb f 8) refl e
+  where
+    go : (a u : Bool) → ltb f 8 ≡ u → pick a (PlanRefused Overlap) (pick u (Started y) (PlanRefused Full)) ≡ Started x → (Done ≡ Done) × (Started y ≡ Started x) × (f < 8)
+    go true u h e = absurd (let z : _≡_ {A = ℕ} 0 1 = cc in omega arith)
+    go false true h e = (refl, e, ltb-true f 8 h)
+    go false false h e = absurd (let z : _≡_ {A = ℕ} 0 1 = cc in omega arith)
+
+-- over what a begin is lent, a job whose stage is sound is seated in a slot of the eight
+lent-seats : (s : Settings) (b : Buffers) (m n p : ℕ) (x : State) → lentOf s b m n ≡ Done → p < 8 → isSound (s .bounce) x ≡ true → isSeated p x s b n ≡ true
+unfolding lentOf lentFits isSeated isKeptBy
+lent-seats s b m n p x d h w = go (openingOf s b) refl (lentFits b m n) refl d
+  where
+    go : (o : Outcome) → openingOf s b ≡ o → (t : Bool) → lentFits b m n ≡ t → lentBy o t ≡ Done → isSeated p x s b n ≡ true
+    go Done e true q r = seated-here p x s b m n h q (simp w (le-leb (8 * s .bounce) (b .scratch .length) (omega (arith, opened s b e .room))))
+    go Done e false q r = let z : _≡_ {A = ℕ} 0 1 = cc in absurd (omega arith)
+    go (Refused y) e t q r = let z : _≡_ {A = ℕ} 0 1 = cc in absurd (omega arith)
+
+pub decided-seated : (j : Job) (s : Settings) (b : Buffers) (o : StoreOffset) (k : ℕ) (v : IoVector) (m n : ℕ) (l : Outcome) → l ≡ lentOf s b m n → (t : Bool) (plan : Plan) → plan ≡ planOf j s b o k v
+    → (met : Bool) (f : ℕ) (q : Plan) → q ≡ decidedOf l t plan met f → PlanSeated f s b n q
+decided-seated j s b o k v m n l le t plan pe met f NothingToDo e = tt
+decided-seated j s b o k v m n l le t plan pe met f (PlanRefused r) e = tt
+decided-seated j s b o k v m n l le t plan pe met f (Started x) e =
+    let w = started l t plan met f x (sym e) in
+    lent-seats s b m n f x (sym le ∙ w .0) (w .2) (plan-sound j s b o k v x (sym pe ∙ w .1))
+
+-- what is asked, planned, decided and admitted, each as its definition says, is begun
+module _ (d : Dock) (q : Asked) (memory scratch : List ℕ) (v : IoVector) (ve : v ≡ movedOf (q .job) (q .vector)) (met : Bool) (me : met ≡ overlapsOf (d .states) (d .vectors) (q .job) v)
+    (l : Outcome) (le : l ≡ lentOf (d .settings) (d .buffers) (length memory) (length scratch)) (f : ℕ) (fe : f ≡ firstFree (d .states))
+    (plan : Plan) (pe : plan ≡ planOf (q .job) (d .settings) (d .buffers) (q .offset) (q .length) (q .vector)) (t : Bool) (te : t ≡ isValid (length memory) v)
+    (r : Plan) (re : r ≡ decidedOf l t plan met f) where
+  abbrev by : IoVector → Outcome → Bool → Plan → Bool → ℕ → Begins
+  by v l t plan met f = seated d v (admitAt (d .blockers) f (d .settings .bounce) v memory scratch (decidedOf l t plan met f))
+
+  pub begin-whole : seated d v (admitAt (d .blockers) f (d .settings .bounce) v memory scratch r) ≡ beginOf d q memory scratch
+  unfolding beginOf
+  begin-whole =
+      ap (λ (z : Plan). seated d v (admitAt (d .blockers) f (d .settings .bounce) v memory scratch z)) re
+      ∙ ap (λ (z : Outcome). by v z t plan met f) le
+      ∙ ap (λ (z : Bool). by v (lentOf (d .settings) (d .buffers) (length memory) (length scratch)) z plan met f) te
+      ∙ ap (λ (z : Plan). by v (lentOf (d .settings) (d .buffers) (length memory) (length scratch)) (isValid (length memory) v) z met f) pe
+      ∙ ap (λ (z : Bool). by v (lentOf (d .settings) (d .buffers) (length memory) (length scratch)) (isValid (length memory) v) (planOf (q .job) (d .settings) (d .buffers) (q .offset) (q .length) (q .vector)) z f) me
+      ∙ ap (λ (z : ℕ). by v (lentOf (d .settings) (d .buffers) (length memory) (length scratch)) (isValid (length memory) v) (planOf (q .job) (d .settings) (d .buffers) (q .offset) (q .length) (q .vector)) (overlapsOf (d .states) (d .vectors) (q .job) v) z) fe
+      ∙ ap (λ (z : IoVector). by z (lentOf (d .settings) (d .buffers) (length memory) (length scratch)) (isValid (length memory) z) (planOf (q .job) (d .settings) (d .buffers) (q .offset) (q .length) (q .vector)) (overlapsOf (d .states) (d .vectors) (q .job) z) (firstFree (d .states))) ve
+      ∙ begin-seated d memory scratch (q .job) (q .offset) (q .length) (q .vector)
