@@ -1,17 +1,19 @@
 -- What is put is what is got: a row's words decoded and coded, and a row among the rows. Assumes nothing.
 use mathlib.Core.Path.{_≡_, refl, sym, ap, _∙_}
-use mathlib.Core.Bool.{Bool, true, false}
+use mathlib.Core.Bool.{Bool, true, false, _&&_}
 use mathlib.Core.List.{List, [], _∷_, _++_, map}
 use Prim.Native.Nat.{ℕ, zero, suc, _+_, _-_, _*_, _<_}
 use native.Mathlib.Nat.{add-zero, mod-eq-of-lt}
 use native.Mathlib.Omega.{arith}
+use lib.Dec.{ltb}
 use lib.ListN.{length, take, drop, getD, set, length-map, length-set, List·getD-map}
 use lib.Seq.{getD-drop, getD-set-other, drop-set-add}
+use borrow.Author.Tests.{lt-ltb}
 use Rattle.arithmetic.specs.declared.offsets.Range.{Range}
 use Rattle.vectors.specs.Vectors.{segment, none}
 use Rattle.vectors.specs.declared.vector.Segment.{Segment}
 use Rattle.vectors.specs.declared.vector.IoVector.{IoVector}
-use Rattle.blockers.specs.Blockers.{blockerAt, nowhere, notes, notesOf, hasNoted, forgetting}
+use Rattle.blockers.specs.Blockers.{present, isEntered, blockerAt, nowhere, notes, notesOf, hasNoted, forgetting}
 use Rattle.blockers.specs.declared.Kind.{Kind}
 use Rattle.blockers.specs.declared.Kind.the-variants.{Absent, Weak, Strong}
 use Rattle.blockers.specs.declared.Blocker.{Blocker}
@@ -157,6 +159,11 @@ pub vector-part : (w : List ℕ) (p : ℕ) (v : IoVector) (b : List ℕ) → p <
     → vectorsOf (take (p * 34) w ++ (b ++ drop (p * 34 + 34 - p * 34) (drop (p * 34) w))) ≡ set (vectorsOf w) p v
 vector-part w p v b h l n e = ap vectorsOf (part-put 34 p w b) ∙ rw e (vector-put w p v h l n)
 
+-- how many segments the vector of slot p has, in word 34 p
+pub count-word : (w : List ℕ) (p : ℕ) → p < 8 → getD (vectorsOf w) p noVector .count ≡ getD w (p * 34) 0
+unfolding vectorFrom
+count-word w p h = rw (vector-row w p h, row-word 34 p w 0 (omega arith), add-zero)
+
 -- ---- a blocker's
 
 pub blocker-row : (w : List ℕ) (p : ℕ) → p < 8 → blockerAt (blockersOf w) p ≡ blockerOf (row 11 p w)
@@ -174,6 +181,10 @@ blocker-part w p x b h l n e = ap blockersOf (part-put 11 p w b) ∙ blocker-put
 pub kind-word : (w : List ℕ) (p : ℕ) → p < 8 → blockerAt (blockersOf w) p .kind ≡ kindOf (getD w (p * 11) 0)
 unfolding blockerOf
 kind-word w p h = rw (blocker-row w p h, row-word 11 p w 0 (omega arith), add-zero)
+
+-- so whether one is entered
+pub entered-word : (w : List ℕ) (p : ℕ) (t : Bool) → p < 8 → t ≡ present (kindOf (getD w (p * 11) 0)) → t ≡ (ltb p 8 && isEntered (blockerAt (blockersOf w) p))
+entered-word w p t h e = simp (lt-ltb p 8 h) (e ∙ sym (ap present (kind-word w p h)))
 
 -- whether it has noted slot q, in word 11 p + 3 + q
 pub note-word : (w : List ℕ) (p q : ℕ) → p < 8 → q < 8 → hasNoted (blockersOf w) p q ≡ flagOf (getD w (p * 11 + 3 + q) 0)

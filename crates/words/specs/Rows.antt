@@ -5,7 +5,7 @@ use native.Mathlib.Omega.{arith}
 use mathlib.Core.Path.{_≡_, refl, sym, ap, _∙_}
 use mathlib.Core.List.{List, [], _∷_, _++_, append-assoc}
 use borrow.Rule.Slice.PartMut.{set-mid-at}
-use lib.ListN.{length, take, drop, getD, set, length-drop}
+use lib.ListN.{length, take, drop, getD, set, replicate, length-drop, length-replicate, replicate-append-replicate}
 use lib.Seq.{take-at, drop-at, take-add, drop-drop, length-take-le, getD-take, getD-drop}
 
 unfoldable pub rows : {A : Type 0} → (List ℕ → A) → ℕ → ℕ → List ℕ → List A
@@ -79,3 +79,11 @@ module _ {A : Type 0} (dec : List ℕ → A) (k : ℕ) where
       let t : length (take k w) ≡ k = length-take-le k w (omega arith) in
       let q = put k i (drop k w) b in
       rw (put-later i w b, take-at (take k w) q k t, drop-at (take k w) q k t, rows-put n i (drop k w) b (omega arith) (rw length-drop (omega arith)) e)
+
+-- where all words are 0, all rows are the same
+pub rows-same : {A : Type 0} (dec : List ℕ → A) (k n : ℕ) → rows dec k n (replicate (n * k) 0) ≡ replicate n (dec (replicate k 0))
+unfolding rows
+rows-same dec k zero = refl
+rows-same dec k (suc n) =
+    let e : replicate {A = ℕ} (suc n * k) 0 ≡ replicate {A = ℕ} k 0 ++ replicate {A = ℕ} (n * k) 0 = ap (λ (m : ℕ). replicate {A = ℕ} m 0) (suc-mul n k ∙ add-comm (n * k) k) ∙ sym (replicate-append-replicate {A = ℕ} k (n * k) 0) in
+    rw (e, take-at (replicate {A = ℕ} k 0) (replicate {A = ℕ} (n * k) 0) k (length-replicate {A = ℕ} k 0), drop-at (replicate {A = ℕ} k 0) (replicate {A = ℕ} (n * k) 0) k (length-replicate {A = ℕ} k 0), rows-same dec k n)

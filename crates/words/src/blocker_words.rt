@@ -14,10 +14,12 @@ use blockers::range_overlaps;
 use blockers::vacant;
 use dock::dock::SLOTS;
 ghost use mathlib.Core.Path.{_≡_};
+ghost use mathlib.Core.Bool.{_&&_};
 ghost use mathlib.Core.List.{map};
+ghost use lib.Dec.{ltb};
 ghost use Prim.Native.Nat.{_<_};
 ghost use lib.ListN.{length};
-ghost use Rattle.blockers.specs.Blockers.{present, notes, notesOf, forgetting, enteredOf, leftOf, waitsOf};
+ghost use Rattle.blockers.specs.Blockers.{present, notes, notesOf, forgetting, enteredOf, leftOf, waitsOf, blockerAt, isEntered};
 ghost use Rattle.words.specs.View.{kindOf, blockerOf, blockerWords, blockersOf};
 
 // How many words a blocker has.
@@ -72,6 +74,17 @@ fn put_blocker(row: &mut [u64], b: Blocker)
         row[3 + i] = flag_word(n);
         i += 1;
     }
+}
+
+// Whether the slot has a blocker entered. Past slot 7 none is.
+pub(crate) fn is_entered_at(all: &[u64], slot: usize) -> bool
+    requires { ⌜ length (now all) ≡ 88 ⌝ }
+    ensures { λ t. ⌜ t ≡ (ltb slot 8 && isEntered (blockerAt (blockersOf (now (all .entry))) slot)) ⌝ }
+{
+    if SLOTS <= slot {
+        return false;
+    }
+    is_entered(all[slot * BLOCKER_WORDS])
 }
 
 // Whether the slot's blocker waits: one that it noted is still there. Past slot 7 none waits.

@@ -14,6 +14,7 @@ use arithmetic::offsets::BufferOffset;
 use arithmetic::offsets::Range;
 use arithmetic::offsets::StoreOffset;
 use dock::dock::SLOTS;
+use stages::state::Phase;
 use stages::state::Stage;
 use stages::state::State;
 use stages::state::is_free;
@@ -130,6 +131,14 @@ pub(crate) fn state_at(states: &[u64], slot: usize) -> State
     let a = slot * STATE_WORDS;
     let e = a + STATE_WORDS;
     get_state(&states[a..e])
+}
+
+// Its phase alone.
+pub(crate) fn phase_at(states: &[u64], slot: usize) -> Phase
+    requires { ⌜ (length (now states) ≡ 144) × (slot < 8) ⌝ }
+    ensures { λ x. ⌜ x ≡ getD (statesOf (now (states .entry))) slot noState .phase ⌝ }
+{
+    phase_of(states[slot * STATE_WORDS])
 }
 
 // Make x the state of a slot. The others stay.

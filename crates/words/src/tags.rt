@@ -5,6 +5,7 @@ use stages::state::Job;
 use stages::state::Phase;
 ghost use mathlib.Core.Path.{_≡_};
 ghost use Prim.Native.Nat.{_%_};
+ghost use lib.ListN.{length, replicate};
 ghost use Rattle.words.specs.View.{flagWord, phaseOf, phaseTag, jobOf, jobTag, courseOf, courseTag, kindOf, kindTag};
 
 pub(crate) fn flag_word(b: bool) -> u64
@@ -134,5 +135,17 @@ pub(crate) fn kind_tag(k: Kind) -> u64
         Kind::Absent => 0,
         Kind::Weak => 1,
         Kind::Strong => 2,
+    }
+}
+
+// Every word becomes 0.
+pub(crate) fn clear(words: &mut [u64])
+    ensures { λ t. ⌜ now (words .exit) ≡ replicate (length (now (words .entry))) 0 ⌝ }
+{
+    let n = words.len();
+    let mut i: usize = 0;
+    while i < n {
+        words[i] = 0;
+        i += 1;
     }
 }

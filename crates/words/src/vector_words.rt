@@ -15,7 +15,7 @@ const VECTOR_WORDS: usize = 34;
 const SEGMENTS: usize = 16;
 
 // The vector in a row.
-fn get_vector(row: &[u64]) -> IoVector
+pub(crate) fn get_vector(row: &[u64]) -> IoVector
     requires { ⌜ length (now row) ≡ 34 ⌝ }
     ensures { λ v. ⌜ v ≡ vectorFrom (now (row .entry)) ⌝ }
 {
@@ -63,6 +63,14 @@ pub(crate) fn vector_at(vectors: &[u64], slot: usize) -> IoVector
     let a = slot * VECTOR_WORDS;
     let e = a + VECTOR_WORDS;
     get_vector(&vectors[a..e])
+}
+
+// How many segments it has, alone.
+pub(crate) fn count_at(vectors: &[u64], slot: usize) -> usize
+    requires { ⌜ (length (now vectors) ≡ 272) × (slot < 8) ⌝ }
+    ensures { λ n. ⌜ n ≡ getD (vectorsOf (now (vectors .entry))) slot noVector .count ⌝ }
+{
+    size_of(vectors[slot * VECTOR_WORDS])
 }
 
 // Make v the vector of a slot. The others stay.

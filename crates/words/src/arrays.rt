@@ -1,0 +1,175 @@
+// The calls on a dock in words, which a host holds as four arrays. For any words.
+use crate::setting_words::get_settings;
+use crate::vector_words::get_vector;
+use arithmetic::refusals::Outcome;
+use arithmetic::settings::Buffers;
+use arithmetic::settings::Settings;
+use dock::begin::Asked;
+use dock::begin::Begun;
+use dock::next::Due;
+use dock::next::Piece;
+use dock::tell::Collected;
+use vectors::vector::IoVector;
+ghost use mathlib.Core.Path.{_≡_};
+ghost use Rattle.dock.specs.Dock.{openOf, openProfileOf};
+ghost use Rattle.dock.specs.Begin.{begins, beginOf};
+ghost use Rattle.dock.specs.Next.{nextOf, pieceOf};
+ghost use Rattle.dock.specs.Tell.{tells, tellOf, collectOf};
+ghost use Rattle.words.specs.View.{settingsOf, vectorFrom, dockOf};
+
+// The settings that the dock was opened with.
+pub fn settings_of(settings: &[u64; 9]) -> Settings
+    ensures { λ s. ⌜ s ≡ settingsOf (now (settings .entry)) ⌝ }
+{
+    get_settings(settings)
+}
+
+// The vector in 34 words. A begin refuses what is none over its data.
+pub fn vector_of(vector: &[u64; 34]) -> IoVector
+    ensures { λ v. ⌜ v ≡ vectorFrom (now (vector .entry)) ⌝ }
+{
+    get_vector(vector)
+}
+
+// Open with alignments: refused with 201, then 205.
+pub fn open(
+    settings: &mut [u64; 9],
+    blockers: &mut [u64; 88],
+    states: &mut [u64; 144],
+    vectors: &mut [u64; 272],
+    s: Settings,
+    b: Buffers,
+) -> Outcome
+    ensures { λ r. ⌜ (r ≡ openOf s b .outcome) × (dockOf (now (settings .exit)) (now (blockers .exit)) (now (states .exit)) (now (vectors .exit)) ≡ openOf s b .dock) ⌝ }
+{
+    crate::calls::open(settings, blockers, states, vectors, s, b)
+}
+
+// Open by drive profile (document 01: a drive row): refused with 201, then 205.
+pub fn open_profile(
+    settings: &mut [u64; 9],
+    blockers: &mut [u64; 88],
+    states: &mut [u64; 144],
+    vectors: &mut [u64; 272],
+    index: usize,
+    bounce: u64,
+    b: Buffers,
+) -> Outcome
+    ensures { λ r. ⌜ (r ≡ openProfileOf index bounce b .outcome) × (dockOf (now (settings .exit)) (now (blockers .exit)) (now (states .exit)) (now (vectors .exit)) ≡ openProfileOf index bounce b .dock) ⌝ }
+{
+    crate::calls::open_profile(settings, blockers, states, vectors, index, bounce, b)
+}
+
+// Begin what is asked, in the lowest free slot.
+pub fn begin(
+    settings: &[u64; 9],
+    blockers: &mut [u64; 88],
+    states: &mut [u64; 144],
+    vectors: &mut [u64; 272],
+    asked: Asked,
+    data: &[u8],
+    scratch: &mut [u8],
+) -> Begun
+    ensures { λ r. ⌜ begins (record { answer = r; dock = dockOf (now (settings .entry)) (now (blockers .exit)) (now (states .exit)) (now (vectors .exit)) }) (now (scratch .exit))
+        ≡ beginOf (dockOf (now (settings .entry)) (now (blockers .entry)) (now (states .entry)) (now (vectors .entry))) asked (now («data» .entry)) (now (scratch .entry)) ⌝ }
+{
+    crate::calls::begin(settings, blockers, states, vectors, asked, data, scratch)
+}
+
+// What the job in `slot` needs now. Changes nothing.
+pub fn next(
+    settings: &[u64; 9],
+    blockers: &[u64; 88],
+    states: &[u64; 144],
+    vectors: &[u64; 272],
+    slot: usize,
+    data_len: usize,
+    scratch_len: usize,
+) -> Due
+    ensures { λ r. ⌜ r ≡ nextOf (dockOf (now (settings .entry)) (now (blockers .entry)) (now (states .entry)) (now (vectors .entry))) slot data_len «scratch_len» ⌝ }
+{
+    crate::calls::next(
+        settings,
+        blockers,
+        states,
+        vectors,
+        slot,
+        data_len,
+        scratch_len,
+    )
+}
+
+// Where piece i of the request that is out in `slot` lies.
+pub fn piece(
+    settings: &[u64; 9],
+    blockers: &[u64; 88],
+    states: &[u64; 144],
+    vectors: &[u64; 272],
+    slot: usize,
+    i: usize,
+    data_len: usize,
+    scratch_len: usize,
+) -> Piece
+    ensures { λ r. ⌜ r ≡ pieceOf (dockOf (now (settings .entry)) (now (blockers .entry)) (now (states .entry)) (now (vectors .entry))) slot i data_len «scratch_len» ⌝ }
+{
+    crate::calls::piece(
+        settings,
+        blockers,
+        states,
+        vectors,
+        slot,
+        i,
+        data_len,
+        scratch_len,
+    )
+}
+
+// Hand in the code of the request that is out in `slot`.
+pub fn tell(
+    settings: &[u64; 9],
+    blockers: &mut [u64; 88],
+    states: &mut [u64; 144],
+    vectors: &[u64; 272],
+    slot: usize,
+    code: u8,
+    data: &mut [u8],
+    scratch: &mut [u8],
+) -> Outcome
+    ensures { λ r. ⌜ tells (record { outcome = r; dock = dockOf (now (settings .entry)) (now (blockers .exit)) (now (states .exit)) (now (vectors .entry)) }) (now («data» .exit)) (now (scratch .exit))
+        ≡ tellOf (dockOf (now (settings .entry)) (now (blockers .entry)) (now (states .entry)) (now (vectors .entry))) slot code (now («data» .entry)) (now (scratch .entry)) ⌝ }
+{
+    crate::calls::tell(
+        settings,
+        blockers,
+        states,
+        vectors,
+        slot,
+        code,
+        data,
+        scratch,
+    )
+}
+
+// Take the final answer; the slot is free again.
+pub fn collect(
+    settings: &[u64; 9],
+    blockers: &[u64; 88],
+    states: &mut [u64; 144],
+    vectors: &mut [u64; 272],
+    slot: usize,
+    data_len: usize,
+    scratch_len: usize,
+) -> Collected
+    ensures { λ r. ⌜ (r ≡ collectOf (dockOf (now (settings .entry)) (now (blockers .entry)) (now (states .entry)) (now (vectors .entry))) slot data_len «scratch_len» .answer)
+        × (dockOf (now (settings .entry)) (now (blockers .entry)) (now (states .exit)) (now (vectors .exit)) ≡ collectOf (dockOf (now (settings .entry)) (now (blockers .entry)) (now (states .entry)) (now (vectors .entry))) slot data_len «scratch_len» .dock) ⌝ }
+{
+    crate::calls::collect(
+        settings,
+        blockers,
+        states,
+        vectors,
+        slot,
+        data_len,
+        scratch_len,
+    )
+}
