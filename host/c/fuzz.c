@@ -482,6 +482,7 @@ static void try_collect(size_t slot)
     check(origin != MADE || number <= 199 || number == 207, "an answer that is not document 01's");
     check(same(SETTINGS) && same(BLOCKERS) && same(VECTOR) && same(LENT_DATA) && same(LENT_SCRATCH), "changed what is not its to change");
     check(same_but_row(STATES, slot) && same_but_row(VECTORS, slot), "changed another slot");
+    check(raw_next(slot).number == 208, "left the slot taken");
 }
 
 static void try_planner(enum call call)

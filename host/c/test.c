@@ -220,6 +220,7 @@ static void test_rows(void)
         struct dock_settings settings = row_settings(row);
         uint64_t step = settings.mem > settings.req ? settings.mem : settings.req;
         lent = bench_lent(DATA, (size_t)(8 * settings.bounce));
+        memset(&dock, 0xa5, sizeof dock);
         CHECK(dock_open(&dock, &settings, &lent) == 0);
         dock_before = dock;
         memset(&dock, 0xff, sizeof dock);
@@ -668,6 +669,8 @@ static void test_slots(void)
     REFUSED(DOCK_SLOT, dock_piece(&dock, 0, SIZE_MAX, &lent).refusal);
     for (i = 0; i < 3; i++)
         tell_done(0);
+    for (i = 0; i < sizeof none / sizeof *none; i++)
+        refused_at(DOCK_SLOT, none[i], __LINE__);
     REFUSED(DOCK_SLOT, dock_tell(&dock, 0, 0, &lent));
     REFUSED(DOCK_SLOT, dock_piece(&dock, 0, 0, &lent).refusal);
     CHECK(dock_collect(&dock, 0, &lent) == 0);

@@ -129,9 +129,8 @@ mod tests {
     #[test]
     fn an_answer_has_its_number_and_refusals_are_none() {
         for number in 0..=300 {
-            let answer = Answer::of(number);
-            assert_eq!(answer.is_some(), number <= 199 || number == 207);
-            assert!(answer.map_or(true, |a| u64::from(a.number()) == number));
+            let named = Answer::of(number).map(|answer| u64::from(answer.number()));
+            assert_eq!(named, (number <= 199 || number == 207).then_some(number));
         }
     }
 }

@@ -190,6 +190,22 @@ fn scratch_must_start_at_a_multiple_of_the_memory_alignment() {
     assert!(aligned_part(&mut scratch[1..100], 4096).is_empty());
 }
 
+/// The same length of data goes straight to the store or through the bounce buffer, by the address of its first byte.
+#[test]
+fn the_address_of_the_data_decides_on_direct_requests() {
+    let (mut room, mut more) = (vec![0; 4 * 4096], vec![0; 8 * 12288 + 4096]);
+    let data = &mut aligned_part(&mut room, 4096)[1..];
+    let mut dock = Dock::open_row(4, 12288, data, aligned_part(&mut more, 4096)).unwrap();
+    for (start, direct) in [(4095, true), (0, false), (8191, true), (4096, false)] {
+        dock.begin_write(512, &Vector::of(start, 4096)).unwrap();
+        assert_eq!(dock.next(0), Ok(due(Kind::Write, 512, 4096)));
+        let address = dock.data()[start..].as_ptr();
+        assert_eq!(dock.piece(0, 0).unwrap().bytes().as_ptr() == address, direct, "{start}");
+        dock.tell(0, 0).unwrap();
+        assert_eq!(dock.collect(0), Ok(Answer::Done));
+    }
+}
+
 #[test]
 fn begins_are_refused_with_their_numbers() {
     with_dock(|dock| {
@@ -198,6 +214,7 @@ fn begins_are_refused_with_their_numbers() {
         refused(dock, Refusal::Overflow, |d| d.begin_read(LAST_BLOCK, &Vector::of(0, 512)));
         dock.begin_read(0, &Vector::of(0, 10)).unwrap();
         refused(dock, Refusal::Overlap, |d| d.begin_write(0, &Vector::of(9, 1)));
+        refused(dock, Refusal::Overlap, |d| d.begin_read(0, &Vector::of(9, 1)));
         for slot in 1..SLOTS {
             assert_eq!(dock.begin_write(0, &Vector::of(100, 10)), Ok(Begun::Slot(slot)));
         }
@@ -219,6 +236,9 @@ fn other_calls_are_refused_with_their_numbers() {
         for code in 200..=255 {
             refused(dock, Refusal::NoAnswer, |d| d.tell(0, code));
         }
+        dock.tell(0, 2).unwrap();
+        refused(dock, Refusal::Slot, |d| d.tell(0, 0));
+        refused(dock, Refusal::Slot, |d| d.collect(8));
         refused(dock, Refusal::Unaligned, |d| d.chunks(1, 512));
         refused(dock, Refusal::Overflow, |d| d.chunk(LAST_BLOCK, 512, 0));
     });
