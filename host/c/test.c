@@ -364,6 +364,19 @@ static void test_traced_zeroes(void)
     CHECK(store_zero(1, 1022));
 }
 
+/* Any number but 0 asks for an allocating zero request, in the raw call too. */
+static void test_allocate(void)
+{
+    struct dock_words_reply reply;
+    open_row(ROW, BOUNCE);
+    CHECK(is_due(zeroes_at(256, 0, 512), DOCK_ALLOCATED_ZERO, 0, 512));
+    CHECK(is_due(zeroes_at(0, 0, 512), DOCK_ZERO, 0, 512));
+    reply = dock_words_begin_zeroes(dock.settings, dock.blockers, dock.states, dock.vectors, 255, 0, 512, lent.data, lent.data_len,
+                                    lent.scratch, lent.scratch_len);
+    CHECK(reply.number == 256 && reply.count == 1 && reply.value[0] == 2);
+    CHECK(is_due(2, DOCK_ALLOCATED_ZERO, 0, 512));
+}
+
 /* Offset n before 2^64. */
 static uint64_t before_end(uint64_t n)
 {
@@ -853,6 +866,7 @@ int main(void)
     test_traced_gap();
     test_traced_row_four();
     test_traced_zeroes();
+    test_allocate();
     test_traced_ends();
     test_reads();
     test_failed_reads();
