@@ -270,6 +270,12 @@ static void test_unfit(void)
     refuses_all(DOCK_UNFIT, __LINE__);
 }
 
+/* Opening with alignment 1, told addresses and lengths: address plus length is at most 2^64 - 1. */
+static unsigned opened_at(uint64_t data, uint64_t data_len, uint64_t scratch)
+{
+    return dock_words_open(dock.settings, dock.blockers, dock.states, dock.vectors, 1, 1, 1, 1, 4, data, data_len, scratch, 32);
+}
+
 /* Scratch too short, off the memory alignment, past the last address; 201 comes first. */
 static void test_unfit_buffers(void)
 {
@@ -282,9 +288,10 @@ static void test_unfit_buffers(void)
     lent.scratch -= 512;
     lent.data += 1;
     CHECK(dock_open(&dock, &row, &lent) == 0);
-    CHECK(dock_words_open(dock.settings, dock.blockers, dock.states, dock.vectors, 1, 1, 1, 1, 4, UINT64_MAX, 0, 0, 32) == 0);
-    CHECK(dock_words_open(dock.settings, dock.blockers, dock.states, dock.vectors, 1, 1, 1, 1, 4, UINT64_MAX, 1, 0, 32) == DOCK_BUFFER);
-    CHECK(dock_words_open(dock.settings, dock.blockers, dock.states, dock.vectors, 1, 1, 1, 1, 4, 0, 1, UINT64_MAX - 30, 32) == DOCK_BUFFER);
+    CHECK(opened_at(UINT64_MAX, 0, 0) == 0);
+    CHECK(opened_at(UINT64_MAX, 1, 0) == DOCK_BUFFER);
+    CHECK(opened_at(0, 1, UINT64_MAX - 32) == 0);
+    CHECK(opened_at(0, 1, UINT64_MAX - 31) == DOCK_BUFFER);
     row.mem = 3;
     lent.scratch_len = 1;
     CHECK(dock_open(&dock, &row, &lent) == DOCK_UNFIT);
@@ -752,6 +759,9 @@ static void test_null(void)
     lent.scratch_len = 0;
     CHECK(dock_open_row(&dock, ROW, BOUNCE, &lent) == DOCK_BUFFER);
     refuses_all(DOCK_BUFFER, __LINE__);
+    CHECK(dock_open_row(&dock, DOCK_ROWS, BOUNCE, &lent) == DOCK_UNFIT);
+    lent.scratch_len = 1;
+    refuses_all(DOCK_BUFFER, __LINE__);
     lent = bench_lent(0, 8 * BOUNCE);
     lent.data = NULL;
     fill();
@@ -830,6 +840,24 @@ static void test_copy(void)
     CHECK(store_has(100, 0, 10));
 }
 
+/* Words of no call's making: a blocker in a free slot, a job whose vector is none, an answer that no call gives. */
+static void test_foreign_words(void)
+{
+    struct dock_vector block = one_segment(0, 512);
+    open_row(ROW, BOUNCE);
+    dock.blockers[0] = 1;
+    REFUSED_VECTOR(DOCK_SLOT, DOCK_WRITE, 0, block);
+    open_row(ROW, BOUNCE);
+    CHECK(read_at(10, 0, 10) == 0);
+    dock.vectors[0] = 17;
+    REFUSED(DOCK_SEGMENT, dock_tell(&dock, 0, 0, &lent));
+    open_row(ROW, BOUNCE);
+    dock.states[0] = 1;
+    dock.states[1] = 256 + DOCK_BUFFER;
+    CHECK(dock_collect(&dock, 0, &lent) == DOCK_BUFFER);
+    CHECK(dock.states[0] == 0 && dock.states[1] == 0);
+}
+
 /* The same bytes at another address of the data go direct or padded, by the alignment of the memory. */
 static void test_address(void)
 {
@@ -845,7 +873,8 @@ static void test_row_zero(void)
 {
     static const struct wanted write[] = { { DOCK_WRITE, 3, 5, 0 } };
     static const struct wanted zero[] = { { DOCK_ALLOCATED_ZERO, 3, 5, 0 } };
-    static const struct wanted chunks[] = { { DOCK_ZERO, 3, 10, 1 }, { DOCK_WRITE, 3, 4, 0 }, { DOCK_WRITE, 7, 4, 0 }, { DOCK_WRITE, 11, 2, 0 } };
+    static const struct wanted chunks[] = { { DOCK_ZERO, 3, 10, 1 }, { DOCK_WRITE, 3, 4, 0 }, { DOCK_WRITE, 7, 4, 0 },
+                                            { DOCK_WRITE, 11, 2, 0 } };
     open_row(0, 4);
     RUNS(write_at(3, 1, 5), 0, write);
     CHECK(store_has(3, 1, 5));
@@ -890,6 +919,7 @@ int main(void)
     test_order();
     test_planner();
     test_copy();
+    test_foreign_words();
     test_address();
     test_row_zero();
     printf("%u checks, %u failed\n", checks, failures);
