@@ -38,9 +38,11 @@ pub enum Kind {
 /// A request: aligned as the drive asks for it.
 #[derive(Clone, Copy, Debug, PartialEq, Eq)]
 pub struct Request {
+    /// What to do.
     pub kind: Kind,
-    /// On the store.
+    /// Where on the store it starts.
     pub offset: u64,
+    /// How many bytes of the store it is about.
     pub length: u64,
     /// How many pieces a read or a write has; the other kinds have none.
     pub pieces: usize,
@@ -71,7 +73,9 @@ pub enum Piece<'a> {
 /// A chunk of the planner's.
 #[derive(Clone, Copy, Debug, PartialEq, Eq)]
 pub struct Chunk {
+    /// Where on the store it starts.
     pub offset: u64,
+    /// How many bytes it has.
     pub length: u64,
 }
 

@@ -23,6 +23,7 @@ pub struct Settings {
     pub zero: u64,
     /// Of discard requests.
     pub discard: u64,
+    /// Length of one job's bounce buffer.
     pub bounce: u64,
 }
 

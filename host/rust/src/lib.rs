@@ -36,8 +36,12 @@
 //! }
 //! ```
 
+#![deny(unsafe_code)]
+#![warn(missing_docs)]
+
 mod answer;
 mod dock;
+#[allow(unsafe_code)]
 mod raw;
 mod refusal;
 mod vector;
