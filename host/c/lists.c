@@ -509,10 +509,23 @@ static void open_any(void)
     memset(jobs, 0, sizeof jobs);
 }
 
+/* The same content at the start of each list. */
+static void put_content(void)
+{
+    size_t i;
+    for (i = 0; i < STORE; i++)
+        store[i] = (uint8_t)(i * 7 + i / 251);
+    memcpy(plain, store, STORE);
+    for (i = 0; i < sizeof data_room; i++)
+        data_room[i] = (uint8_t)(i * 11 + i / 253 + 128);
+    memset(scratch_room, 0x5a, sizeof scratch_room);
+}
+
 static void run_list(void)
 {
     int i;
     random_state = seed * UINT64_C(0xd1342543de82ef95) + list;
+    put_content();
     open_any();
     for (i = 0; i < EVENTS; i++) {
         uint64_t event = below(16);
@@ -534,11 +547,8 @@ int main(int argc, char **argv)
     long seconds = argc > 1 ? strtol(argv[1], NULL, 10) : 60;
     time_t start = time(NULL);
     time_t shown = start;
-    size_t i;
     seed = argc > 2 ? strtoull(argv[2], NULL, 10) : 1;
     list = argc > 3 ? strtoull(argv[3], NULL, 10) : 0;
-    for (i = 0; i < STORE; i++)
-        store[i] = plain[i] = (uint8_t)(i * 7 + i / 251);
     for (; time(NULL) - start < seconds; list++) {
         run_list();
         if (time(NULL) - shown >= 10) {
