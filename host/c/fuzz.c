@@ -645,7 +645,9 @@ static void run_episode(void)
     }
 }
 
-/* ---- The run ---- */
+/* ---- The run: at least so many episodes that every call is accepted and refused in them ---- */
+
+enum least { LEAST = 1000 };
 
 static uint64_t sum(const uint64_t *all)
 {
@@ -677,9 +679,10 @@ int main(int argc, char **argv)
     long seconds = argc > 1 ? strtol(argv[1], NULL, 10) : 60;
     time_t start = time(NULL);
     time_t shown = start;
+    uint64_t first;
     int i;
     seed = argc > 2 ? strtoull(argv[2], NULL, 10) : 1;
-    episode = argc > 3 ? strtoull(argv[3], NULL, 10) : 0;
+    first = argc > 3 ? strtoull(argv[3], NULL, 10) : 0;
     for (i = 0; i < AREAS; i++)
         make_area(&areas[i], rooms[i]);
     signal(SIGSEGV, on_signal);
@@ -687,7 +690,7 @@ int main(int argc, char **argv)
     signal(SIGFPE, on_signal);
     signal(SIGILL, on_signal);
     signal(SIGALRM, on_signal);
-    for (; time(NULL) - start < seconds; episode++) {
+    for (episode = first; episode - first < LEAST || time(NULL) - start < seconds; episode++) {
         alarm(30);
         run_episode();
         if (time(NULL) - shown >= 10) {

@@ -10,7 +10,7 @@
 #include <string.h>
 #include <time.h>
 
-enum size { STORE = 262144, DATA = 16384, PAGE = 4096, LONGEST = 24576, MOST_BOUNCE = 20480, EVENTS = 300 };
+enum size { STORE = 262144, DATA = 16384, PAGE = 4096, LONGEST = 24576, MOST_BOUNCE = 20480, EVENTS = 300, LEAST = 50 };
 
 static uint64_t seed = 1;
 static uint64_t list;
@@ -547,9 +547,10 @@ int main(int argc, char **argv)
     long seconds = argc > 1 ? strtol(argv[1], NULL, 10) : 60;
     time_t start = time(NULL);
     time_t shown = start;
+    uint64_t first;
     seed = argc > 2 ? strtoull(argv[2], NULL, 10) : 1;
-    list = argc > 3 ? strtoull(argv[3], NULL, 10) : 0;
-    for (; time(NULL) - start < seconds; list++) {
+    first = argc > 3 ? strtoull(argv[3], NULL, 10) : 0;
+    for (list = first; list - first < LEAST || time(NULL) - start < seconds; list++) {
         run_list();
         if (time(NULL) - shown >= 10) {
             shown = time(NULL);
