@@ -1,0 +1,705 @@
+/*
+ * Random words, arguments and buffers against the raw calls of libwords.a: fuzz [SECONDS [SEED [EPISODE]]], 60 seconds and seed 1 unless
+ * said. Each array and buffer lies between two pages that nobody may touch, its end (or its start) right at one of them. After each
+ * call: it has returned; where it refuses, no word and no byte has changed; where it does not, only what is the call's to change; its
+ * number is one of document 01's for the call. An episode depends on seed and number alone: a failure names both.
+ */
+#define _DEFAULT_SOURCE
+#include "../dock.h"
+
+#include <signal.h>
+#include <stdio.h>
+#include <stdlib.h>
+#include <string.h>
+#include <sys/mman.h>
+#include <time.h>
+#include <unistd.h>
+
+/* ---- Random numbers ---- */
+
+static uint64_t seed = 1;
+static uint64_t episode;
+static uint64_t random_state;
+
+static uint64_t rnd(void)
+{
+    uint64_t x = random_state += UINT64_C(0x9e3779b97f4a7c15);
+    x = (x ^ (x >> 30)) * UINT64_C(0xbf58476d1ce4e5b9);
+    x = (x ^ (x >> 27)) * UINT64_C(0x94d049bb133111eb);
+    return x ^ (x >> 31);
+}
+
+static uint64_t below(uint64_t n)
+{
+    return rnd() % n;
+}
+
+static int one_in(uint64_t n)
+{
+    return below(n) == 0;
+}
+
+/* ---- Failures ---- */
+
+enum call { OPEN, OPEN_ROW, BEGIN_READ, BEGIN_WRITE, BEGIN_ZEROES, BEGIN_DISCARD, NEXT, PIECE, TELL, COLLECT, CHUNKS, CHUNK, CALLS };
+
+static const char *const names[] = { "open", "open_row", "begin_read", "begin_write", "begin_zeroes", "begin_discard", "next", "piece",
+                                     "tell", "collect", "chunks", "chunk" };
+static volatile sig_atomic_t at_call;
+
+static void fail(const char *what)
+{
+    printf("fuzz: %s: %s (seed %llu, episode %llu)\n", names[at_call], what, (unsigned long long)seed, (unsigned long long)episode);
+    exit(EXIT_FAILURE);
+}
+
+static void check(int holds, const char *what)
+{
+    if (!holds)
+        fail(what);
+}
+
+/* A touch of a guard page, or a call that does not return. */
+static void on_signal(int signal)
+{
+    char line[160];
+    int n = snprintf(line, sizeof line, "fuzz: %s: %s (seed %llu, episode %llu)\n", names[at_call],
+                     signal == SIGALRM ? "has not returned" : "touched what is not its own", (unsigned long long)seed,
+                     (unsigned long long)episode);
+    if (write(STDOUT_FILENO, line, (size_t)n) < 0)
+        _exit(2);
+    _exit(EXIT_FAILURE);
+}
+
+/* ---- Arrays and buffers between guard pages ---- */
+
+struct area {
+    uint8_t *room;
+    size_t room_len;
+    uint8_t *at;
+    size_t length;
+    uint8_t *before;
+};
+
+enum area_index { SETTINGS, BLOCKERS, STATES, VECTORS, VECTOR, LENT_DATA, LENT_SCRATCH, AREAS };
+
+static struct area areas[AREAS];
+static const size_t words_of[] = { 9, 88, 144, 272, 34 };
+static const size_t row_of[] = { 0, 11, 18, 34 };
+enum room { DATA_ROOM = 8192, SCRATCH_ROOM = 32768 };
+
+static void make_area(struct area *area, size_t room_len)
+{
+    size_t page = (size_t)sysconf(_SC_PAGESIZE);
+    uint8_t *all;
+    room_len = (room_len + page - 1) / page * page;
+    all = (uint8_t *)mmap(NULL, room_len + 2 * page, PROT_READ | PROT_WRITE, MAP_PRIVATE | MAP_ANONYMOUS, -1, 0);
+    area->before = (uint8_t *)malloc(room_len);
+    if (all == MAP_FAILED || area->before == NULL || mprotect(all, page, PROT_NONE) != 0
+        || mprotect(all + page + room_len, page, PROT_NONE) != 0) {
+        puts("fuzz: no memory");
+        exit(2);
+    }
+    area->room = all + page;
+    area->room_len = room_len;
+}
+
+static void place(struct area *area, size_t length, int at_end)
+{
+    area->length = length;
+    area->at = at_end ? area->room + area->room_len - length : area->room;
+}
+
+static uint64_t *words(enum area_index i)
+{
+    return (uint64_t *)(void *)areas[i].at;
+}
+
+static void keep(void)
+{
+    int i;
+    for (i = 0; i < AREAS; i++)
+        memcpy(areas[i].before, areas[i].room, areas[i].room_len);
+}
+
+/* Whether a room is as before but for `length` bytes from `start` of the area in it. */
+static int same_but(enum area_index i, size_t start, size_t length)
+{
+    const struct area *area = &areas[i];
+    size_t from = (size_t)(area->at - area->room) + start;
+    return memcmp(area->before, area->room, from) == 0
+        && memcmp(area->before + from + length, area->room + from + length, area->room_len - from - length) == 0;
+}
+
+static int same(enum area_index i)
+{
+    return same_but(i, 0, 0);
+}
+
+static int all_same(void)
+{
+    int i;
+    for (i = 0; i < AREAS; i++) {
+        if (!same((enum area_index)i))
+            return 0;
+    }
+    return 1;
+}
+
+/* Whether of an array of rows only the slot's may have changed. */
+static int same_but_row(enum area_index i, size_t slot)
+{
+    return same_but(i, slot * row_of[i] * 8, row_of[i] * 8);
+}
+
+/* ---- What the words are ---- */
+
+enum origin { MADE, MUTATED, SMALL, UNIFORM, ORIGINS };
+
+static enum origin origin;
+static int at_end;
+static uint64_t counts[CALLS];
+static uint64_t accepted[CALLS];
+static uint64_t accepted_made;
+static uint64_t odd_begins;
+static uint64_t odd_tells;
+
+static uint64_t any_word(void)
+{
+    switch (below(5)) {
+    case 0:
+        return below(12);
+    case 1:
+        return below(10000);
+    case 2:
+        return UINT64_MAX - below(5000);
+    case 3:
+        return UINT64_C(1) << below(64);
+    default:
+        return rnd();
+    }
+}
+
+static uint64_t any_offset(void)
+{
+    switch (below(6)) {
+    case 0:
+        return UINT64_MAX - below(20000);
+    case 1:
+        return below(64) * 512;
+    case 2:
+        return any_word();
+    default:
+        return below(20000);
+    }
+}
+
+static uint64_t any_length(void)
+{
+    return one_in(8) ? any_word() : below(5) == 0 ? below(16) * 512 : below(6000);
+}
+
+static size_t any_slot(void)
+{
+    return one_in(16) ? (size_t)any_word() : (size_t)below(8);
+}
+
+static uint8_t any_code(void)
+{
+    switch (below(8)) {
+    case 0:
+        return 1;
+    case 1:
+        return (uint8_t)(2 + below(198));
+    case 2:
+        return (uint8_t)(200 + below(56));
+    default:
+        return 0;
+    }
+}
+
+static void put_words(enum area_index i)
+{
+    size_t j;
+    for (j = 0; j < words_of[i]; j++)
+        words(i)[j] = origin == UNIFORM ? rnd() : one_in(4) ? any_word() : below(12);
+}
+
+static void put_bytes(uint8_t *bytes, size_t length)
+{
+    size_t i;
+    for (i = 0; i < length; i++)
+        bytes[i] = (uint8_t)rnd();
+}
+
+/* A vector of some segments of the data, right or nearly so, or any words. */
+static void put_vector(void)
+{
+    struct dock_vector vector = DOCK_VECTOR_EMPTY;
+    size_t length = areas[LENT_DATA].length;
+    size_t left = one_in(16) ? 17 : (size_t)below(4);
+    for (; left > 0; left--) {
+        uint64_t start = below(length + 1);
+        uint64_t most = one_in(32) ? length + 2 : length - start + (length == start);
+        uint64_t bytes = one_in(3) ? 512 * (1 + below(3)) : 1 + below(1500);
+        dock_vector_push(&vector, start, bytes < most ? bytes : most);
+    }
+    memcpy(words(VECTOR), vector.words, sizeof vector.words);
+    if (one_in(16))
+        words(VECTOR)[below(34)] = any_word();
+    if (one_in(64))
+        put_words(VECTOR);
+}
+
+/* ---- The calls, each with the checks after it ---- */
+
+/* Counts a call and says whether it counts as accepted; refused, it must have changed nothing. */
+static void done(int was_accepted)
+{
+    counts[at_call]++;
+    accepted[at_call] += was_accepted != 0;
+    accepted_made += was_accepted && origin == MADE;
+    if (!was_accepted)
+        check(all_same(), "was refused and has changed something");
+}
+
+static void check_number(int is_one)
+{
+    check(is_one, "a number that is not document 01's for this call");
+}
+
+static uint64_t bounce(void)
+{
+    return words(SETTINGS)[4];
+}
+
+/* Whether what is outside the slot's bounce buffer is as before. */
+static int same_outside_bounce(size_t slot)
+{
+    return same_but(LENT_SCRATCH, slot * (size_t)bounce(), (size_t)bounce());
+}
+
+/* What opening writes depends on its arguments alone. */
+static void open_twice(int by_row, const uint64_t *args, uint64_t data_len, uint64_t scratch_len)
+{
+    struct dock other;
+    uint8_t again;
+    uint8_t number;
+    uint64_t *s = words(SETTINGS);
+    uint64_t *b = words(BLOCKERS);
+    uint64_t *x = words(STATES);
+    uint64_t *v = words(VECTORS);
+    uint64_t data = (uint64_t)(uintptr_t)areas[LENT_DATA].at;
+    uint64_t scratch = (uint64_t)(uintptr_t)areas[LENT_SCRATCH].at;
+    memset(&other, (int)below(256), sizeof other);
+    at_call = by_row ? OPEN_ROW : OPEN;
+    keep();
+    number = by_row ? dock_words_open_row(s, b, x, v, (size_t)args[0], args[4], data, data_len, scratch, scratch_len)
+                    : dock_words_open(s, b, x, v, args[0], args[1], args[2], args[3], args[4], data, data_len, scratch, scratch_len);
+    again = by_row ? dock_words_open_row(other.settings, other.blockers, other.states, other.vectors, (size_t)args[0], args[4], data,
+                                         data_len, scratch, scratch_len)
+                   : dock_words_open(other.settings, other.blockers, other.states, other.vectors, args[0], args[1], args[2], args[3],
+                                     args[4], data, data_len, scratch, scratch_len);
+    check_number(number == 0 || number == 201 || number == 205);
+    check(number == again && memcmp(s, other.settings, 72) == 0 && memcmp(b, other.blockers, 704) == 0
+              && memcmp(x, other.states, 1152) == 0 && memcmp(v, other.vectors, 2176) == 0,
+          "wrote what its arguments do not say");
+    check(same_but(SETTINGS, 0, 72) && same_but(BLOCKERS, 0, 704) && same_but(STATES, 0, 1152) && same_but(VECTORS, 0, 2176)
+              && same(VECTOR) && same(LENT_DATA) && same(LENT_SCRATCH),
+          "wrote outside its arrays");
+    counts[at_call]++;
+    accepted[at_call] += number == 0;
+}
+
+static struct dock_words_reply raw_begin(enum call call, uint64_t offset, uint64_t length)
+{
+    const struct area *data = &areas[LENT_DATA];
+    const struct area *scratch = &areas[LENT_SCRATCH];
+    const uint64_t *s = words(SETTINGS);
+    uint64_t *b = words(BLOCKERS);
+    uint64_t *x = words(STATES);
+    uint64_t *v = words(VECTORS);
+    switch (call) {
+    case BEGIN_READ:
+        return dock_words_begin_read(s, b, x, v, offset, words(VECTOR), data->at, data->length, scratch->at, scratch->length);
+    case BEGIN_WRITE:
+        return dock_words_begin_write(s, b, x, v, offset, words(VECTOR), data->at, data->length, scratch->at, scratch->length);
+    case BEGIN_ZEROES:
+        return dock_words_begin_zeroes(s, b, x, v, (uint8_t)below(3), offset, length, data->at, data->length, scratch->at,
+                                       scratch->length);
+    default:
+        return dock_words_begin_discard(s, b, x, v, offset, length, data->at, data->length, scratch->at, scratch->length);
+    }
+}
+
+static void try_begin(enum call call)
+{
+    struct dock_words_reply reply;
+    uint64_t offset = any_offset();
+    uint64_t length = any_length();
+    size_t slot;
+    put_vector();
+    keep();
+    at_call = call;
+    reply = raw_begin(call, offset, length);
+    slot = (size_t)reply.value[0];
+    done(reply.number == 256);
+    if (reply.number != 256) {
+        int odd = origin != MADE && reply.number == 208; /* a blocker stands in a free slot: no call makes such words */
+        odd_begins += (uint64_t)odd;
+        check_number(odd || reply.number == 0 || (reply.number >= 201 && reply.number <= 207));
+        return;
+    }
+    check(reply.count == 1 && slot < 8, "gave no slot");
+    check(same(SETTINGS) && same(VECTOR) && same(LENT_DATA), "changed what is not its to change");
+    check(same_but_row(BLOCKERS, slot) && same_but_row(STATES, slot) && same_but_row(VECTORS, slot), "changed another slot");
+    check(same_outside_bounce(slot), "changed scratch of another slot");
+}
+
+static struct dock_words_reply raw_next(size_t slot)
+{
+    return dock_words_next(words(SETTINGS), words(BLOCKERS), words(STATES), words(VECTORS), slot, areas[LENT_DATA].length,
+                           areas[LENT_SCRATCH].length);
+}
+
+static struct dock_words_reply raw_piece(size_t slot, size_t i)
+{
+    return dock_words_piece(words(SETTINGS), words(BLOCKERS), words(STATES), words(VECTORS), slot, i, areas[LENT_DATA].length,
+                            areas[LENT_SCRATCH].length);
+}
+
+static void check_request(const struct dock_words_reply *reply)
+{
+    static const size_t alignment_of[] = { 1, 1, 2, 2, 3 };
+    uint64_t align;
+    check(reply->value[0] <= DOCK_DISCARD, "a request of no kind");
+    if (origin != MADE)
+        return;
+    align = words(SETTINGS)[alignment_of[reply->value[0]]];
+    check(reply->value[1] % align == 0 && reply->value[2] % align == 0, "a request off its alignment");
+    check(reply->value[1] <= UINT64_MAX - reply->value[2] && reply->value[2] != 0, "a request past the last offset, or of nothing");
+    check(reply->value[3] <= DOCK_SEGMENTS, "a request of too many pieces");
+}
+
+static struct dock_words_reply try_next(size_t slot)
+{
+    struct dock_words_reply reply;
+    keep();
+    at_call = NEXT;
+    reply = raw_next(slot);
+    check(all_same(), "changed something");
+    done(reply.number == 256);
+    check(reply.number <= 256, "a number past 256");
+    if (reply.number == 256) {
+        check(reply.count == 0 || reply.count == 4, "neither waiting nor a request");
+        if (reply.count == 4)
+            check_request(&reply);
+    } else if (origin == MADE && reply.number > 199) {
+        check(reply.number == 205 || reply.number == 207 || reply.number == 208, "an answer that is not document 01's");
+    }
+    return reply;
+}
+
+/* A piece lies in its buffer; a read's are filled, as a store would. Its length, 0 where it is refused. */
+static uint64_t try_piece(size_t slot, size_t i, int is_read)
+{
+    struct dock_words_reply reply;
+    const struct area *area;
+    keep();
+    at_call = PIECE;
+    reply = raw_piece(slot, i);
+    check(all_same(), "changed something");
+    done(reply.number == 256);
+    if (reply.number != 256) {
+        check_number(reply.number == 205 || reply.number == 208);
+        return 0;
+    }
+    check(reply.count == 3 && reply.value[0] <= 1, "a piece in no buffer");
+    area = &areas[reply.value[0] == 0 ? LENT_DATA : LENT_SCRATCH];
+    check(reply.value[2] > 0 && reply.value[2] <= area->length && reply.value[1] <= area->length - reply.value[2],
+          "a piece outside its buffer");
+    if (is_read)
+        put_bytes(area->at + reply.value[1], (size_t)reply.value[2]);
+    return reply.value[2];
+}
+
+/* Every piece of a request, and one more. */
+static void carry(size_t slot)
+{
+    struct dock_words_reply reply = try_next(slot);
+    uint64_t all = 0;
+    size_t i;
+    if (reply.number != 256 || reply.count != 4 || reply.value[3] > 20)
+        return;
+    for (i = 0; i < reply.value[3]; i++)
+        all += try_piece(slot, i, reply.value[0] == DOCK_READ);
+    if (origin == MADE) {
+        check(all == (reply.value[0] <= DOCK_WRITE ? reply.value[2] : 0), "pieces of another length than the request");
+        check(try_piece(slot, i, 0) == 0, "a piece more than the request has");
+    }
+}
+
+static void try_tell(size_t slot)
+{
+    const struct area *data = &areas[LENT_DATA];
+    const struct area *scratch = &areas[LENT_SCRATCH];
+    uint8_t code = any_code();
+    uint8_t number;
+    keep();
+    at_call = TELL;
+    number = dock_words_tell(words(SETTINGS), words(BLOCKERS), words(STATES), words(VECTORS), slot, code, data->at, data->length,
+                             scratch->at, scratch->length);
+    done(number == 0);
+    if (number != 0) {
+        int odd = origin != MADE && number == 202; /* the job's vector is not valid: no call makes such words */
+        odd_tells += (uint64_t)odd;
+        check_number(odd || number == 205 || number == 208 || number == 209);
+        return;
+    }
+    check(code < 200 && slot < 8, "took a code or a slot that is none");
+    check(same(SETTINGS) && same(VECTORS) && same(VECTOR), "changed what is not its to change");
+    check(same_but_row(STATES, slot), "changed another slot");
+    check(same_but(BLOCKERS, 0, 704) && same_but(LENT_DATA, 0, data->length), "wrote outside");
+    check(same_outside_bounce(slot), "changed scratch of another slot");
+}
+
+/* Collect gives the answer of a job that has ended, and only of such a one. */
+static void try_collect(size_t slot)
+{
+    const uint64_t *s = words(SETTINGS);
+    int fits = s[6] == areas[LENT_DATA].length && s[8] == areas[LENT_SCRATCH].length;
+    int ended = fits && slot < 8 && words(STATES)[18 * slot] == 1;
+    uint64_t answer = ended ? words(STATES)[18 * slot + 1] % 256 : fits ? 208 : 205;
+    uint8_t number;
+    keep();
+    at_call = COLLECT;
+    number = dock_words_collect(s, words(BLOCKERS), words(STATES), words(VECTORS), slot, areas[LENT_DATA].length,
+                                areas[LENT_SCRATCH].length);
+    done(ended);
+    check(number == answer, "another number than the final answer or the refusal");
+    if (!ended)
+        return;
+    check(origin != MADE || number <= 199 || number == 207, "an answer that is not document 01's");
+    check(same(SETTINGS) && same(BLOCKERS) && same(VECTOR) && same(LENT_DATA) && same(LENT_SCRATCH), "changed what is not its to change");
+    check(same_but_row(STATES, slot) && same_but_row(VECTORS, slot), "changed another slot");
+    check(raw_next(slot).number == 208, "left the slot taken");
+}
+
+static void try_planner(enum call call)
+{
+    uint64_t req = words(SETTINGS)[1];
+    uint64_t offset = any_offset();
+    uint64_t length = any_length();
+    uint64_t i = any_word();
+    struct dock_words_reply reply;
+    if (req != 0 && !one_in(4)) {
+        offset -= offset % req;
+        length -= length % req;
+    }
+    keep();
+    at_call = call;
+    reply = call == CHUNKS ? dock_words_chunks(words(SETTINGS), offset, length) : dock_words_chunk(words(SETTINGS), offset, length, i);
+    check(all_same(), "changed something");
+    done(reply.number == 256);
+    if (reply.number != 256) {
+        check_number(reply.number == 201 || reply.number == 207 || reply.number == 210);
+        return;
+    }
+    check(reply.count == (call == CHUNKS ? 1 : 2), "gave other values");
+    check(call == CHUNKS || (reply.value[0] >= offset && reply.value[0] - offset <= length
+                             && reply.value[1] <= length - (reply.value[0] - offset)),
+          "a chunk outside the range");
+}
+
+/* ---- Episodes ---- */
+
+static void try_any(void)
+{
+    size_t slot = any_slot();
+    switch (below(10)) {
+    case 0:
+    case 1:
+    case 2:
+        try_begin((enum call)(BEGIN_READ + below(4)));
+        break;
+    case 3:
+    case 4:
+    case 5:
+        carry(slot);
+        try_tell(slot);
+        break;
+    case 6:
+        try_tell(slot);
+        break;
+    case 7:
+        try_collect(slot);
+        break;
+    case 8:
+        try_piece(slot, one_in(4) ? (size_t)any_word() : (size_t)below(3), 0);
+        try_next(slot);
+        break;
+    default:
+        try_planner(one_in(2) ? CHUNKS : CHUNK);
+        break;
+    }
+}
+
+/* The same call with a buffer of another length: 205, or whatever the words make of it. */
+static void try_other_length(void)
+{
+    struct area *area = &areas[one_in(2) ? LENT_DATA : LENT_SCRATCH];
+    size_t length = area->length;
+    size_t other = one_in(2) ? (size_t)below(area->room_len + 1) : length + 1 - 2 * (size_t)below(2);
+    place(area, other > area->room_len ? 0 : other, at_end);
+    try_any();
+    place(area, length, at_end);
+}
+
+static void mutate(void)
+{
+    uint64_t n = 1 + below(3);
+    for (; n > 0; n--) {
+        enum area_index i = (enum area_index)below(4);
+        uint64_t *word = words(i) + below(words_of[i]);
+        if (i == SETTINGS && !one_in(8))
+            continue;
+        *word = one_in(3) ? *word ^ (UINT64_C(1) << below(64)) : one_in(2) ? *word + 1 - 2 * below(2) : any_word();
+    }
+}
+
+/* Alignments and a bounce buffer that opening takes, small enough for the scratch here. */
+static void fit_settings(uint64_t *args)
+{
+    uint64_t least;
+    uint64_t step;
+    int i;
+    for (i = 0; i < 4; i++)
+        args[i] = UINT64_C(1) << (one_in(2) ? 9 : below(10));
+    step = args[0] > args[1] ? args[0] : args[1];
+    least = 2 * args[2] + 2 * step;
+    args[4] = (least + step - 1) / step * step + step * below(3);
+}
+
+static void place_all(uint64_t *args)
+{
+    int i;
+    at_end = !one_in(3);
+    for (i = 0; i <= VECTOR; i++)
+        place(&areas[i], words_of[i] * 8, at_end);
+    place(&areas[LENT_DATA], one_in(16) ? 0 : (size_t)below(DATA_ROOM + 1), at_end);
+    place(&areas[LENT_SCRATCH], (size_t)(8 * args[4]), at_end);
+    put_bytes(areas[LENT_DATA].at, areas[LENT_DATA].length < 256 ? areas[LENT_DATA].length : 256);
+    put_bytes(areas[LENT_SCRATCH].at, 32);
+}
+
+/* Words of no call's making, with settings that mostly fit the buffers. */
+static void put_all(const uint64_t *args)
+{
+    uint64_t *s = words(SETTINGS);
+    int i;
+    for (i = 0; i <= VECTORS; i++)
+        put_words((enum area_index)i);
+    if (one_in(8))
+        return;
+    memcpy(s, args, 5 * sizeof *s);
+    s[6] = areas[LENT_DATA].length;
+    s[8] = areas[LENT_SCRATCH].length;
+    s[5] = one_in(2) ? 0 : (uint64_t)(uintptr_t)areas[LENT_DATA].at;
+    s[7] = one_in(2) ? 0 : (uint64_t)(uintptr_t)areas[LENT_SCRATCH].at;
+}
+
+static void try_unfit_opening(void)
+{
+    uint64_t args[5];
+    int i;
+    fit_settings(args);
+    for (i = 0; i < 5; i++)
+        args[i] = one_in(4) ? any_word() : args[i];
+    open_twice(one_in(2), args, any_length(), any_word());
+    args[0] = below(8);
+    args[4] = UINT64_C(1) << below(22);
+    open_twice(1, args, any_length(), UINT64_C(1) << below(25));
+}
+
+static void run_episode(void)
+{
+    uint64_t args[5];
+    int i;
+    random_state = seed * UINT64_C(0xd1342543de82ef95) + episode;
+    origin = (enum origin)below(ORIGINS);
+    fit_settings(args);
+    place_all(args);
+    if (one_in(8))
+        try_unfit_opening();
+    if (origin == MADE || origin == MUTATED)
+        open_twice(0, args, areas[LENT_DATA].length, areas[LENT_SCRATCH].length);
+    else
+        put_all(args);
+    for (i = 0; i < 60; i++) {
+        if (origin == MUTATED && i >= 10 && one_in(4))
+            mutate();
+        if (one_in(24))
+            try_other_length();
+        else
+            try_any();
+    }
+}
+
+/* ---- The run: at least so many episodes that every call is accepted and refused in them ---- */
+
+enum least { LEAST = 1000 };
+
+static uint64_t sum(const uint64_t *all)
+{
+    uint64_t n = 0;
+    int i;
+    for (i = 0; i < CALLS; i++)
+        n += all[i];
+    return n;
+}
+
+static void summary(void)
+{
+    int i;
+    for (i = 0; i < CALLS; i++)
+        printf("  %-13s %12llu calls, %12llu accepted\n", names[i], (unsigned long long)counts[i], (unsigned long long)accepted[i]);
+    printf("  on words of no call's making: %llu begins refused with 208, %llu tells with 202\n", (unsigned long long)odd_begins,
+           (unsigned long long)odd_tells);
+    for (i = 0; i < CALLS; i++) {
+        at_call = i;
+        check(accepted[i] > 0 && accepted[i] < counts[i], "was never accepted, or never refused");
+    }
+    printf("%llu calls, %llu accepted, %llu of these on a dock that calls made; no failure\n", (unsigned long long)sum(counts),
+           (unsigned long long)sum(accepted), (unsigned long long)accepted_made);
+}
+
+int main(int argc, char **argv)
+{
+    static const size_t rooms[] = { 4096, 4096, 4096, 4096, 4096, DATA_ROOM, SCRATCH_ROOM };
+    long seconds = argc > 1 ? strtol(argv[1], NULL, 10) : 60;
+    time_t start = time(NULL);
+    time_t shown = start;
+    uint64_t first;
+    int i;
+    seed = argc > 2 ? strtoull(argv[2], NULL, 10) : 1;
+    first = argc > 3 ? strtoull(argv[3], NULL, 10) : 0;
+    for (i = 0; i < AREAS; i++)
+        make_area(&areas[i], rooms[i]);
+    signal(SIGSEGV, on_signal);
+    signal(SIGBUS, on_signal);
+    signal(SIGFPE, on_signal);
+    signal(SIGILL, on_signal);
+    signal(SIGALRM, on_signal);
+    for (episode = first; episode - first < LEAST || time(NULL) - start < seconds; episode++) {
+        alarm(30);
+        run_episode();
+        if (time(NULL) - shown >= 10) {
+            shown = time(NULL);
+            printf("%ld s: %llu calls, %llu accepted\n", (long)(shown - start), (unsigned long long)sum(counts),
+                   (unsigned long long)sum(accepted));
+            fflush(stdout);
+        }
+    }
+    summary();
+    return EXIT_SUCCESS;
+}

@@ -1,0 +1,428 @@
+/*
+ * The dock: byte ranges over an aligned drive, for C99 and C++. Link with libwords.a (`rt staticlib words`).
+ *
+ * A job is begun (read, write, zeroes, discard) over any byte range of the store. dock_next says which aligned request the store
+ * must carry out for it, dock_piece where that request's bytes lie, dock_tell hands in the store's code, dock_collect takes the final
+ * answer. The dock does no input or output itself. "Document 01" is the agreed scope; its numbers are the constants below.
+ *
+ * Who owns what, and when bytes may change:
+ *
+ * - Data and scratch are the caller's memory, lent at opening. They must not overlap, and must stay at their address with their length
+ *   until the dock is no longer used: whether a request is direct depends on the address. Lengths are tested in every call (205),
+ *   addresses only at opening.
+ * - Between begin and collect the segments of a job, read or write, belong to the dock: nobody else changes them. All other data
+ *   may change at any time.
+ * - The scratch belongs to the dock from opening on, with jobs in flight or without.
+ * - A piece belongs to the store from the call after which dock_next shows its request until the tell of that request. The store changes
+ *   bytes only in the pieces of a read; it reads the pieces of a write and leaves them as they are.
+ * - A request is carried out once, and its tell hands in the code of that.
+ * - `struct dock` is the caller's. It holds no pointer into itself, so it may be moved or copied as bytes between calls; from then on
+ *   only the copy that the newest call was made with counts. Two threads must not be in calls on one dock at once.
+ *
+ * A call that refuses changes nothing: not the dock, not the vector, not the lent bytes. Only a refused opening writes the dock, which
+ * then refuses every begin with the same number.
+ *
+ * Null pointers: a buffer of length 0 may be null. One that is null and has a length is refused with 205; at opening 201 comes before it,
+ * in other calls nothing does. The dock, the vector and the lent buffers' struct must not be null.
+ */
+#ifndef DOCK_H
+#define DOCK_H
+
+#include <stddef.h>
+#include <stdint.h>
+
+#ifdef __cplusplus
+extern "C" {
+#endif
+
+/* ---- Numbers of document 01 ---- */
+
+/* Why a call was refused. 207 is also the final answer of a zero job of which a later stage has no offsets left. */
+enum dock_refusal {
+    DOCK_UNFIT = 201,     /* alignment, bounce buffer length or drive row unfit */
+    DOCK_SEGMENT = 202,   /* segment empty or outside the data, a 17th, total too long */
+    DOCK_OVERLAP = 203,   /* segments that must be apart overlap */
+    DOCK_FULL = 204,      /* all 8 slots taken */
+    DOCK_BUFFER = 205,    /* a buffer's address or length unfit at opening, or a length other than at opening */
+    DOCK_TOO_LONG = 206,  /* padded length over the bounce buffer's */
+    DOCK_OVERFLOW = 207,  /* sum past 2^64 - 1 */
+    DOCK_SLOT = 208,      /* slot not 0 to 7 or free; no request out; not ended; no such piece */
+    DOCK_NO_ANSWER = 209, /* told a code of 200 to 255 */
+    DOCK_UNALIGNED = 210  /* planner: offset or length no multiple of the request alignment */
+};
+
+/* What a store tells: 0, 1, or any of 2 to 199. A code of 200 to 255 is no answer. */
+enum dock_code {
+    DOCK_DONE = 0,
+    DOCK_UNSUPPORTED = 1,
+    DOCK_FAILED_FIRST = 2,
+    DOCK_FAILED_LAST = 199
+};
+
+/* What a request asks of the store. */
+enum dock_kind {
+    DOCK_READ = 0,
+    DOCK_WRITE = 1,
+    DOCK_ZERO = 2,
+    DOCK_ALLOCATED_ZERO = 3,
+    DOCK_DISCARD = 4
+};
+
+enum dock_limit {
+    DOCK_SLOTS = 8,
+    DOCK_SEGMENTS = 16,
+    DOCK_ROWS = 6,
+    DOCK_LONGEST_VECTOR = 1048576,
+    DOCK_LONGEST_BOUNCE = 1048576,
+    DOCK_LARGEST_ALIGNMENT = 65536
+};
+
+/* ---- The dock and what is lent to it ---- */
+
+/* Opaque: only the calls below read or write it. Whatever stands in it, they return, and stay inside it and the lent bytes. */
+struct dock {
+    uint64_t settings[9];
+    uint64_t blockers[88];
+    uint64_t states[144];
+    uint64_t vectors[272];
+};
+
+/* Alignments of the drive, powers of two from 1 to 65,536, and the length of one job's bounce buffer (document 01: share): a multiple
+ * of the greater of mem and req (L), at least 2 zero + 2 L, at most 1,048,576. */
+struct dock_settings {
+    uint64_t mem;
+    uint64_t req;
+    uint64_t zero;
+    uint64_t discard;
+    uint64_t bounce;
+};
+
+/* The buffers. Scratch has at least 8 bounce buffers and starts at a multiple of mem. */
+struct dock_lent {
+    uint8_t *data;
+    size_t data_len;
+    uint8_t *scratch;
+    size_t scratch_len;
+};
+
+/* Up to 16 segments of the data: count, total, then start and length of each. Begin tests whatever stands in it. */
+struct dock_vector {
+    uint64_t words[34];
+};
+
+#define DOCK_VECTOR_EMPTY { { 0 } }
+
+/* ---- What calls give back ---- */
+
+enum dock_begun_tag {
+    DOCK_BEGUN_DONE,   /* no request to make: the job is done and takes no slot */
+    DOCK_BEGUN_SLOT,   /* in flight in `slot` */
+    DOCK_BEGUN_REFUSED /* `refusal` says why */
+};
+
+struct dock_begun {
+    enum dock_begun_tag tag;
+    size_t slot;
+    uint8_t refusal;
+};
+
+struct dock_request {
+    enum dock_kind kind;
+    uint64_t offset; /* on the store */
+    uint64_t length;
+    size_t pieces; /* a read's or write's bytes are those of pieces 0, 1, .. in order; other kinds have none */
+};
+
+enum dock_due_tag {
+    DOCK_DUE_WAITING, /* for a job that must end its stage first */
+    DOCK_DUE_REQUEST, /* `request` is out */
+    DOCK_DUE_ANSWER,  /* ended with `answer`: 0, 1 to 199, or 207 */
+    DOCK_DUE_REFUSED  /* `refusal` says why */
+};
+
+struct dock_due {
+    enum dock_due_tag tag;
+    struct dock_request request;
+    uint8_t answer;
+    uint8_t refusal;
+};
+
+/* A request's piece: `length` bytes from `bytes` on, a part of the lent data or scratch; or null and `refusal`. */
+struct dock_part {
+    uint8_t *bytes;
+    size_t length;
+    uint8_t refusal; /* 0 where there is a piece */
+};
+
+/* What the planner gives: `refusal` is 0 where the others count. */
+struct dock_chunk_count {
+    uint64_t count;
+    uint8_t refusal;
+};
+
+struct dock_chunk_range {
+    uint64_t offset;
+    uint64_t length;
+    uint8_t refusal;
+};
+
+/* ---- The raw calls of libwords.a; use the wrappers below ---- */
+
+enum dock_words_limit { DOCK_WORDS_NO_NUMBER = 256 };
+
+struct dock_words_reply {
+    uint64_t number; /* 256: no number, only values */
+    uint64_t count;
+    uint64_t value[4];
+};
+
+uint8_t dock_words_open(uint64_t *settings, uint64_t *blockers, uint64_t *states, uint64_t *vectors, uint64_t mem, uint64_t req,
+                        uint64_t zero, uint64_t discard, uint64_t share, uint64_t data_address, uint64_t data_length,
+                        uint64_t scratch_address, uint64_t scratch_length);
+uint8_t dock_words_open_row(uint64_t *settings, uint64_t *blockers, uint64_t *states, uint64_t *vectors, size_t row, uint64_t share,
+                            uint64_t data_address, uint64_t data_length, uint64_t scratch_address, uint64_t scratch_length);
+struct dock_words_reply dock_words_begin_read(const uint64_t *settings, uint64_t *blockers, uint64_t *states, uint64_t *vectors,
+                                              uint64_t offset, const uint64_t *vector, const uint8_t *data, size_t data_len,
+                                              uint8_t *scratch, size_t scratch_len);
+struct dock_words_reply dock_words_begin_write(const uint64_t *settings, uint64_t *blockers, uint64_t *states, uint64_t *vectors,
+                                               uint64_t offset, const uint64_t *vector, const uint8_t *data, size_t data_len,
+                                               uint8_t *scratch, size_t scratch_len);
+struct dock_words_reply dock_words_begin_zeroes(const uint64_t *settings, uint64_t *blockers, uint64_t *states, uint64_t *vectors,
+                                                uint8_t allocate, uint64_t offset, uint64_t length, const uint8_t *data,
+                                                size_t data_len, uint8_t *scratch, size_t scratch_len);
+struct dock_words_reply dock_words_begin_discard(const uint64_t *settings, uint64_t *blockers, uint64_t *states, uint64_t *vectors,
+                                                 uint64_t offset, uint64_t length, const uint8_t *data, size_t data_len,
+                                                 uint8_t *scratch, size_t scratch_len);
+struct dock_words_reply dock_words_next(const uint64_t *settings, const uint64_t *blockers, const uint64_t *states,
+                                        const uint64_t *vectors, size_t slot, size_t data_len, size_t scratch_len);
+struct dock_words_reply dock_words_piece(const uint64_t *settings, const uint64_t *blockers, const uint64_t *states,
+                                         const uint64_t *vectors, size_t slot, size_t i, size_t data_len, size_t scratch_len);
+uint8_t dock_words_tell(const uint64_t *settings, uint64_t *blockers, uint64_t *states, const uint64_t *vectors, size_t slot,
+                        uint8_t code, uint8_t *data, size_t data_len, uint8_t *scratch, size_t scratch_len);
+uint8_t dock_words_collect(const uint64_t *settings, const uint64_t *blockers, uint64_t *states, uint64_t *vectors, size_t slot,
+                           size_t data_len, size_t scratch_len);
+struct dock_words_reply dock_words_chunks(const uint64_t *settings, uint64_t offset, uint64_t length);
+struct dock_words_reply dock_words_chunk(const uint64_t *settings, uint64_t offset, uint64_t length, uint64_t i);
+
+/* ---- Null pointers ---- */
+
+/* Whether a buffer is null and has a length. */
+static inline int dock_lent_lacks(const struct dock_lent *lent)
+{
+    return (lent->data == NULL && lent->data_len != 0) || (lent->scratch == NULL && lent->scratch_len != 0);
+}
+
+/* The pointer itself, or for null one that is not: the raw calls take none that is null, and touch no byte where the length is 0. */
+static inline uint8_t *dock_not_null(uint8_t *bytes)
+{
+    static uint8_t none;
+    return bytes != NULL ? bytes : &none;
+}
+
+/* The address that opening is told. Null with a length is told as one past which no length fits: 205, in document 01's order. */
+static inline uint64_t dock_address(const uint8_t *bytes, size_t length)
+{
+    return bytes == NULL && length != 0 ? UINT64_MAX : (uint64_t)(uintptr_t)bytes;
+}
+
+/* ---- Opening ---- */
+
+/* Opens a dock with no job in flight. 0, 201 or 205; refused, the dock refuses every begin likewise. */
+static inline uint8_t dock_open(struct dock *dock, const struct dock_settings *settings, const struct dock_lent *lent)
+{
+    return dock_words_open(dock->settings, dock->blockers, dock->states, dock->vectors, settings->mem, settings->req, settings->zero,
+                           settings->discard, settings->bounce, dock_address(lent->data, lent->data_len), lent->data_len,
+                           dock_address(lent->scratch, lent->scratch_len), lent->scratch_len);
+}
+
+/* The same with the alignments of document 01's drive row 0 to 5. */
+static inline uint8_t dock_open_row(struct dock *dock, size_t row, uint64_t bounce, const struct dock_lent *lent)
+{
+    return dock_words_open_row(dock->settings, dock->blockers, dock->states, dock->vectors, row, bounce,
+                               dock_address(lent->data, lent->data_len), lent->data_len,
+                               dock_address(lent->scratch, lent->scratch_len), lent->scratch_len);
+}
+
+/* ---- Vectors ---- */
+
+/* Appends a segment: `length` bytes of the data from `start` on. A 17th is not kept, but the vector is one with too many from then on,
+ * and begin refuses it (202). */
+static inline void dock_vector_push(struct dock_vector *vector, uint64_t start, uint64_t length)
+{
+    uint64_t count = vector->words[0];
+    uint64_t room = UINT64_MAX - vector->words[1];
+    if (count >= DOCK_SEGMENTS) {
+        vector->words[0] = DOCK_SEGMENTS + 1;
+        return;
+    }
+    vector->words[0] = count + 1;
+    /* a sum past 2^64 - 1 stays there, far over the longest vector */
+    vector->words[1] += length < room ? length : room;
+    vector->words[2 + 2 * count] = start;
+    vector->words[3 + 2 * count] = length;
+}
+
+/* ---- Begin: refused with 201 to 207 ---- */
+
+static inline struct dock_begun dock_begun_of(struct dock_words_reply reply)
+{
+    struct dock_begun begun = { DOCK_BEGUN_REFUSED, 0, 0 };
+    if (reply.number == DOCK_WORDS_NO_NUMBER) {
+        begun.tag = DOCK_BEGUN_SLOT;
+        begun.slot = (size_t)reply.value[0];
+    } else if (reply.number == DOCK_DONE) {
+        begun.tag = DOCK_BEGUN_DONE;
+    } else {
+        begun.refusal = (uint8_t)reply.number;
+    }
+    return begun;
+}
+
+static inline struct dock_begun dock_begun_null(void)
+{
+    struct dock_begun begun = { DOCK_BEGUN_REFUSED, 0, DOCK_BUFFER };
+    return begun;
+}
+
+/* Begins a read at `offset` of the store into the vector's segments, filled one after the other. */
+static inline struct dock_begun dock_begin_read(struct dock *dock, uint64_t offset, const struct dock_vector *vector,
+                                                const struct dock_lent *lent)
+{
+    if (dock_lent_lacks(lent))
+        return dock_begun_null();
+    return dock_begun_of(dock_words_begin_read(dock->settings, dock->blockers, dock->states, dock->vectors, offset, vector->words,
+                                               dock_not_null(lent->data), lent->data_len, dock_not_null(lent->scratch),
+                                               lent->scratch_len));
+}
+
+/* Begins a write of the vector's bytes at `offset` of the store. */
+static inline struct dock_begun dock_begin_write(struct dock *dock, uint64_t offset, const struct dock_vector *vector,
+                                                 const struct dock_lent *lent)
+{
+    if (dock_lent_lacks(lent))
+        return dock_begun_null();
+    return dock_begun_of(dock_words_begin_write(dock->settings, dock->blockers, dock->states, dock->vectors, offset, vector->words,
+                                                dock_not_null(lent->data), lent->data_len, dock_not_null(lent->scratch),
+                                                lent->scratch_len));
+}
+
+/* Begins zeroes over `length` bytes at `offset`; `allocate` not 0 asks that the store keep them allocated. */
+static inline struct dock_begun dock_begin_zeroes(struct dock *dock, int allocate, uint64_t offset, uint64_t length,
+                                                  const struct dock_lent *lent)
+{
+    if (dock_lent_lacks(lent))
+        return dock_begun_null();
+    return dock_begun_of(dock_words_begin_zeroes(dock->settings, dock->blockers, dock->states, dock->vectors, allocate != 0, offset,
+                                                 length, dock_not_null(lent->data), lent->data_len, dock_not_null(lent->scratch),
+                                                 lent->scratch_len));
+}
+
+/* Begins a discard of the whole discard blocks within `length` bytes at `offset`. */
+static inline struct dock_begun dock_begin_discard(struct dock *dock, uint64_t offset, uint64_t length, const struct dock_lent *lent)
+{
+    if (dock_lent_lacks(lent))
+        return dock_begun_null();
+    return dock_begun_of(dock_words_begin_discard(dock->settings, dock->blockers, dock->states, dock->vectors, offset, length,
+                                                  dock_not_null(lent->data), lent->data_len, dock_not_null(lent->scratch),
+                                                  lent->scratch_len));
+}
+
+/* ---- A job in flight: refused with 205, 208; tell also 209 ---- */
+
+static inline struct dock_due dock_due_of(struct dock_words_reply reply)
+{
+    struct dock_due due = { DOCK_DUE_WAITING, { DOCK_READ, 0, 0, 0 }, 0, 0 };
+    if (reply.number == DOCK_BUFFER || reply.number == DOCK_SLOT) {
+        due.tag = DOCK_DUE_REFUSED;
+        due.refusal = (uint8_t)reply.number;
+    } else if (reply.number != DOCK_WORDS_NO_NUMBER) {
+        due.tag = DOCK_DUE_ANSWER;
+        due.answer = (uint8_t)reply.number;
+    } else if (reply.count != 0) {
+        due.tag = DOCK_DUE_REQUEST;
+        due.request.kind = (enum dock_kind)reply.value[0];
+        due.request.offset = reply.value[1];
+        due.request.length = reply.value[2];
+        due.request.pieces = (size_t)reply.value[3];
+    }
+    return due;
+}
+
+/* What the job in `slot` needs now. Changes nothing, and says the same until the next begin, tell or collect. */
+static inline struct dock_due dock_next(const struct dock *dock, size_t slot, const struct dock_lent *lent)
+{
+    struct dock_words_reply null = { DOCK_BUFFER, 0, { 0, 0, 0, 0 } };
+    if (dock_lent_lacks(lent))
+        return dock_due_of(null);
+    return dock_due_of(dock_words_next(dock->settings, dock->blockers, dock->states, dock->vectors, slot, lent->data_len,
+                                       lent->scratch_len));
+}
+
+/* Piece i of the request that is out for `slot`: where the store puts a read's bytes, or takes a write's. */
+static inline struct dock_part dock_piece(const struct dock *dock, size_t slot, size_t i, const struct dock_lent *lent)
+{
+    struct dock_part part = { NULL, 0, DOCK_BUFFER };
+    struct dock_words_reply reply;
+    if (dock_lent_lacks(lent))
+        return part;
+    reply = dock_words_piece(dock->settings, dock->blockers, dock->states, dock->vectors, slot, i, lent->data_len, lent->scratch_len);
+    if (reply.number != DOCK_WORDS_NO_NUMBER) {
+        part.refusal = (uint8_t)reply.number;
+        return part;
+    }
+    part.bytes = (reply.value[0] == 0 ? lent->data : lent->scratch) + reply.value[1];
+    part.length = (size_t)reply.value[2];
+    part.refusal = 0;
+    return part;
+}
+
+/* Hands in the code of the request that is out for `slot`. 0, 205, 208 or 209. */
+static inline uint8_t dock_tell(struct dock *dock, size_t slot, uint8_t code, const struct dock_lent *lent)
+{
+    if (dock_lent_lacks(lent))
+        return DOCK_BUFFER;
+    return dock_words_tell(dock->settings, dock->blockers, dock->states, dock->vectors, slot, code, dock_not_null(lent->data),
+                           lent->data_len, dock_not_null(lent->scratch), lent->scratch_len);
+}
+
+/* Takes the final answer (0, 1 to 199, 207) of the job in `slot`, which is free again; or refused: 205, 208. */
+static inline uint8_t dock_collect(struct dock *dock, size_t slot, const struct dock_lent *lent)
+{
+    if (dock_lent_lacks(lent))
+        return DOCK_BUFFER;
+    return dock_words_collect(dock->settings, dock->blockers, dock->states, dock->vectors, slot, lent->data_len, lent->scratch_len);
+}
+
+/* ---- The planner, by the dock's settings: refused with 201, 207, 210 ---- */
+
+/* In how many chunks a range of whole request blocks is written, each of the bounce buffer's length but the last. */
+static inline struct dock_chunk_count dock_chunks(const struct dock *dock, uint64_t offset, uint64_t length)
+{
+    struct dock_chunk_count chunks = { 0, 0 };
+    struct dock_words_reply reply = dock_words_chunks(dock->settings, offset, length);
+    if (reply.number != DOCK_WORDS_NO_NUMBER)
+        chunks.refusal = (uint8_t)reply.number;
+    else
+        chunks.count = reply.value[0];
+    return chunks;
+}
+
+/* Chunk i of them; from the count on, length 0 at the range's end. */
+static inline struct dock_chunk_range dock_chunk(const struct dock *dock, uint64_t offset, uint64_t length, uint64_t i)
+{
+    struct dock_chunk_range chunk = { 0, 0, 0 };
+    struct dock_words_reply reply = dock_words_chunk(dock->settings, offset, length, i);
+    if (reply.number != DOCK_WORDS_NO_NUMBER) {
+        chunk.refusal = (uint8_t)reply.number;
+        return chunk;
+    }
+    chunk.offset = reply.value[0];
+    chunk.length = reply.value[1];
+    return chunk;
+}
+
+#ifdef __cplusplus
+}
+#endif
+
+#endif

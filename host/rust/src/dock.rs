@@ -1,0 +1,226 @@
+//! The dock and its calls.
+
+use crate::answer::{Answer, Begun, Chunk, Due, Kind, Piece, Request};
+use crate::raw::{Lengths, Lent, Reply, Words, NO_NUMBER};
+use crate::refusal::Refusal;
+use crate::vector::Vector;
+use std::error::Error;
+use std::fmt;
+use std::ops::Range;
+
+/// How many jobs are in flight at most.
+pub const SLOTS: usize = 8;
+
+/// Alignments of the drive, powers of two from 1 to 65,536, and the length of one job's bounce buffer (document 01: share): a multiple
+/// of the greater of `mem` and `req` (L), at least 2 `zero` + 2 L, at most 1,048,576.
+#[derive(Clone, Copy, Debug, PartialEq, Eq)]
+pub struct Settings {
+    /// Of addresses of memory.
+    pub mem: u64,
+    /// Of offsets and lengths of reads and writes.
+    pub req: u64,
+    /// Of zero requests.
+    pub zero: u64,
+    /// Of discard requests.
+    pub discard: u64,
+    /// Length of one job's bounce buffer.
+    pub bounce: u64,
+}
+
+/// Why bytes of the data were not handed out to be changed.
+#[derive(Clone, Copy, Debug, PartialEq, Eq)]
+pub enum DataError {
+    /// The range does not lie in the data.
+    Outside,
+    /// A job in flight has a segment there: these bytes stay as they are until it is collected.
+    InFlight,
+}
+
+/// A dock over data and scratch, which it borrows for as long as it is used.
+pub struct Dock<'buf> {
+    words: Words,
+    data: &'buf mut [u8],
+    scratch: &'buf mut [u8],
+    /// The vectors of the jobs in flight, by slot; empty for jobs without one.
+    in_flight: [Option<Vector>; SLOTS],
+}
+
+/// The part of a buffer that starts at the first multiple of `align` in it; empty where there is none.
+pub fn aligned_part(buffer: &mut [u8], align: usize) -> &mut [u8] {
+    let past = (buffer.as_ptr() as usize).checked_rem(align).unwrap_or(0);
+    let skip = if past == 0 { 0 } else { align - past };
+    buffer.get_mut(skip..).unwrap_or_default()
+}
+
+/// A number without values: 0, or the refusal's.
+fn done(number: u8) -> Result<(), Refusal> {
+    match number {
+        0 => Ok(()),
+        refused => Err(Refusal::answered(refused.into())),
+    }
+}
+
+/// A reply that has values, or the refusal's number.
+fn valued(reply: Reply) -> Result<[u64; 4], Refusal> {
+    match reply.number {
+        NO_NUMBER => Ok(reply.value),
+        refused => Err(Refusal::answered(refused)),
+    }
+}
+
+/// Opening, beginning, stepping and collecting jobs.
+impl<'buf> Dock<'buf> {
+    /// Opens a dock with no job in flight. Scratch has at least 8 bounce buffers and starts at a multiple of `mem` ([`aligned_part`]).
+    /// [`Refusal::Unfit`], [`Refusal::Buffer`].
+    pub fn open(settings: &Settings, data: &'buf mut [u8], scratch: &'buf mut [u8]) -> Result<Dock<'buf>, Refusal> {
+        let (words, number) = Words::open(settings, data, scratch);
+        done(number).map(|()| Dock { words, data, scratch, in_flight: [None; SLOTS] })
+    }
+
+    /// The same with the alignments of document 01's drive row 0 to 5.
+    pub fn open_row(
+        row: usize,
+        bounce: u64,
+        data: &'buf mut [u8],
+        scratch: &'buf mut [u8],
+    ) -> Result<Dock<'buf>, Refusal> {
+        let (words, number) = Words::open_row(row, bounce, data, scratch);
+        done(number).map(|()| Dock { words, data, scratch, in_flight: [None; SLOTS] })
+    }
+
+    /// Begins a read at `offset` of the store into the vector's segments.
+    pub fn begin_read(&mut self, offset: u64, vector: &Vector) -> Result<Begun, Refusal> {
+        let lent = Lent { data: self.data, scratch: self.scratch };
+        let reply = self.words.begin_read(offset, vector.words(), lent);
+        self.begun(reply, vector)
+    }
+
+    /// Begins a write of the vector's bytes at `offset` of the store.
+    pub fn begin_write(&mut self, offset: u64, vector: &Vector) -> Result<Begun, Refusal> {
+        let lent = Lent { data: self.data, scratch: self.scratch };
+        let reply = self.words.begin_write(offset, vector.words(), lent);
+        self.begun(reply, vector)
+    }
+
+    /// Begins zeroes over `length` bytes at `offset`, which the store is to keep allocated if `allocate`.
+    pub fn begin_zeroes(&mut self, allocate: bool, offset: u64, length: u64) -> Result<Begun, Refusal> {
+        let lent = Lent { data: self.data, scratch: self.scratch };
+        let reply = self.words.begin_zeroes(allocate, offset, length, lent);
+        self.begun(reply, &Vector::new())
+    }
+
+    /// Begins a discard of the whole discard blocks within `length` bytes at `offset`.
+    pub fn begin_discard(&mut self, offset: u64, length: u64) -> Result<Begun, Refusal> {
+        let lent = Lent { data: self.data, scratch: self.scratch };
+        let reply = self.words.begin_discard(offset, length, lent);
+        self.begun(reply, &Vector::new())
+    }
+
+    /// What a begin comes to; its vector's bytes are in flight from now on.
+    fn begun(&mut self, reply: Reply, vector: &Vector) -> Result<Begun, Refusal> {
+        if reply.number == 0 {
+            return Ok(Begun::Done);
+        }
+        let slot = valued(reply)?[0] as usize;
+        self.in_flight[slot] = Some(*vector);
+        Ok(Begun::Slot(slot))
+    }
+
+    /// What the job in `slot` needs now. Says the same until the next begin, tell or collect. [`Refusal::Slot`].
+    pub fn next(&self, slot: usize) -> Result<Due, Refusal> {
+        let reply = self.words.next(slot, self.lengths());
+        if let Some(answer) = Answer::of(reply.number) {
+            return Ok(Due::Answer(answer));
+        }
+        let [kind, offset, length, pieces] = valued(reply)?;
+        if reply.count == 0 {
+            return Ok(Due::Waiting);
+        }
+        Ok(Due::Make(Request { kind: Kind::answered(kind), offset, length, pieces: pieces as usize }))
+    }
+
+    /// Piece `i` of the request that is out for `slot`, lent until the next call. [`Refusal::Slot`] where there is none.
+    pub fn piece(&mut self, slot: usize, i: usize) -> Result<Piece<'_>, Refusal> {
+        let [buffer, start, length, _] = valued(self.words.piece(slot, i, self.lengths()))?;
+        let reads = matches!(self.next(slot)?, Due::Make(Request { kind: Kind::Read, .. }));
+        let bytes = if buffer == 0 { &mut *self.data } else { &mut *self.scratch };
+        let part = &mut bytes[start as usize..][..length as usize];
+        Ok(if reads { Piece::Fill(part) } else { Piece::Take(part) })
+    }
+
+    /// Hands in the store's code for the request that is out: 0 done, 1 unsupported, 2 to 199 failed.
+    /// [`Refusal::Slot`], [`Refusal::NoAnswer`].
+    pub fn tell(&mut self, slot: usize, code: u8) -> Result<(), Refusal> {
+        done(self.words.tell(slot, code, self.data, self.scratch))
+    }
+
+    /// Takes the final answer; the slot is free again, and the job's bytes of the data are the caller's. [`Refusal::Slot`].
+    pub fn collect(&mut self, slot: usize) -> Result<Answer, Refusal> {
+        let number = self.words.collect(slot, self.lengths());
+        let answer = Answer::of(number.into()).ok_or_else(|| Refusal::answered(number.into()))?;
+        self.in_flight[slot] = None;
+        Ok(answer)
+    }
+}
+
+/// The planner, by the dock's settings: [`Refusal::Unaligned`], [`Refusal::Overflow`].
+impl Dock<'_> {
+    /// In how many chunks a range of whole request blocks is written, each of the bounce buffer's length but the last.
+    pub fn chunks(&self, offset: u64, length: u64) -> Result<u64, Refusal> {
+        valued(self.words.chunks(offset, length)).map(|[count, ..]| count)
+    }
+
+    /// Chunk `i` of them; from the count on, length 0 at the range's end.
+    pub fn chunk(&self, offset: u64, length: u64, i: u64) -> Result<Chunk, Refusal> {
+        valued(self.words.chunk(offset, length, i)).map(|[offset, length, ..]| Chunk { offset, length })
+    }
+}
+
+/// The data.
+impl<'buf> Dock<'buf> {
+    /// All data. The bytes of a read are there once it is answered 0.
+    pub fn data(&self) -> &[u8] {
+        self.data
+    }
+
+    /// A range of the data to be changed: none that has bytes of a job in flight.
+    pub fn data_mut(&mut self, range: Range<usize>) -> Result<&mut [u8], DataError> {
+        if range.start > range.end || range.end > self.data.len() {
+            return Err(DataError::Outside);
+        }
+        if self.in_flight.iter().flatten().any(|vector| vector.meets(&range)) {
+            return Err(DataError::InFlight);
+        }
+        Ok(&mut self.data[range])
+    }
+
+    /// Puts `bytes` into the data from `start` on, where no job in flight has a segment.
+    pub fn write_data(&mut self, start: usize, bytes: &[u8]) -> Result<(), DataError> {
+        let end = start.checked_add(bytes.len()).ok_or(DataError::Outside)?;
+        self.data_mut(start..end)?.copy_from_slice(bytes);
+        Ok(())
+    }
+
+    /// Gives data and scratch back, and the dock up with the jobs in flight.
+    pub fn into_buffers(self) -> (&'buf mut [u8], &'buf mut [u8]) {
+        (self.data, self.scratch)
+    }
+
+    fn lengths(&self) -> Lengths {
+        Lengths { data: self.data.len(), scratch: self.scratch.len() }
+    }
+}
+
+impl fmt::Display for DataError {
+    fn fmt(&self, f: &mut fmt::Formatter<'_>) -> fmt::Result {
+        f.write_str(match self {
+            DataError::Outside => "the range does not lie in the data",
+            DataError::InFlight => "a job in flight has a segment there",
+        })
+    }
+}
+
+impl Error for DataError {}
+
+#[cfg(test)]
+mod tests;

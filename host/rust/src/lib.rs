@@ -1,0 +1,52 @@
+//! The dock: byte ranges over an aligned drive.
+//!
+//! A job (read, write, zeroes, discard) is begun over any byte range of the store. [`Dock::next`] says which aligned request the store
+//! must carry out for it, [`Dock::piece`] hands out that request's bytes, [`Dock::tell`] hands in the store's code, [`Dock::collect`]
+//! takes the final answer. The dock does no input or output itself. "Document 01" is the agreed scope; it says what is right.
+//!
+//! The calls are those of the proved library `libwords.a`. What its proof asks of a caller, this crate keeps by types:
+//!
+//! - Data and scratch are borrowed by the dock, so they stay where they are and do not overlap.
+//! - Scratch is nobody's but the dock's.
+//! - Bytes of the data that a job in flight reads into or writes from change only by the dock and by the store: others are changed
+//!   through [`Dock::data_mut`] and [`Dock::write_data`], which refuse those.
+//! - A piece is lent until the next call on the dock, to be filled for a read, to be looked at for a write.
+//!
+//! What types do not keep is the store's side: it carries out each request once, fills all pieces of a read that it answers with 0, and
+//! tells the code of what it did. A store that does not breaks no memory, but then the bytes are not what document 01 promises.
+//!
+//! A piece cannot be kept past the next call:
+//!
+//! ```compile_fail,E0499
+//! fn late(dock: &mut pitch_dock::Dock) {
+//!     let piece = dock.piece(0, 0);
+//!     let _ = dock.tell(0, 0);
+//!     drop(piece);
+//! }
+//! ```
+//!
+//! Nor can the data be changed behind the dock:
+//!
+//! ```compile_fail,E0506
+//! use pitch_dock::Dock;
+//! fn behind(data: &mut [u8], scratch: &mut [u8]) {
+//!     let mut dock = Dock::open_row(1, 4096, data, scratch).unwrap();
+//!     data[0] = 1;
+//!     let _ = dock.tell(0, 0);
+//! }
+//! ```
+
+#![deny(unsafe_code)]
+#![warn(missing_docs)]
+
+mod answer;
+mod dock;
+#[allow(unsafe_code)]
+mod raw;
+mod refusal;
+mod vector;
+
+pub use answer::{Answer, Begun, Chunk, Due, Kind, Piece, Request};
+pub use dock::{aligned_part, DataError, Dock, Settings, SLOTS};
+pub use refusal::Refusal;
+pub use vector::{Vector, LONGEST_VECTOR, SEGMENTS};
