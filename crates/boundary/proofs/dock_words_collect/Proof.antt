@@ -1,0 +1,18 @@
+-- `boundary::dock_words_collect` meets its contract: the number of what collect answers. Assumes nothing.
+use mathlib.Core.Path.{ap, _∙_}
+use Rattle.boundary.specs.Replies.{collectedNumber}
+use borrow.Author.Needs.{needs}
+use Rattle.boundary.proofs.dock_words_collect.Statement.{statement}
+use Rattle.boundary.proofs.dock_words_collect.Tie as tie
+
+collect-requires : tie.Need-collect-requires
+collect-requires c κs = search needs
+
+collected-number-requires : tie.Need-collected-number-requires
+collected-number-requires c κs = search needs
+
+returns : tie.Need-returns
+returns c = (c .collected-number .ensures ∙ ap collectedNumber (c .before .collect .ensures .0), c .before .collect .ensures .1)
+
+pub dock-words-collect-spec : {M : Type 1} → statement M
+dock-words-collect-spec = tie.close (tie.spec collect-requires collected-number-requires returns)

@@ -1,0 +1,49 @@
+-- Document 01's number and values of an answer, as they cross the boundary: in one struct of words.
+use mathlib.Core.List.{List, [], _∷_}
+use Prim.Native.Nat.{ℕ}
+use lib.ListN.{length, getD}
+use Rattle.arithmetic.specs.Refusals.{numberOf}
+use Rattle.arithmetic.specs.declared.planner.Count.{Count}
+use Rattle.arithmetic.specs.declared.planner.Count.the-variants.{Chunks, Refused as NotCounted}
+use Rattle.arithmetic.specs.declared.planner.Planned.{Planned}
+use Rattle.arithmetic.specs.declared.planner.Planned.the-variants.{Chunk, Refused as NotPlanned}
+use Rattle.stages.specs.Stages.{sizeOf}
+use Rattle.dock.specs.Numbers.{Paper, numbered, valued, collectedPaper}
+use Rattle.dock.specs.declared.tell.Collected.{Collected}
+use Rattle.dock.specs.declared.numbers.Number.{Number}
+use Rattle.dock.specs.declared.numbers.Number.the-variants.{Of, None}
+use Rattle.boundary.specs.declared.replies.Reply.{Reply}
+
+-- no number of the paper's is 256
+abbrev pub numberWord : Number → ℕ
+numberWord (Of n) = n
+numberWord None = 256
+
+-- how many values there are, then the values, 0 past the last: no answer has more than four
+abbrev pub replyOf : Paper → Reply
+replyOf a =
+    record {
+      number = numberWord (a .number);
+      count = length (a .values);
+      first = getD (a .values) 0 0;
+      second = getD (a .values) 1 0;
+      third = getD (a .values) 2 0;
+      fourth = getD (a .values) 3 0;
+    }
+
+-- a number, and no values
+abbrev pub numbers : ℕ → Reply
+numbers n = record { number = n; count = 0; first = 0; second = 0; third = 0; fourth = 0 }
+
+-- the planner: "count of chunks, and chunk i", which is its offset and its length
+abbrev pub countPaper : Count → Paper
+countPaper (Chunks n) = valued (n ∷ [])
+countPaper (NotCounted r) = numbered (numberOf r)
+
+abbrev pub plannedPaper : Planned → Paper
+plannedPaper (Chunk c) = valued (c .start .0 ∷ sizeOf c ∷ [])
+plannedPaper (NotPlanned r) = numbered (numberOf r)
+
+-- collect: the number that `collectedPaper` gives
+abbrev pub collectedNumber : Collected → ℕ
+collectedNumber c = numberWord (collectedPaper c .number)
