@@ -1,5 +1,5 @@
 /*
- * The dock: byte ranges over an aligned drive, for C99 and C++. Link with libwords.a (`rt staticlib words`).
+ * The dock: byte ranges over an aligned drive, for C99 and C++. Link with libboundary.a (`rt staticlib boundary`).
  *
  * A job is begun (read, write, zeroes, discard) over any byte range of the store. dock_next says which aligned request the store
  * must carry out for it, dock_piece where that request's bytes lie, dock_tell hands in the store's code, dock_collect takes the final
@@ -166,7 +166,7 @@ struct dock_chunk_range {
     uint8_t refusal;
 };
 
-/* ---- The raw calls of libwords.a; use the wrappers below ---- */
+/* ---- The raw calls of libboundary.a; use the wrappers below ---- */
 
 enum dock_words_limit { DOCK_WORDS_NO_NUMBER = 256 };
 

@@ -4,7 +4,7 @@
 //! must carry out for it, [`Dock::piece`] hands out that request's bytes, [`Dock::tell`] hands in the store's code, [`Dock::collect`]
 //! takes the final answer. The dock does no input or output itself. "Document 01" is the agreed scope; it says what is right.
 //!
-//! The calls are those of the proved library `libwords.a`. What its proof asks of a caller, this crate keeps by types:
+//! The calls are those of the proved library `libboundary.a`. What its proof asks of a caller, this crate keeps by types:
 //!
 //! - Data and scratch are borrowed by the dock, so they stay where they are and do not overlap.
 //! - Scratch is nobody's but the dock's.

@@ -1,4 +1,4 @@
-//! The calls of `libwords.a`, as it has them, behind functions that are safe to call. All that is unsafe in this crate is here.
+//! The calls of `libboundary.a`, as it has them, behind functions that are safe to call. All that is unsafe in this crate is here.
 //!
 //! The library is proved to return for any words, and to touch nothing outside its arrays and the lent bytes. What its calls ask for in
 //! turn is the same for all, and a reference or a slice has it: pointers that are not null and aligned (an empty slice's too), to as many
