@@ -67,7 +67,7 @@ fn answers(left: &Observed, right: &Observed) -> Option<String> {
 /// Feeds the list to both sides, which hold `content`, up to the first difference. A list that goes where imago and
 /// document 01 depart is compared up to there.
 pub fn compare<A: Side, B: Side>(events: &[Event], left: A, right: B, content: &Content) -> Option<Difference> {
-    let plain = [Plain::new(content.store.clone()), Plain::new(content.store.clone())];
+    let plain = [Plain::new(content), Plain::new(content)];
     let mut pair = Pair { left: Session::new(left), right: Session::new(right), plain };
     let mut flight = Flight::default();
     for (at, event) in events.iter().enumerate() {

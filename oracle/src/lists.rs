@@ -1,7 +1,7 @@
 //! Random lists of events: ranges that collide, offsets near 2^64, codes of every kind, and noise.
 
 use crate::departures;
-use crate::document;
+use crate::document::{self, VectorTest};
 use crate::event::{Event, REPLAY_DATA, REPLAY_STORE};
 use crate::flight::Flight;
 use crate::imago_side::ImagoSide;
@@ -26,7 +26,9 @@ pub const MEMORY: World = World { data: 8192, low: 16_384, high: 8192, scripts: 
 impl World {
     /// What a list starts with: zeroes as in `replay`, otherwise bytes that differ from one offset to the next.
     pub fn content(&self) -> Content {
-        let mut content = Content { store: Store::new(self.low, self.high), data: vec![0; self.data as usize] };
+        let test = if self.scripts { VectorTest::Built } else { VectorTest::Begun };
+        let (store, data) = (Store::new(self.low, self.high), vec![0; self.data as usize]);
+        let mut content = Content { store, data, test };
         if !self.scripts {
             content.store.each(0, u64::MAX, |o, byte| *byte = mixed(o));
             content.data.iter_mut().enumerate().for_each(|(i, byte)| *byte = mixed(!(i as u64)));

@@ -4,6 +4,7 @@
 //! offset o on the store: bit o mod 64 says whether the byte of a failed write or zero request is new, byte o mod 8 what a byte
 //! is where it may be anything.
 
+use crate::document::VectorTest;
 use crate::side::Act;
 
 #[derive(Clone, Debug, PartialEq, Eq)]
@@ -13,11 +14,12 @@ pub struct Store {
     high: Vec<u8>,
 }
 
-/// What the store and the data hold before a list.
+/// What the store and the data hold before a list, and when its vectors are refused.
 #[derive(Clone)]
 pub struct Content {
     pub store: Store,
     pub data: Vec<u8>,
+    pub test: VectorTest,
 }
 
 /// Whether a choice makes the byte at offset o new.
