@@ -6,6 +6,7 @@
 
 use crate::document::VectorTest;
 use crate::side::Act;
+use std::ops::Range;
 
 #[derive(Clone, Debug, PartialEq, Eq)]
 pub struct Store {
@@ -32,6 +33,13 @@ fn chosen(choice: u64, o: u64) -> u8 {
     (choice >> (o % 8 * 8)) as u8
 }
 
+/// Where a range meets a window of `len` bytes from `start` on: the first offset that they share, and the window's part.
+fn meet(at: u64, length: u64, start: u64, len: usize) -> Option<(u64, Range<usize>)> {
+    let from = at.max(start);
+    let end = (at as u128 + length as u128).min(start as u128 + len as u128);
+    ((from as u128) < end).then(|| (from, (from - start) as usize..(end - start as u128) as usize))
+}
+
 impl Act {
     /// Where a write or a zero request makes bytes new: all with code 0, those of the choice with another.
     pub fn makes_new(&self, o: u64) -> bool {
@@ -53,20 +61,19 @@ impl Store {
         (u64::MAX - self.high.len() as u64).wrapping_add(1)
     }
 
-    /// Each byte of the range that lies in a window, with its offset.
-    pub fn each(&mut self, at: u64, length: u64, mut f: impl FnMut(u64, &mut u8)) {
-        let end = at as u128 + length as u128;
+    /// The runs of the range that lie in a window, each with the offset of its first byte.
+    fn runs(&mut self, at: u64, length: u64, mut f: impl FnMut(u64, &mut [u8])) {
         let high_start = self.high_start();
         for (start, window) in [(0, &mut self.low), (high_start, &mut self.high)] {
-            let from = at.max(start);
-            let to = end.min(start as u128 + window.len() as u128);
-            if (from as u128) < to {
-                let part = (from - start) as usize..(to - start as u128) as usize;
-                for (i, byte) in window[part].iter_mut().enumerate() {
-                    f(from + i as u64, byte);
-                }
+            if let Some((from, part)) = meet(at, length, start, window.len()) {
+                f(from, &mut window[part]);
             }
         }
+    }
+
+    /// Each byte of the range that lies in a window, with its offset.
+    pub fn each(&mut self, at: u64, length: u64, mut f: impl FnMut(u64, &mut u8)) {
+        self.runs(at, length, |from, run| run.iter_mut().enumerate().for_each(|(i, byte)| f(from + i as u64, byte)));
     }
 
     pub fn byte(&self, o: u64) -> u8 {
@@ -81,13 +88,26 @@ impl Store {
 
     /// What a read leaves in its piece, whose bytes lie from `at` on.
     pub fn read(&self, at: u64, act: Act, piece: &mut [u8]) {
-        for (i, byte) in piece.iter_mut().enumerate() {
-            let o = at + i as u64;
-            *byte = if act.code == 0 { self.byte(o) } else { chosen(act.choice.unwrap_or(0), o) };
+        if act.code != 0 {
+            let choice = act.choice.unwrap_or(0);
+            return piece.iter_mut().enumerate().for_each(|(i, byte)| *byte = chosen(choice, at + i as u64));
+        }
+        piece.fill(0);
+        for (start, window) in [(0, &self.low), (self.high_start(), &self.high)] {
+            if let Some((from, part)) = meet(at, piece.len() as u64, start, window.len()) {
+                let to = (from - at) as usize;
+                piece[to..to + part.len()].copy_from_slice(&window[part]);
+            }
         }
     }
 
     pub fn write(&mut self, at: u64, act: Act, piece: &[u8]) {
+        if act.code == 0 {
+            return self.runs(at, piece.len() as u64, |from, run| {
+                let first = (from - at) as usize;
+                run.copy_from_slice(&piece[first..first + run.len()]);
+            });
+        }
         self.each(at, piece.len() as u64, |o, byte| {
             if act.makes_new(o) {
                 *byte = piece[(o - at) as usize];
@@ -96,6 +116,9 @@ impl Store {
     }
 
     pub fn zero(&mut self, at: u64, length: u64, act: Act) {
+        if act.code == 0 {
+            return self.fill(at, length, 0);
+        }
         self.each(at, length, |o, byte| {
             if act.makes_new(o) {
                 *byte = 0;
@@ -108,7 +131,7 @@ impl Store {
     }
 
     pub fn fill(&mut self, at: u64, length: u64, value: u8) {
-        self.each(at, length, |_, byte| *byte = value);
+        self.runs(at, length, |_, run| run.fill(value));
     }
 
     /// The lower window.
