@@ -32,7 +32,15 @@ impl<A: Side, B: Side> Pair<A, B> {
         let broken = answers(&left, &right)
             .or_else(|| self.bytes())
             .or_else(|| named(self.plain.feed(event, &right, &self.right.side)));
+        self.settle();
         (left, broken)
+    }
+
+    /// The three stores were found the same.
+    fn settle(&mut self) {
+        self.left.side.store_mut().settle();
+        self.right.side.store_mut().settle();
+        self.plain.settle();
     }
 
     fn bytes(&self) -> Option<String> {

@@ -31,6 +31,7 @@ impl World {
         let mut content = Content { store, data, test };
         if !self.scripts {
             content.store.each(0, u64::MAX, |o, byte| *byte = mixed(o));
+            content.store.settle();
             content.data.iter_mut().enumerate().for_each(|(i, byte)| *byte = mixed(!(i as u64)));
         }
         content

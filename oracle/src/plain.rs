@@ -169,6 +169,11 @@ impl Plain {
         })
     }
 
+    /// As `Store::settle`.
+    pub fn settle(&mut self) {
+        self.store.settle();
+    }
+
     fn stores(&self, store: &Store) -> Option<String> {
         let at = self.store.difference(store)?;
         Some(format!("store offset {at}: {} in the plain byte store, {}", self.store.byte(at), store.byte(at)))

@@ -3,16 +3,21 @@
 //! Writes outside the two windows are dropped. What a code leaves open is chosen by the carry's choice, for each byte by its
 //! offset o on the store: bit o mod 64 says whether the byte of a failed write or zero request is new, byte o mod 8 what a byte
 //! is where it may be anything.
+//!
+//! A store knows where it was changed since it was last settled. Its bytes change by its own functions only, so two stores that were
+//! the same when settled are the same where neither was changed, and only the rest is compared.
 
 use crate::document::VectorTest;
 use crate::side::Act;
 use std::ops::Range;
 
-#[derive(Clone, Debug, PartialEq, Eq)]
+#[derive(Clone, Debug)]
 pub struct Store {
     low: Vec<u8>,
     /// The window that ends at 2^64.
     high: Vec<u8>,
+    /// Of each window a run that has every byte changed since the store was settled.
+    changed: [Range<usize>; 2],
 }
 
 /// What the store and the data hold before a list, and when its vectors are refused.
@@ -40,6 +45,28 @@ fn meet(at: u64, length: u64, start: u64, len: usize) -> Option<(u64, Range<usiz
     ((from as u128) < end).then(|| (from, (from - start) as usize..(end - start as u128) as usize))
 }
 
+fn high_start(high: &[u8]) -> u64 {
+    (u64::MAX - high.len() as u64).wrapping_add(1)
+}
+
+/// The least run that has both.
+fn hull(a: &Range<usize>, b: &Range<usize>) -> Range<usize> {
+    match (a.is_empty(), b.is_empty()) {
+        (true, _) => b.clone(),
+        (_, true) => a.clone(),
+        _ => a.start.min(b.start)..a.end.max(b.end),
+    }
+}
+
+/// Where in the run two windows first differ.
+fn unlike(a: &[u8], b: &[u8], run: &Range<usize>) -> Option<u64> {
+    let (a, b) = (&a[run.clone()], &b[run.clone()]);
+    if a == b {
+        return None;
+    }
+    a.iter().zip(b).position(|(x, y)| x != y).map(|i| (run.start + i) as u64)
+}
+
 impl Act {
     /// Where a write or a zero request makes bytes new: all with code 0, those of the choice with another.
     pub fn makes_new(&self, o: u64) -> bool {
@@ -54,21 +81,27 @@ impl Act {
 
 impl Store {
     pub fn new(low: usize, high: usize) -> Self {
-        Store { low: vec![0; low], high: vec![0; high] }
+        Store { low: vec![0; low], high: vec![0; high], changed: [0..0, 0..0] }
     }
 
     fn high_start(&self) -> u64 {
-        (u64::MAX - self.high.len() as u64).wrapping_add(1)
+        high_start(&self.high)
     }
 
     /// The runs of the range that lie in a window, each with the offset of its first byte.
     fn runs(&mut self, at: u64, length: u64, mut f: impl FnMut(u64, &mut [u8])) {
-        let high_start = self.high_start();
-        for (start, window) in [(0, &mut self.low), (high_start, &mut self.high)] {
+        let windows = [(0, &mut self.low), (high_start(&self.high), &mut self.high)];
+        for ((start, window), changed) in windows.into_iter().zip(&mut self.changed) {
             if let Some((from, part)) = meet(at, length, start, window.len()) {
+                *changed = hull(changed, &part);
                 f(from, &mut window[part]);
             }
         }
+    }
+
+    /// From now on changes are told from here.
+    pub fn settle(&mut self) {
+        self.changed = [0..0, 0..0];
     }
 
     /// Each byte of the range that lies in a window, with its offset.
@@ -139,12 +172,10 @@ impl Store {
         &self.low
     }
 
-    /// The first offset at which two stores of the same windows differ.
+    /// The first offset at which two stores differ that were the same when settled.
     pub fn difference(&self, other: &Store) -> Option<u64> {
-        if self == other {
-            return None;
-        }
-        let unlike = |a: &[u8], b: &[u8]| a.iter().zip(b).position(|(x, y)| x != y).map(|i| i as u64);
-        unlike(&self.low, &other.low).or_else(|| unlike(&self.high, &other.high).map(|i| self.high_start() + i))
+        let changed = [0, 1].map(|w| hull(&self.changed[w], &other.changed[w]));
+        let low = unlike(&self.low, &other.low, &changed[0]);
+        low.or_else(|| unlike(&self.high, &other.high, &changed[1]).map(|i| self.high_start() + i))
     }
 }
