@@ -18,7 +18,7 @@ pub const UNALIGNED: u8 = 210;
 /// The first code that is no answer of the store.
 pub const FIRST_NO_ANSWER: u8 = 200;
 pub const LONGEST_BOUNCE: u64 = 1_048_576;
-const LONGEST_VECTOR: u64 = 1_048_576;
+pub const LONGEST_VECTOR: u64 = 1_048_576;
 const MOST_SEGMENTS: usize = 16;
 const LARGEST_ALIGNMENT: u64 = 65_536;
 
