@@ -31,6 +31,8 @@ impl<A: Side, B: Side> Pair<A, B> {
         let right = self.right.perform(event);
         let broken = answers(&left, &right)
             .or_else(|| self.bytes())
+            .or_else(|| self.left.side.fault())
+            .or_else(|| self.right.side.fault())
             .or_else(|| named(self.plain.feed(event, &right, &self.right.side)));
         self.settle();
         (left, broken)

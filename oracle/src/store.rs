@@ -50,7 +50,7 @@ fn high_start(high: &[u8]) -> u64 {
 }
 
 /// The least run that has both.
-fn hull(a: &Range<usize>, b: &Range<usize>) -> Range<usize> {
+pub fn hull(a: &Range<usize>, b: &Range<usize>) -> Range<usize> {
     match (a.is_empty(), b.is_empty()) {
         (true, _) => b.clone(),
         (_, true) => a.clone(),

@@ -1,0 +1,61 @@
+//! The dock behind its C boundary: a run finds no difference from imago, and every planted fault. Empty without the static library.
+#![cfg(dock)]
+
+use oracle::dock_side::{DockPlanner, DockSide};
+use oracle::document::LONGEST_BOUNCE;
+use oracle::document_parts::DocumentVectors;
+use oracle::document_side::NotedBlockers;
+use oracle::imago_parts::{ImagoBlockers, ImagoPlanner, ImagoVectors};
+use oracle::imago_side::ImagoSide;
+use oracle::lists::{Worlds, MEMORY};
+use oracle::parts::Found;
+use oracle::plant::{Planted, FAULTS};
+use oracle::runner::{run_lists, run_parts, vector_data, Run};
+use oracle::side::{Opening, Planner};
+use oracle::store::Content;
+
+const RUN: Run = Run::of(400, 11);
+
+#[test]
+fn the_dock_agrees() {
+    let (_, found) = run_lists(RUN, MEMORY, ImagoSide::new, DockSide::new);
+    assert!(found.is_none(), "{:?}", found.map(|f| f.difference));
+}
+
+#[test]
+fn the_dock_agrees_at_the_share_for_comparison() {
+    let (_, found) = run_lists(RUN, Worlds::at(LONGEST_BOUNCE), ImagoSide::new, DockSide::new);
+    assert!(found.is_none(), "{:?}", found.map(|f| f.difference));
+}
+
+#[test]
+fn every_fault_over_the_dock_is_seen() {
+    for (name, fault) in FAULTS {
+        let planted = |content: &Content| Planted::new(DockSide::new(content), Some(fault));
+        let (_, found) = run_lists(RUN, Worlds::at(LONGEST_BOUNCE), ImagoSide::new, planted);
+        assert!(found.is_some(), "{name} is not seen");
+    }
+}
+
+fn plans(planner: &mut impl Planner) -> Found {
+    let vectors = (&mut ImagoVectors::new(&vector_data()), &mut DocumentVectors::new(&vector_data()));
+    let blockers = (ImagoBlockers::default, NotedBlockers::default);
+    run_parts(Run::of(2000, 11), blockers, vectors, (&mut ImagoPlanner, planner)).1
+}
+
+/// The dock's planner with its last chunk left out.
+struct OneChunkLess;
+
+impl Planner for OneChunkLess {
+    fn chunks(&mut self, opening: &Opening, offset: u64, length: u64) -> Result<Vec<(u64, u64)>, u8> {
+        let mut chunks = DockPlanner.chunks(opening, offset, length)?;
+        chunks.pop();
+        Ok(chunks)
+    }
+}
+
+#[test]
+fn the_planner_agrees_and_its_fault_is_seen() {
+    assert_eq!(plans(&mut DockPlanner), None);
+    assert!(plans(&mut OneChunkLess).is_some());
+}
