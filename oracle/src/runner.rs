@@ -64,7 +64,7 @@ struct Shared {
     next: AtomicU64,
     progress: Mutex<Progress>,
     /// The lowest list found that differs.
-    found: Mutex<Option<(u64, Vec<Event>)>>,
+    found: Mutex<Option<(u64, Found)>>,
 }
 
 impl Shared {
@@ -73,7 +73,7 @@ impl Shared {
     }
 
     /// Lists until none is left or one differs.
-    fn work(&self, make: impl Fn(u64) -> Vec<Event>, differs: impl Fn(u64, &[Event]) -> bool) {
+    fn work(&self, make: impl Fn(u64) -> Vec<Event>, differs: impl Fn(u64, &[Event]) -> Option<Difference>) {
         while held(&self.found).is_none() {
             let list = self.next.fetch_add(1, Ordering::Relaxed);
             if list >= self.run.from + self.run.lists {
@@ -82,23 +82,32 @@ impl Shared {
             let _named = Named { seed: self.run.seed, list };
             let events = make(list);
             held(&self.progress).list(events.len());
-            if differs(list, &events) {
-                self.note(list, events);
+            if let Some(difference) = differs(list, &events) {
+                self.note(list, Found { list: events, difference });
             }
         }
     }
 
-    fn note(&self, list: u64, events: Vec<Event>) {
+    fn note(&self, list: u64, what: Found) {
         held(&self.progress).difference();
         let mut found = held(&self.found);
         if found.as_ref().is_none_or(|(lowest, _)| list < *lowest) {
-            *found = Some((list, events));
+            *found = Some((list, what));
         }
     }
 }
 
 fn held<T>(lock: &Mutex<T>) -> MutexGuard<'_, T> {
     lock.lock().expect("no holder panics")
+}
+
+/// The smallest list found; the list itself where it differs only now and then, as where a side does not watch every call.
+fn smallest(found: Found, differs: impl Fn(&[Event]) -> Option<Difference>) -> Found {
+    let list = shrink(&found.list, |tried| differs(tried).is_some());
+    match differs(&list) {
+        Some(difference) => Found { list, difference },
+        None => found,
+    }
 }
 
 /// Compares the two sides, made anew for every list with the same content, up to the first difference.
@@ -119,14 +128,12 @@ pub fn run_lists<A: Side, B: Side>(
     let shared = Shared::new(run);
     thread::scope(|scope| {
         for _ in 0..run.threads {
-            scope.spawn(|| shared.work(make, |list, events| differs(list, events).is_some()));
+            scope.spawn(|| shared.work(make, differs));
         }
     });
-    let found = shared.found.into_inner().expect("no holder panics").map(|(number, events)| {
+    let found = shared.found.into_inner().expect("no holder panics").map(|(number, found)| {
         println!("list {number} of seed {} differs", run.seed);
-        let list = shrink(&events, |tried| differs(number, tried).is_some());
-        let difference = differs(number, &list).expect("the smallest list differs");
-        Found { list, difference }
+        smallest(found, |tried| differs(number, tried))
     });
     (shared.progress.into_inner().expect("no holder panics"), found)
 }
