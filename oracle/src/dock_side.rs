@@ -23,6 +23,21 @@ const NO_MEMORY: u64 = 1 << 63;
 /// Buffers of other lengths are lent beside one call in so many.
 const PROBE_EVERY: u64 = 16;
 
+/// Faults planted over the library's answers that only the watch can see.
+#[derive(Clone, Copy, Debug, PartialEq, Eq)]
+pub enum Slip {
+    /// A refused tell changes a word of the dock.
+    RefusalChanges,
+    /// Buffers of other lengths are taken.
+    AnyLength,
+    /// The piece after the last is the first again.
+    PieceTooMany,
+    /// A tell changes the last byte of the next slot's share.
+    NextShare,
+}
+
+pub const SLIPS: [Slip; 4] = [Slip::RefusalChanges, Slip::AnyLength, Slip::PieceTooMany, Slip::NextShare];
+
 pub struct DockSide {
     words: Words,
     data: Data,
@@ -32,6 +47,7 @@ pub struct DockSide {
     opened: u8,
     store: Store,
     calls: u64,
+    slip: Option<Slip>,
     /// What the side saw that the boundary does not allow.
     fault: RefCell<Option<String>>,
 }
@@ -90,10 +106,17 @@ impl DockSide {
             opened: 0,
             store: content.store.clone(),
             calls: 0,
+            slip: None,
             fault: RefCell::new(None),
         };
         let data = Lent { address: 0, length: content.data.len() as u64 };
         side.open(&Opening { data, ..CLOSED });
+        side
+    }
+
+    pub fn slipping(content: &Content, slip: Slip) -> Self {
+        let mut side = DockSide::new(content);
+        side.slip = Some(slip);
         side
     }
 
@@ -170,8 +193,16 @@ impl DockSide {
     }
 
     fn tell_with(&mut self, slot: usize, code: u8, lengths: Lengths) -> u8 {
+        let lengths = if self.slip == Some(Slip::AnyLength) { self.lengths() } else { lengths };
+        let next_share = self.share(slot.min(SLOTS) + 1);
         let scratch = self.scratch.as_mut().expect("it is there until the side is dropped").bytes_mut();
-        self.words.tell(slot, code, &mut self.data.bytes_mut()[..lengths.0], &mut scratch[..lengths.1])
+        let told = self.words.tell(slot, code, &mut self.data.bytes_mut()[..lengths.0], &mut scratch[..lengths.1]);
+        match self.slip {
+            Some(Slip::RefusalChanges) if told != 0 => self.words.disturb(),
+            Some(Slip::NextShare) if told == 0 && slot + 1 < SLOTS => scratch[next_share.end - 1] ^= 1,
+            _ => {}
+        }
+        told
     }
 
     /// Where a piece lies; a fault, and nothing, where the boundary gives no such place.
@@ -188,6 +219,7 @@ impl DockSide {
 
     /// A piece that a slot's request lacks is refused.
     fn lacks(&self, slot: usize, i: usize) {
+        let i = if self.slip == Some(Slip::PieceTooMany) { 0 } else { i };
         let reply = self.words.piece(slot, i, self.lengths());
         let refused = number(&reply) == Some(document::SLOT);
         self.expect(refused, || format!("slot {slot}: piece {i}, which it lacks, is {reply:?}"));

@@ -180,6 +180,11 @@ impl Words {
         unsafe { dock_words_open_row(s, k, j, v, row, share, b[0], b[1], b[2], b[3]) }
     }
 
+    /// Changes a word, which no call does where it is refused.
+    pub fn disturb(&mut self) {
+        self.states[STATES - 1] ^= 1;
+    }
+
     fn alter(&mut self) -> (Alter, Alter, Alter, Alter) {
         (self.settings.as_mut_ptr(), self.blockers.as_mut_ptr(), self.states.as_mut_ptr(), self.vectors.as_mut_ptr())
     }

@@ -1,7 +1,7 @@
 //! The dock behind its C boundary: a run finds no difference from imago, and every planted fault. Empty without the static library.
 #![cfg(dock)]
 
-use oracle::dock_side::{DockPlanner, DockSide};
+use oracle::dock_side::{DockPlanner, DockSide, SLIPS};
 use oracle::document::LONGEST_BOUNCE;
 use oracle::document_parts::DocumentVectors;
 use oracle::document_side::NotedBlockers;
@@ -34,6 +34,16 @@ fn every_fault_over_the_dock_is_seen() {
         let planted = |content: &Content| Planted::new(DockSide::new(content), Some(fault));
         let (_, found) = run_lists(RUN, Worlds::at(LONGEST_BOUNCE), ImagoSide::new, planted);
         assert!(found.is_some(), "{name} is not seen");
+    }
+}
+
+/// A fault over the library's answers that the comparison cannot see; one byte too many is looked for in few calls.
+#[test]
+fn every_slip_is_seen() {
+    for slip in SLIPS {
+        let slipping = |content: &Content| DockSide::slipping(content, slip);
+        let (_, found) = run_lists(Run::of(1000, 11), Worlds::at(LONGEST_BOUNCE), ImagoSide::new, slipping);
+        assert!(found.is_some(), "{slip:?} is not seen");
     }
 }
 
