@@ -3,15 +3,16 @@
 
 use oracle::dock_side::{DockPlanner, DockSide, SLIPS};
 use oracle::document::LONGEST_BOUNCE;
-use oracle::document_parts::DocumentVectors;
+use oracle::document_parts::{DocumentPlanner, DocumentVectors};
 use oracle::document_side::NotedBlockers;
 use oracle::imago_parts::{ImagoBlockers, ImagoPlanner, ImagoVectors};
 use oracle::imago_side::ImagoSide;
 use oracle::lists::{Worlds, MEMORY};
 use oracle::parts::Found;
 use oracle::plant::{Planted, FAULTS};
+use oracle::random::Random;
 use oracle::runner::{run_lists, run_parts, vector_data, Run};
-use oracle::side::{Opening, Planner};
+use oracle::side::{Lent, Opening, Planner, ROWS};
 use oracle::store::Content;
 
 const RUN: Run = Run::of(400, 11);
@@ -61,6 +62,24 @@ impl Planner for OneChunkLess {
         let mut chunks = DockPlanner.chunks(opening, offset, length)?;
         chunks.pop();
         Ok(chunks)
+    }
+}
+
+/// Where imago cannot be asked too: sums past 2^64 - 1, chunks of another length than 1 MiB.
+#[test]
+fn the_planner_agrees_with_the_rules() {
+    let mut random = Random::new(11, 0);
+    for _ in 0..20_000 {
+        let align = random.pick(&ROWS);
+        let bounce = random.pick(&[LONGEST_BOUNCE, 262_144, 262_143, 0]);
+        let none = Lent { address: 0, length: 0 };
+        let opening = Opening { align, bounce, data: none, scratch: none };
+        let length = random.below(64) * random.pick(&[align.req, 65_536]) + u64::from(random.once_in(8));
+        let near = random.below(80) * align.req + u64::from(random.once_in(8));
+        let offset = random.pick(&[near, u64::MAX - near, (u64::MAX - near) / align.req * align.req]);
+        let (rules, dock) =
+            (DocumentPlanner.chunks(&opening, offset, length), DockPlanner.chunks(&opening, offset, length));
+        assert_eq!(rules, dock, "{opening:?} offset {offset} length {length}");
     }
 }
 
