@@ -1,7 +1,7 @@
 //! The dock behind its C boundary, over a store in memory.
 
 use crate::dock_words::{Reply, Row, Words, NO_NUMBER};
-use crate::work::{memory, mixed, Case, Job, Kind, DATA, SHARE, STORE};
+use crate::work::{memory, mixed, store, Case, Job, Kind, DATA, SHARE};
 use std::time::{Duration, Instant};
 
 pub struct Dock {
@@ -27,7 +27,7 @@ const WRITE: u64 = 1;
 
 impl Dock {
     pub fn new(align: [u64; 4]) -> Self {
-        let (data, scratch, store) = (memory(DATA), memory(8 * SHARE), memory(STORE));
+        let (data, scratch, store) = (memory(DATA), memory(8 * SHARE), store());
         mixed(store, 1);
         mixed(data, 2);
         mixed(scratch, 3);

@@ -1,6 +1,6 @@
 //! imago in its async form over a store in memory, with the least executor that runs it.
 
-use crate::work::{memory, mixed, Case, Job, Kind, DATA, STORE};
+use crate::work::{memory, mixed, store, Case, Job, Kind, DATA, STORE};
 use imago::io_buffers::{IoVector, IoVectorMut};
 use imago::storage::drivers::CommonStorageHelper;
 use imago::{Storage, StorageExt};
@@ -165,7 +165,7 @@ async fn run_job(disk: &Disk, data: *mut u8, job: Job) -> io::Result<()> {
 
 impl Imago {
     pub fn new(align: [u64; 4], answers: Answers) -> Self {
-        let (store, data) = (memory(STORE), memory(DATA));
+        let (store, data) = (store(), memory(DATA));
         mixed(store, 1);
         mixed(data, 2);
         let flags: Vec<Arc<Flag>> = (0..8).map(|_| Arc::default()).collect();

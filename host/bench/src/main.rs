@@ -15,8 +15,8 @@ use work::{cases, Case, Job, Kind, LONG, R512, SHARE};
 
 const ROUNDS: usize = 15;
 
-/// Medians in ns for a job: imago answered at once, answered later, the dock.
-fn time(case: &Case, rounds: usize) -> [f64; 3] {
+/// The rounds of imago answered at once, answered later, and of the dock.
+fn time(case: &Case, rounds: usize) -> [Timed; 3] {
     let mut at_once = Imago::new(case.align, Answers::AtOnce);
     let mut later = Imago::new(case.align, Answers::Later);
     let mut dock = Dock::new(case.align);
@@ -27,7 +27,7 @@ fn time(case: &Case, rounds: usize) -> [f64; 3] {
         timed[2].round(|| dock.run(case));
     }
     assert!(later.store() == dock.store, "{}: imago and the dock leave different stores", case.name);
-    timed.each_ref().map(|t| t.median() / case.jobs.len() as f64)
+    timed
 }
 
 /// The bytes that the long write moves, by memcpy: into the scratch, from there into the store.
@@ -47,22 +47,27 @@ fn time_plain(rounds: usize) -> f64 {
 }
 
 fn table(rounds: usize, only: &str) {
-    println!("| Case, ns for a job | imago, answered at once | imago, answered later | dock | to at once | to later |");
-    println!("|---|---|---|---|---|---|");
+    println!(
+        "| Case | imago, answered at once | imago, answered later | dock | to at once | to later | least to least later |"
+    );
+    println!("|---|---|---|---|---|---|---|");
     for case in cases().iter().filter(|case| case.name.starts_with(only)) {
-        let [at_once, later, dock] = time(case, rounds);
-        let (a, b) = (dock / at_once, dock / later);
-        println!("| {} | {at_once:.0} | {later:.0} | {dock:.0} | {a:.2} | {b:.2} |", case.name);
+        let timed = time(case, rounds);
+        let [at_once, later, dock] = timed.each_ref().map(|t| t.median() / case.jobs.len() as f64);
+        let [_, least_later, least_dock] = timed.each_ref().map(Timed::least);
+        let (a, b, c) = (dock / at_once, dock / later, least_dock / least_later);
+        println!("| {} | {at_once:.0} | {later:.0} | {dock:.0} | {a:.2} | {b:.2} | {c:.2} |", case.name);
     }
 }
 
-/// How fast a tell copies, and memcpy or memset of the same bytes: medians in bytes for a ns.
-fn copy_row(name: &str, rounds: usize, job: &Job, first: u8, plain: impl Fn(&mut Dock)) {
+/// How fast a tell copies, and memcpy or memset of the same bytes, which `plain` times with the store's copies around it: medians in
+/// bytes for a ns.
+fn copy_row(name: &str, rounds: usize, job: &Job, first: u8, plain: impl Fn(&mut Dock) -> f64) {
     let mut dock = Dock::new(R512);
     let (mut tells, mut plains) = (Vec::new(), Vec::new());
     for _ in 0..rounds * 40 {
         tells.push(dock.longest_tell(job, first).as_nanos() as f64);
-        plains.push(timing::once(|| plain(&mut dock)));
+        plains.push(plain(&mut dock));
     }
     let speed = |times: &mut Vec<f64>| job.length as f64 / median(times);
     let (tell, plain) = (speed(&mut tells), speed(&mut plains));
@@ -74,13 +79,22 @@ fn copies(rounds: usize) {
     let (start, end) = (LONG.start, LONG.start + LONG.length);
     let zeroes = Job { kind: Kind::Zeroes, offset: 0, start: 0, length: SHARE - 512 };
     println!("\n| Copy | Bytes | bytes/ns in tell | memcpy or memset | ratio |\n|---|---|---|---|---|");
+    let padded = SHARE - 512;
     copy_row("data into the scratch (write)", rounds, &LONG, 0, |d| {
-        d.scratch[100..100 + LONG.length].copy_from_slice(&d.data[start..end])
+        let time = timing::once(|| d.scratch[100..100 + LONG.length].copy_from_slice(&d.data[start..end]));
+        d.store[..padded].copy_from_slice(&d.scratch[..padded]);
+        time
     });
     copy_row("scratch into the data (read)", rounds, &Job { kind: Kind::Read, ..LONG }, 0, |d| {
-        d.data[start..end].copy_from_slice(&d.scratch[100..100 + LONG.length])
+        d.scratch[..padded].copy_from_slice(&d.store[..padded]);
+        timing::once(|| d.data[start..end].copy_from_slice(&d.scratch[100..100 + LONG.length]))
     });
-    copy_row("zeroes into the scratch (fallback)", rounds, &zeroes, 1, |d| d.scratch[..SHARE - 512].fill(0));
+    copy_row("zeroes into the scratch (fallback)", rounds, &zeroes, 1, |d| {
+        d.store[..padded].fill(0);
+        let time = timing::once(|| d.scratch[..padded].fill(0));
+        d.store[..padded].copy_from_slice(&d.scratch[..padded]);
+        time
+    });
 }
 
 /// What follows an option.

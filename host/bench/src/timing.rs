@@ -11,10 +11,32 @@ pub struct Timed {
     rounds: Vec<f64>,
 }
 
+#[repr(C)]
+#[derive(Default)]
+struct Timespec {
+    seconds: i64,
+    nanoseconds: i64,
+}
+
+/// Linux' number of the clock that runs while this thread does.
+const THREAD_TIME: i32 = 3;
+
+extern "C" {
+    fn clock_gettime(clock: i32, time: *mut Timespec) -> i32;
+}
+
+/// Processor time of this thread: other programs on the machine do not count.
+fn thread_time() -> Duration {
+    let mut time = Timespec::default();
+    // SAFETY: the pointer is valid, and the struct is C's on 64-bit Linux.
+    assert_eq!(unsafe { clock_gettime(THREAD_TIME, &mut time) }, 0, "Linux has this clock");
+    Duration::new(time.seconds as u64, time.nanoseconds as u32)
+}
+
 fn calls_take(calls: u32, f: &mut impl FnMut()) -> Duration {
-    let start = Instant::now();
+    let start = thread_time();
     (0..calls).for_each(|_| f());
-    start.elapsed()
+    thread_time() - start
 }
 
 /// So many calls that they take a round; the calls made to find out warm up.
@@ -38,6 +60,11 @@ impl Timed {
     pub fn median(&self) -> f64 {
         median(&mut self.rounds.clone())
     }
+
+    /// The round least disturbed by the rest of the machine.
+    pub fn least(&self) -> f64 {
+        self.rounds.iter().copied().fold(f64::INFINITY, f64::min)
+    }
 }
 
 pub fn median(times: &mut [f64]) -> f64 {
@@ -45,7 +72,7 @@ pub fn median(times: &mut [f64]) -> f64 {
     times[times.len() / 2]
 }
 
-/// The time of one call, in ns.
+/// The time of one long call, in ns.
 pub fn once(f: impl FnOnce()) -> f64 {
     let start = Instant::now();
     f();

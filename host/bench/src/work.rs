@@ -79,6 +79,13 @@ pub fn memory(length: usize) -> &'static mut [u8] {
     unsafe { slice::from_raw_parts_mut(base, length) }
 }
 
+/// The store's bytes, off the multiples of 4096 at which data and scratch lie: a copy whose ends are the same modulo 4096 is slower for
+/// that alone.
+pub fn store() -> &'static mut [u8] {
+    let (_, bytes) = memory(STORE + 65_536).split_at_mut(2112);
+    &mut bytes[..STORE]
+}
+
 /// Bytes that differ from one to the next, every page touched.
 pub fn mixed(bytes: &mut [u8], seed: u64) {
     for (i, byte) in bytes.iter_mut().enumerate() {
