@@ -20,19 +20,29 @@ pub struct Difference {
 struct Pair<A, B> {
     left: Session<A>,
     right: Session<B>,
-    plain: [Plain; 2],
+    plain: Plain,
 }
 
 impl<A: Side, B: Side> Pair<A, B> {
-    /// What differs after the event: answers, what slots need, bytes; or what breaks demand 3 on either side.
+    /// What differs after the event: answers, what slots need, bytes; or what breaks demand 3. One plain byte store is enough for
+    /// both sides: what it is fed was found to be the same on both.
     fn step(&mut self, event: &Event) -> (Observed, Option<String>) {
         let left = self.left.perform(event);
         let right = self.right.perform(event);
-        let differs = answers(&left, &right).or_else(|| self.bytes());
-        let broken = differs
-            .or_else(|| named("left", self.plain[0].feed(event, &left, &self.left.side)))
-            .or_else(|| named("right", self.plain[1].feed(event, &right, &self.right.side)));
+        let broken = answers(&left, &right)
+            .or_else(|| self.bytes())
+            .or_else(|| self.left.side.fault())
+            .or_else(|| self.right.side.fault())
+            .or_else(|| named(self.plain.feed(event, &right, &self.right.side)));
+        self.settle();
         (left, broken)
+    }
+
+    /// The three stores were found the same.
+    fn settle(&mut self) {
+        self.left.side.store_mut().settle();
+        self.right.side.store_mut().settle();
+        self.plain.settle();
     }
 
     fn bytes(&self) -> Option<String> {
@@ -49,8 +59,8 @@ impl<A: Side, B: Side> Pair<A, B> {
     }
 }
 
-fn named(side: &str, what: Option<String>) -> Option<String> {
-    what.map(|text| format!("{side} against the plain byte store: {text}"))
+fn named(what: Option<String>) -> Option<String> {
+    what.map(|text| format!("against the plain byte store: {text}"))
 }
 
 fn answers(left: &Observed, right: &Observed) -> Option<String> {
@@ -67,8 +77,7 @@ fn answers(left: &Observed, right: &Observed) -> Option<String> {
 /// Feeds the list to both sides, which hold `content`, up to the first difference. A list that goes where imago and
 /// document 01 depart is compared up to there.
 pub fn compare<A: Side, B: Side>(events: &[Event], left: A, right: B, content: &Content) -> Option<Difference> {
-    let plain = [Plain::new(content.store.clone()), Plain::new(content.store.clone())];
-    let mut pair = Pair { left: Session::new(left), right: Session::new(right), plain };
+    let mut pair = Pair { left: Session::new(left), right: Session::new(right), plain: Plain::new(content) };
     let mut flight = Flight::default();
     for (at, event) in events.iter().enumerate() {
         if !departures::is_comparable(event, &flight) {

@@ -18,7 +18,7 @@ pub const UNALIGNED: u8 = 210;
 /// The first code that is no answer of the store.
 pub const FIRST_NO_ANSWER: u8 = 200;
 pub const LONGEST_BOUNCE: u64 = 1_048_576;
-const LONGEST_VECTOR: u64 = 1_048_576;
+pub const LONGEST_VECTOR: u64 = 1_048_576;
 const MOST_SEGMENTS: usize = 16;
 const LARGEST_ALIGNMENT: u64 = 65_536;
 
@@ -335,9 +335,19 @@ fn overlaps(begin: &Begin, in_flight: &[InFlight]) -> bool {
     (reads && itself) || in_flight.iter().any(meets)
 }
 
-/// What begin answers, in the table's order, over data of `data` bytes. A vector is built, and so refused, before its begin.
-pub fn begin(o: &Opening, data: u64, begin: &Begin, in_flight: &[InFlight]) -> First {
-    if vector(&begin.segments, data) != 0 {
+/// When a vector that does not fit is refused.
+#[derive(Clone, Copy, Debug, PartialEq, Eq)]
+pub enum VectorTest {
+    /// Where it is built, before its begin: scripts of `replay`.
+    Built,
+    /// In its begin, in the table's order.
+    Begun,
+}
+
+/// What begin answers, in the table's order, over data of `data` bytes.
+pub fn begin(o: &Opening, (data, test): (u64, VectorTest), begin: &Begin, in_flight: &[InFlight]) -> First {
+    let fits = vector(&begin.segments, data) == 0;
+    if !fits && test == VectorTest::Built {
         return First::Refused(SEGMENT);
     }
     if opening(o) != 0 {
@@ -345,6 +355,9 @@ pub fn begin(o: &Opening, data: u64, begin: &Begin, in_flight: &[InFlight]) -> F
     }
     if data != o.data.length {
         return First::Refused(BUFFER);
+    }
+    if !fits {
+        return First::Refused(SEGMENT);
     }
     match First::of(o, begin) {
         First::Starts(_) if overlaps(begin, in_flight) => First::Refused(OVERLAP),

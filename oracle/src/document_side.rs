@@ -1,6 +1,6 @@
 //! Document 01's rules run as a side: the course of each job, blockers that note one another, and shares of a scratch.
 
-use crate::document::{self, Course, First, InFlight};
+use crate::document::{self, Course, First, InFlight, VectorTest};
 use crate::imago_side::CLOSED;
 use crate::side::{Act, Begin, Begun, Blockers, Due, Job, Kind, Opening, Piece, Request, Segment, Side, SLOTS};
 use crate::store::{Content, Store};
@@ -68,6 +68,7 @@ pub struct RulesSide<B> {
     data: Vec<u8>,
     scratch: Vec<u8>,
     store: Store,
+    test: VectorTest,
 }
 
 /// Document 01's rules over its own blockers.
@@ -86,6 +87,7 @@ impl<B: Blockers + Default> RulesSide<B> {
             data: content.data.clone(),
             scratch: Vec::new(),
             store: content.store.clone(),
+            test: content.test,
         }
     }
 
@@ -174,7 +176,7 @@ impl<B: Blockers + Default> Side for RulesSide<B> {
     }
 
     fn begin(&mut self, begin: &Begin) -> Begun {
-        match document::begin(&self.opening, self.data.len() as u64, begin, &self.in_flight()) {
+        match document::begin(&self.opening, (self.data.len() as u64, self.test), begin, &self.in_flight()) {
             First::Done => Begun::Done,
             First::Refused(refusal) => Begun::Refused(refusal),
             First::Starts(course) => {

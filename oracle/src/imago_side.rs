@@ -4,7 +4,7 @@
 //! one of them applies. It has no scratch either: a piece in one of its bounce buffers is named by the place that document 01
 //! gives it, the job's share, from the bounce buffer's start on.
 
-use crate::document::{self, Course, First, InFlight};
+use crate::document::{self, Course, First, InFlight, VectorTest};
 use crate::executor::Task;
 use crate::memory::Data;
 use crate::port::{self, Memory, Pending, Port};
@@ -33,6 +33,7 @@ pub struct ImagoSide {
     opening: Opening,
     data: Data,
     store: Store,
+    test: VectorTest,
 }
 
 /// No dock is open: every begin is refused with 201.
@@ -70,6 +71,7 @@ impl ImagoSide {
             opening: CLOSED,
             data: Data::new(&content.data),
             store: content.store.clone(),
+            test: content.test,
         }
     }
 
@@ -158,7 +160,7 @@ impl Side for ImagoSide {
 
     fn begin(&mut self, begin: &Begin) -> Begun {
         let data = self.data.bytes().len() as u64;
-        match document::begin(&self.opening, data, begin, &self.in_flight()) {
+        match document::begin(&self.opening, (data, self.test), begin, &self.in_flight()) {
             First::Refused(refusal) if refusal != document::OVERFLOW => Begun::Refused(refusal),
             First::Starts(course) => self.ask(begin, Some(course)),
             First::Refused(_) | First::Done => self.ask(begin, None),

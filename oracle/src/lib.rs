@@ -3,6 +3,12 @@
 pub mod compare;
 pub mod coverage;
 pub mod departures;
+#[cfg(dock)]
+pub mod dock_scratch;
+#[cfg(dock)]
+pub mod dock_side;
+#[cfg(dock)]
+pub mod dock_words;
 pub mod document;
 pub mod document_parts;
 pub mod document_side;

@@ -1,7 +1,7 @@
 //! Random lists of events: ranges that collide, offsets near 2^64, codes of every kind, and noise.
 
 use crate::departures;
-use crate::document;
+use crate::document::{self, VectorTest};
 use crate::event::{Event, REPLAY_DATA, REPLAY_STORE};
 use crate::flight::Flight;
 use crate::imago_side::ImagoSide;
@@ -18,17 +18,66 @@ pub struct World {
     pub high: usize,
     /// Only what a script of `replay` can say: drive rows and its buffers.
     pub scripts: bool,
+    /// The share of every opening but those that are to be refused; None picks one.
+    pub share: Option<u64>,
 }
 
-pub const SCRIPTS: World = World { data: REPLAY_DATA, low: REPLAY_STORE, high: 0, scripts: true };
-pub const MEMORY: World = World { data: 8192, low: 16_384, high: 8192, scripts: false };
+pub const SCRIPTS: World = World { data: REPLAY_DATA, low: REPLAY_STORE, high: 0, scripts: true, share: None };
+pub const MEMORY: World = World { data: 8192, low: 16_384, high: 8192, scripts: false, share: None };
+
+/// Room for vectors of every length that document 01 takes.
+const LONG: World = World { data: 1_310_720, low: 1_572_864, high: 1_572_864, scripts: false, share: None };
+
+/// One list in so many is a long one.
+const LONG_EVERY: u64 = 128;
+
+/// The worlds of a run.
+#[derive(Clone, Copy)]
+pub struct Worlds {
+    pub usual: World,
+    /// That of one list in `LONG_EVERY`.
+    pub long: World,
+}
+
+impl Worlds {
+    /// Lists at one share: long vectors among them, and openings that are refused for their share or their addresses.
+    pub fn at(share: u64) -> Self {
+        let share = Some(share);
+        Worlds { usual: World { share, ..MEMORY }, long: World { share, ..LONG } }
+    }
+
+    pub fn is_long(list: u64) -> bool {
+        list % LONG_EVERY == LONG_EVERY - 1
+    }
+
+    pub fn of(&self, list: u64) -> World {
+        if Worlds::is_long(list) {
+            self.long
+        } else {
+            self.usual
+        }
+    }
+}
+
+impl From<World> for Worlds {
+    fn from(world: World) -> Self {
+        Worlds { usual: world, long: world }
+    }
+}
 
 impl World {
+    fn is_long(&self) -> bool {
+        self.data > document::LONGEST_VECTOR
+    }
+
     /// What a list starts with: zeroes as in `replay`, otherwise bytes that differ from one offset to the next.
     pub fn content(&self) -> Content {
-        let mut content = Content { store: Store::new(self.low, self.high), data: vec![0; self.data as usize] };
+        let test = if self.scripts { VectorTest::Built } else { VectorTest::Begun };
+        let (store, data) = (Store::new(self.low, self.high), vec![0; self.data as usize]);
+        let mut content = Content { store, data, test };
         if !self.scripts {
             content.store.each(0, u64::MAX, |o, byte| *byte = mixed(o));
+            content.store.settle();
             content.data.iter_mut().enumerate().for_each(|(i, byte)| *byte = mixed(!(i as u64)));
         }
         content
@@ -52,7 +101,12 @@ pub struct Maker {
 
 /// A random list.
 pub fn random_list(seed: u64, list: u64, world: World) -> Vec<Event> {
-    let mut maker = Maker::new(Random::new(seed, list), world);
+    random_list_over(seed, list, world, &world.content())
+}
+
+/// The same, over the content of that world.
+pub fn random_list_over(seed: u64, list: u64, world: World, content: &Content) -> Vec<Event> {
+    let mut maker = Maker::new(Random::new(seed, list), world, content);
     if world.scripts {
         maker.mixed_bytes();
     }
@@ -70,8 +124,8 @@ pub fn random_list(seed: u64, list: u64, world: World) -> Vec<Event> {
 }
 
 impl Maker {
-    pub fn new(random: Random, world: World) -> Self {
-        let session = Session::new(ImagoSide::new(&world.content()));
+    pub fn new(random: Random, world: World, content: &Content) -> Self {
+        let session = Session::new(ImagoSide::new(content));
         let seen = Observed { answer: crate::session::Answer::Done, views: Vec::new() };
         Maker { random, world, session, flight: Flight::default(), seen, events: Vec::new() }
     }
@@ -98,8 +152,11 @@ impl Maker {
         Alignments::new(self.power(most), self.power(most), self.power(most), self.power(16))
     }
 
-    /// A share that fits: the least, a larger one, or imago's.
+    /// A share that fits: the world's; or the least, a larger one, or imago's.
     fn bounce(&mut self, align: &Alignments) -> u64 {
+        if let Some(share) = self.world.share {
+            return share;
+        }
         let least = (2 * align.zero + 2 * align.length()).div_ceil(align.length()) * align.length();
         let more = least + align.length() * self.random.below(32);
         match self.random.below(8) {
@@ -126,7 +183,26 @@ impl Maker {
         let data = Lent { address, length: self.world.data };
         let length = 8 * bounce - u64::from(self.random.once_in(60));
         let scratch = Lent { address: 65_536 * 4, length };
-        self.push(Event::Open(Opening { align, bounce, data, scratch }));
+        let mut opening = Opening { align, bounce, data, scratch };
+        if self.world.share.is_some() && self.random.once_in(50) {
+            self.unusual(&mut opening);
+        }
+        self.push(Event::Open(opening));
+    }
+
+    /// What document 01 refuses, or just takes: other shares, a scratch off M, buffers that end at 2^64 - 1 or past it.
+    fn unusual(&mut self, o: &mut Opening) {
+        let last = |b: &Lent| u64::MAX - b.length;
+        match self.random.below(8) {
+            0 => o.bounce += o.align.length(),
+            1 => o.bounce -= 1,
+            2 => o.bounce = 0,
+            3 => o.scratch.address += 1,
+            4 => o.data.address = last(&o.data),
+            5 => o.data.address = last(&o.data) + 1,
+            6 => o.scratch.address = last(&o.scratch) / 65_536 * 65_536,
+            _ => o.scratch.address = last(&o.scratch) / 65_536 * 65_536 + 65_536,
+        }
     }
 
     /// A script sets runs of one byte only; by a discard with a choice, and a read, store and data get eight bytes over and over.
@@ -198,11 +274,11 @@ impl Maker {
 
     fn offset(&mut self) -> u64 {
         let near = self.near(self.world.low as u64);
-        if self.random.once_in(8) {
-            u64::MAX - near
-        } else {
-            near
+        if !self.random.once_in(8) {
+            return near;
         }
+        let room = if self.world.is_long() { self.random.pick(&[0, document::LONGEST_VECTOR]) } else { 0 };
+        u64::MAX - near - room
     }
 
     fn range_job(&mut self) -> Begin {
@@ -242,13 +318,36 @@ impl Maker {
         vec![Segment { start, length: first }, Segment { start: second, length: total - first }]
     }
 
+    /// One or two segments whose total is about the longest that a vector, or a share, takes.
+    fn long_segments(&mut self) -> Vec<Segment> {
+        let l = self.flight.opening.align.length().clamp(1, 65_536);
+        let most = document::LONGEST_VECTOR;
+        let total = self.random.pick(&[most, most - l, most - 2 * l, most - 3 * l]);
+        let total = total + self.random.pick(&[0, 0, 0, 1, l - 1, l / 2]);
+        let unit = self.random.pick(&[1, l]);
+        let mut start = self.random.below(self.world.data - total) / unit * unit;
+        let cut = (1 + self.random.below(total - 1)).div_ceil(unit) * unit;
+        let mut segments = Vec::new();
+        for length in self.random.pick(&[[total, 0], [cut, total - cut.min(total)]]) {
+            segments.push(Segment { start, length });
+            start += length + unit * self.random.below(3);
+        }
+        segments.retain(|s| s.length > 0);
+        segments
+    }
+
     fn vector_job(&mut self) -> Begin {
         let job = self.random.pick(&[Job::Read, Job::Write, Job::Write]);
         let offset = self.offset();
         let fits = |s: &Vec<Segment>, m: &Maker| document::vector(s, m.world.data) == 0;
         let apart = |s: &Vec<Segment>, m: &Maker| !s.iter().any(|s| m.flight.uses(s));
         let uneven = self.random.once_in(5);
-        let make = |m: &mut Maker| if uneven { m.uneven_segments() } else { m.segments() };
+        let long = self.world.is_long() && self.random.once_in(3);
+        let make = |m: &mut Maker| match (long, uneven) {
+            (true, _) => m.long_segments(),
+            (_, true) => m.uneven_segments(),
+            _ => m.segments(),
+        };
         let mut segments = make(self);
         for _ in 0..6 {
             if fits(&segments, self) && apart(&segments, self) {

@@ -1,17 +1,21 @@
 //! The commands: see the usage below and README.md.
 
 use oracle::coverage::Coverage;
+use oracle::document::LONGEST_BOUNCE;
 use oracle::document_parts::{DocumentPlanner, DocumentVectors};
 use oracle::document_side::{DocumentSide, NotedBlockers};
 use oracle::event::Event;
 use oracle::fixed::fixed;
 use oracle::imago_parts::{ImagoBlockers, ImagoPlanner, ImagoVectors};
 use oracle::imago_side::ImagoSide;
-use oracle::lists::{random_list, MEMORY, SCRIPTS};
+use oracle::lists::{random_list, Worlds, MEMORY, SCRIPTS};
+use oracle::parts;
 use oracle::plant::{Fault, Planted, FAULTS};
+use oracle::progress::Progress;
 use oracle::replay::{imago_trace, Replay};
-use oracle::runner::{run_lists, run_parts, run_replay, vector_data, Run};
+use oracle::runner::{run_lists, run_parts, run_replay, vector_data, Found, Run};
 use oracle::script::parse;
+use oracle::side::Planner;
 use oracle::store::Content;
 use std::env;
 use std::fs;
@@ -20,19 +24,38 @@ use std::path::Path;
 use std::process::ExitCode;
 
 const USAGE: &str = "\
-oracle lists  [--lists N] [--seed S] [--plant NAME]   imago against document 01's rules, in one process
-oracle parts  [--lists N] [--seed S]                  vectors, write blockers and the planner, each alone
+oracle lists  [--lists N] [--seed S] [--plant NAME] [--side rules|dock] [--share N] [--from N] [--threads N]
+                                                      imago against document 01's rules, or the dock, in one process
+oracle parts  [--lists N] [--seed S] [--side rules|dock]
+                                                      vectors, write blockers and the planner, each alone
 oracle replay [--lists N] [--seed S] [--plant NAME] [--program PATH]
                                                       imago against the program `replay`, by scripts
 oracle fixed  [--seed S] [--out DIR]                  writes the fixed list: DIR/stdin and imago's DIR/stdout
-oracle reach  [--lists N] [--seed S]                  how often the lists of `lists`, then of `replay`, reach what
+oracle reach  [--lists N] [--seed S] [--share N]      how often the lists of `lists`, then of `replay`, reach what
 oracle trace                                          imago's trace of a script on standard input";
+
+/// What is compared with imago in one process.
+#[derive(Clone, Copy)]
+enum Against {
+    /// Document 01's rules, in Rust.
+    Rules,
+    /// The dock behind its C boundary.
+    Dock,
+}
 
 struct Options {
     run: Run,
+    against: Against,
+    share: Option<u64>,
     fault: Option<Fault>,
     program: String,
     out: String,
+}
+
+impl Options {
+    fn worlds(&self) -> Worlds {
+        self.share.map_or(MEMORY.into(), Worlds::at)
+    }
 }
 
 fn number(text: Option<String>) -> Result<u64, String> {
@@ -45,13 +68,30 @@ fn fault_named(name: &str) -> Result<Fault, String> {
     found.map(|(_, fault)| *fault).ok_or_else(|| format!("--plant takes one of {}", names.join(", ")))
 }
 
+fn against(name: &str) -> Result<Against, String> {
+    match name {
+        "rules" => Ok(Against::Rules),
+        "dock" => Ok(Against::Dock),
+        _ => Err("--side takes rules or dock".to_owned()),
+    }
+}
+
+fn share(number: u64) -> Result<u64, String> {
+    let fits = (1..=LONGEST_BOUNCE).contains(&number);
+    fits.then_some(number).ok_or_else(|| format!("--share takes a number up to {LONGEST_BOUNCE}"))
+}
+
 fn options(mut args: env::Args) -> Result<Options, String> {
     let (program, out) = ("../target/bin/replay".to_owned(), "../crates/imago_list".to_owned());
-    let mut o = Options { run: Run { lists: 10_000, seed: 1 }, fault: None, program, out };
+    let mut o = Options { run: Run::of(10_000, 1), against: Against::Rules, share: None, fault: None, program, out };
     while let Some(arg) = args.next() {
         match arg.as_str() {
             "--lists" => o.run.lists = number(args.next())?,
             "--seed" => o.run.seed = number(args.next())?,
+            "--from" => o.run.from = number(args.next())?,
+            "--threads" => o.run.threads = number(args.next())?.clamp(1, 64) as usize,
+            "--side" => o.against = against(&args.next().unwrap_or_default())?,
+            "--share" => o.share = Some(share(number(args.next())?)?),
             "--plant" => o.fault = Some(fault_named(&args.next().unwrap_or_default())?),
             "--program" => o.program = args.next().ok_or("--program takes a path")?,
             "--out" => o.out = args.next().ok_or("--out takes a folder")?,
@@ -61,22 +101,64 @@ fn options(mut args: env::Args) -> Result<Options, String> {
     Ok(o)
 }
 
-fn lists(o: &Options) -> u64 {
-    let planted = |content: &Content| Planted::new(DocumentSide::new(content), o.fault);
-    let (progress, found) = run_lists(o.run, MEMORY, ImagoSide::new, planted);
+fn lists(o: &Options) -> Result<u64, String> {
+    let (progress, found) = match o.against {
+        Against::Rules => {
+            run_lists(o.run, o.worlds(), ImagoSide::new, |c: &Content| Planted::new(DocumentSide::new(c), o.fault))
+        }
+        Against::Dock => dock::lists(o)?,
+    };
     found.iter().for_each(|f| f.show());
     progress.show();
-    progress.differences()
+    Ok(progress.differences())
 }
 
-fn parts(o: &Options) -> u64 {
-    let bytes = vector_data();
-    let vectors = (&mut ImagoVectors::new(&bytes), &mut DocumentVectors::new(&bytes));
-    let planners = (&mut ImagoPlanner, &mut DocumentPlanner);
-    let (progress, found) = run_parts(o.run, (ImagoBlockers::default, NotedBlockers::default), vectors, planners);
+/// Vectors and blockers are inside the dock: there the planner alone is compared.
+fn parts(o: &Options) -> Result<u64, String> {
+    let (progress, found) = match o.against {
+        Against::Rules => parts_with(o, &mut DocumentPlanner),
+        Against::Dock => dock::parts(o)?,
+    };
     found.iter().for_each(|what| println!("{what}"));
     progress.show();
-    progress.differences()
+    Ok(progress.differences())
+}
+
+fn parts_with(o: &Options, planner: &mut impl Planner) -> (Progress, parts::Found) {
+    let bytes = vector_data();
+    let vectors = (&mut ImagoVectors::new(&bytes), &mut DocumentVectors::new(&bytes));
+    let blockers = (ImagoBlockers::default, NotedBlockers::default);
+    run_parts(o.run, blockers, vectors, (&mut ImagoPlanner, planner))
+}
+
+#[cfg(dock)]
+mod dock {
+    use super::*;
+    use oracle::dock_side::{DockPlanner, DockSide};
+
+    pub fn lists(o: &Options) -> Result<(Progress, Option<Found>), String> {
+        let planted = |content: &Content| Planted::new(DockSide::new(content), o.fault);
+        Ok(run_lists(o.run, o.worlds(), ImagoSide::new, planted))
+    }
+
+    pub fn parts(o: &Options) -> Result<(Progress, parts::Found), String> {
+        Ok(parts_with(o, &mut DockPlanner))
+    }
+}
+
+#[cfg(not(dock))]
+mod dock {
+    use super::*;
+
+    const NONE: &str = "built without the dock: make libwords.a (rt staticlib words), or name its folder by DOCK_LIB";
+
+    pub fn lists(_: &Options) -> Result<(Progress, Option<Found>), String> {
+        Err(NONE.to_owned())
+    }
+
+    pub fn parts(_: &Options) -> Result<(Progress, parts::Found), String> {
+        Err(NONE.to_owned())
+    }
 }
 
 fn replay(o: &Options) -> Result<u64, String> {
@@ -101,9 +183,10 @@ fn fixed_list(o: &Options) -> Result<u64, String> {
 }
 
 fn reach(o: &Options) -> u64 {
-    for (name, world) in [("lists", MEMORY), ("replay", SCRIPTS)] {
+    for (name, worlds) in [("lists", o.worlds()), ("replay", SCRIPTS.into())] {
         let mut coverage = Coverage::default();
         for list in 0..o.run.lists {
+            let world = worlds.of(list);
             coverage.merge(&Coverage::of(&random_list(o.run.seed, list, world), world));
         }
         println!("{} lists of `oracle {name}`", o.run.lists);
@@ -139,8 +222,8 @@ fn main() -> ExitCode {
     let mut args = env::args();
     let command = args.nth(1).unwrap_or_default();
     let done = options(args).and_then(|o| match command.as_str() {
-        "lists" => Ok(lists(&o)),
-        "parts" => Ok(parts(&o)),
+        "lists" => lists(&o),
+        "parts" => parts(&o),
         "replay" => replay(&o),
         "fixed" => fixed_list(&o),
         "reach" => Ok(reach(&o)),

@@ -3,12 +3,12 @@
 //!
 //! It knows jobs with the codes told, and no blockers, no scratch, no waiting.
 
-use crate::document::{self, Course, First, InFlight};
+use crate::document::{self, Course, First, InFlight, VectorTest};
 use crate::event::{row_opening, Event};
 use crate::imago_side::CLOSED;
 use crate::session::{Answer, Observed};
 use crate::side::{Act, Begin, Due, Job, Kind, Opening, Side, SLOTS};
-use crate::store::Store;
+use crate::store::{Content, Store};
 use crate::trace;
 use std::ops::Range;
 
@@ -26,6 +26,7 @@ struct PlainJob {
 pub struct Plain {
     opening: Opening,
     store: Store,
+    test: VectorTest,
     jobs: [Option<PlainJob>; SLOTS],
 }
 
@@ -83,8 +84,9 @@ impl PlainJob {
 }
 
 impl Plain {
-    pub fn new(store: Store) -> Self {
-        Plain { opening: CLOSED, store, jobs: Default::default() }
+    pub fn new(content: &Content) -> Self {
+        let store = content.store.clone();
+        Plain { opening: CLOSED, store, test: content.test, jobs: Default::default() }
     }
 
     /// Feeds the event with what the side answered, and says what breaks document 01's rules.
@@ -131,7 +133,7 @@ impl Plain {
         let jobs = self.jobs.iter().flatten();
         let in_flight: Vec<InFlight> =
             jobs.map(|j| InFlight { reads: j.begin.job == Job::Read, segments: &j.begin.segments }).collect();
-        let owed = match document::begin(&self.opening, data.len() as u64, begin, &in_flight) {
+        let owed = match document::begin(&self.opening, (data.len() as u64, self.test), begin, &in_flight) {
             First::Done => Answer::Done,
             First::Refused(refusal) => Answer::Refused(refusal),
             First::Starts(course) => {
@@ -165,6 +167,11 @@ impl Plain {
             let fits = job.is_some_and(|j| is_owed(&j.course, &view.due));
             (!fits).then(|| format!("slot {}: {} is not what the rules give", view.slot, trace::due(&view.due)))
         })
+    }
+
+    /// As `Store::settle`.
+    pub fn settle(&mut self) {
+        self.store.settle();
     }
 
     fn stores(&self, store: &Store) -> Option<String> {

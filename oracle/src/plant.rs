@@ -214,4 +214,8 @@ impl<S: Side> Side for Planted<S> {
     fn data_mut(&mut self) -> &mut [u8] {
         self.side.data_mut()
     }
+
+    fn fault(&self) -> Option<String> {
+        self.side.fault()
+    }
 }

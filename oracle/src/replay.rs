@@ -40,7 +40,7 @@ pub fn imago_trace(events: &[Event], fault: Option<Fault>) -> ImagoTrace {
     let content = SCRIPTS.content();
     let side = ImagoSide::new(&content);
     let mut session = Session::new(Planted::new(side, fault));
-    let mut plain = Plain::new(content.store);
+    let mut plain = Plain::new(&content);
     let mut flight = Flight::default();
     let mut traced = ImagoTrace { lines: Vec::with_capacity(events.len()), broken: None };
     for (at, event) in events.iter().enumerate() {

@@ -2,7 +2,7 @@
 
 use crate::compare::{compare, Difference};
 use crate::event::Event;
-use crate::lists::{random_list, World, MEMORY, SCRIPTS};
+use crate::lists::{random_list, random_list_over, Worlds, MEMORY, SCRIPTS};
 use crate::parts;
 use crate::progress::Progress;
 use crate::random::Random;
@@ -11,12 +11,24 @@ use crate::shrink::shrink;
 use crate::side::{Blockers, Planner, Side, Vectors};
 use crate::store::Content;
 use std::io;
+use std::sync::atomic::{AtomicU64, Ordering};
+use std::sync::{Mutex, MutexGuard};
+use std::thread;
 
-/// How many lists, and from which seed.
+/// How many lists, from which seed and from which of its lists on, and by how many threads.
 #[derive(Clone, Copy)]
 pub struct Run {
     pub lists: u64,
     pub seed: u64,
+    pub from: u64,
+    pub threads: usize,
+}
+
+impl Run {
+    /// The first lists of a seed, one after the other.
+    pub const fn of(lists: u64, seed: u64) -> Self {
+        Run { lists, seed, from: 0, threads: 1 }
+    }
 }
 
 /// A difference, in the smallest list found that shows it.
@@ -46,28 +58,84 @@ impl Drop for Named {
     }
 }
 
+/// What the threads of a run share.
+struct Shared {
+    run: Run,
+    next: AtomicU64,
+    progress: Mutex<Progress>,
+    /// The lowest list found that differs.
+    found: Mutex<Option<(u64, Found)>>,
+}
+
+impl Shared {
+    fn new(run: Run) -> Self {
+        Shared { run, next: AtomicU64::new(run.from), progress: Mutex::default(), found: Mutex::default() }
+    }
+
+    /// Lists until none is left or one differs.
+    fn work(&self, make: impl Fn(u64) -> Vec<Event>, differs: impl Fn(u64, &[Event]) -> Option<Difference>) {
+        while held(&self.found).is_none() {
+            let list = self.next.fetch_add(1, Ordering::Relaxed);
+            if list >= self.run.from + self.run.lists {
+                return;
+            }
+            let _named = Named { seed: self.run.seed, list };
+            let events = make(list);
+            held(&self.progress).list(events.len());
+            if let Some(difference) = differs(list, &events) {
+                self.note(list, Found { list: events, difference });
+            }
+        }
+    }
+
+    fn note(&self, list: u64, what: Found) {
+        held(&self.progress).difference();
+        let mut found = held(&self.found);
+        if found.as_ref().is_none_or(|(lowest, _)| list < *lowest) {
+            *found = Some((list, what));
+        }
+    }
+}
+
+fn held<T>(lock: &Mutex<T>) -> MutexGuard<'_, T> {
+    lock.lock().expect("no holder panics")
+}
+
+/// The smallest list found; the list itself where it differs only now and then, as where a side does not watch every call.
+fn smallest(found: Found, differs: impl Fn(&[Event]) -> Option<Difference>) -> Found {
+    let list = shrink(&found.list, |tried| differs(tried).is_some());
+    match differs(&list) {
+        Some(difference) => Found { list, difference },
+        None => found,
+    }
+}
+
 /// Compares the two sides, made anew for every list with the same content, up to the first difference.
 pub fn run_lists<A: Side, B: Side>(
     run: Run,
-    world: World,
-    left: impl Fn(&Content) -> A,
-    right: impl Fn(&Content) -> B,
+    worlds: impl Into<Worlds>,
+    left: impl Fn(&Content) -> A + Sync,
+    right: impl Fn(&Content) -> B + Sync,
 ) -> (Progress, Option<Found>) {
-    let mut progress = Progress::default();
-    let content = world.content();
-    let differs = |events: &[Event]| compare(events, left(&content), right(&content), &content);
-    for list in 0..run.lists {
-        let _named = Named { seed: run.seed, list };
-        let events = random_list(run.seed, list, world);
-        progress.list(events.len());
-        if differs(&events).is_some() {
-            progress.difference();
-            let list = shrink(&events, |tried| differs(tried).is_some());
-            let difference = differs(&list).expect("the smallest list differs");
-            return (progress, Some(Found { list, difference }));
+    let worlds = worlds.into();
+    let contents = [worlds.usual.content(), worlds.long.content()];
+    let content = |list: u64| &contents[usize::from(Worlds::is_long(list))];
+    let make = |list: u64| random_list_over(run.seed, list, worlds.of(list), content(list));
+    let differs = |list: u64, events: &[Event]| {
+        let content = content(list);
+        compare(events, left(content), right(content), content)
+    };
+    let shared = Shared::new(run);
+    thread::scope(|scope| {
+        for _ in 0..run.threads {
+            scope.spawn(|| shared.work(make, differs));
         }
-    }
-    (progress, None)
+    });
+    let found = shared.found.into_inner().expect("no holder panics").map(|(number, found)| {
+        println!("list {number} of seed {} differs", run.seed);
+        smallest(found, |tried| differs(number, tried))
+    });
+    (shared.progress.into_inner().expect("no holder panics"), found)
 }
 
 /// The calls on blockers of one list, and how many calls a list has at least.

@@ -148,6 +148,11 @@ pub trait Side {
     fn store_mut(&mut self) -> &mut Store;
     fn data(&self) -> &[u8];
     fn data_mut(&mut self) -> &mut [u8];
+
+    /// What the side itself saw go wrong, where it looks.
+    fn fault(&self) -> Option<String> {
+        None
+    }
 }
 
 /// Write blockers alone, by slot: a blocker is entered, waits or not, and leaves.

@@ -12,7 +12,7 @@ use oracle::side::{Blockers, Opening, Planner, Segment, Vectors};
 use oracle::store::Content;
 use std::ops::Range;
 
-const RUN: Run = Run { lists: 400, seed: 11 };
+const RUN: Run = Run::of(400, 11);
 
 #[test]
 fn sides_agree() {

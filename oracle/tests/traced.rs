@@ -34,6 +34,12 @@ fn check(row: u64, bounce: u64, begin: Begin, first: u8, expected: &[&str]) {
     let rules = requests(&mut DocumentSide::new(&SCRIPTS.content()), row, bounce, &begin, first);
     assert_eq!(imago, expected, "imago, {begin:?}");
     assert_eq!(rules, expected, "rules, {begin:?}");
+    #[cfg(dock)]
+    {
+        let mut dock = oracle::dock_side::DockSide::new(&SCRIPTS.content());
+        let made = requests(&mut dock, row, bounce, &begin, first);
+        assert_eq!((made, dock.fault()), (expected.iter().map(|e| (*e).to_owned()).collect(), None), "dock, {begin:?}");
+    }
 }
 
 fn write(offset: u64, segments: &[(u64, u64)]) -> Begin {

@@ -1,0 +1,248 @@
+//! The C boundary of the static library: a dock in four lent arrays of words, and calls over it.
+
+pub const SETTINGS: usize = 9;
+pub const BLOCKERS: usize = 88;
+pub const STATES: usize = 144;
+pub const VECTORS: usize = 272;
+
+/// A reply whose number says nothing: it has values only.
+pub const NO_NUMBER: u64 = 256;
+
+#[repr(C)]
+#[derive(Clone, Copy, Debug, PartialEq, Eq)]
+pub struct Reply {
+    pub number: u64,
+    /// How many of the values count.
+    pub count: u64,
+    pub value: [u64; 4],
+}
+
+/// A vector as a begin takes it: count of segments, total, then start and length of each, zeroes past the last.
+pub type Row = [u64; 34];
+
+type Read = *const u64;
+type Alter = *mut u64;
+
+extern "C" {
+    fn dock_words_open(
+        settings: Alter,
+        blockers: Alter,
+        states: Alter,
+        vectors: Alter,
+        mem: u64,
+        req: u64,
+        zero: u64,
+        discard: u64,
+        share: u64,
+        data_address: u64,
+        data_length: u64,
+        scratch_address: u64,
+        scratch_length: u64,
+    ) -> u8;
+    fn dock_words_open_row(
+        settings: Alter,
+        blockers: Alter,
+        states: Alter,
+        vectors: Alter,
+        row: usize,
+        share: u64,
+        data_address: u64,
+        data_length: u64,
+        scratch_address: u64,
+        scratch_length: u64,
+    ) -> u8;
+    fn dock_words_begin_read(
+        settings: Read,
+        blockers: Alter,
+        states: Alter,
+        vectors: Alter,
+        offset: u64,
+        vector: Read,
+        data: *const u8,
+        data_len: usize,
+        scratch: *mut u8,
+        scratch_len: usize,
+    ) -> Reply;
+    fn dock_words_begin_write(
+        settings: Read,
+        blockers: Alter,
+        states: Alter,
+        vectors: Alter,
+        offset: u64,
+        vector: Read,
+        data: *const u8,
+        data_len: usize,
+        scratch: *mut u8,
+        scratch_len: usize,
+    ) -> Reply;
+    fn dock_words_begin_zeroes(
+        settings: Read,
+        blockers: Alter,
+        states: Alter,
+        vectors: Alter,
+        allocate: u8,
+        offset: u64,
+        length: u64,
+        data: *const u8,
+        data_len: usize,
+        scratch: *mut u8,
+        scratch_len: usize,
+    ) -> Reply;
+    fn dock_words_begin_discard(
+        settings: Read,
+        blockers: Alter,
+        states: Alter,
+        vectors: Alter,
+        offset: u64,
+        length: u64,
+        data: *const u8,
+        data_len: usize,
+        scratch: *mut u8,
+        scratch_len: usize,
+    ) -> Reply;
+    fn dock_words_next(
+        settings: Read,
+        blockers: Read,
+        states: Read,
+        vectors: Read,
+        slot: usize,
+        data_len: usize,
+        scratch_len: usize,
+    ) -> Reply;
+    fn dock_words_piece(
+        settings: Read,
+        blockers: Read,
+        states: Read,
+        vectors: Read,
+        slot: usize,
+        i: usize,
+        data_len: usize,
+        scratch_len: usize,
+    ) -> Reply;
+    fn dock_words_tell(
+        settings: Read,
+        blockers: Alter,
+        states: Alter,
+        vectors: Read,
+        slot: usize,
+        code: u8,
+        data: *mut u8,
+        data_len: usize,
+        scratch: *mut u8,
+        scratch_len: usize,
+    ) -> u8;
+    fn dock_words_collect(
+        settings: Read,
+        blockers: Read,
+        states: Alter,
+        vectors: Alter,
+        slot: usize,
+        data_len: usize,
+        scratch_len: usize,
+    ) -> u8;
+    fn dock_words_chunks(settings: Read, offset: u64, length: u64) -> Reply;
+    fn dock_words_chunk(settings: Read, offset: u64, length: u64, i: u64) -> Reply;
+}
+
+/// The arrays of one dock.
+#[derive(Clone, PartialEq, Eq)]
+pub struct Words {
+    settings: [u64; SETTINGS],
+    blockers: [u64; BLOCKERS],
+    states: [u64; STATES],
+    vectors: [u64; VECTORS],
+}
+
+impl Default for Words {
+    fn default() -> Self {
+        Words { settings: [0; SETTINGS], blockers: [0; BLOCKERS], states: [0; STATES], vectors: [0; VECTORS] }
+    }
+}
+
+/// Address and length of the data, then of the scratch.
+pub type Buffers = [u64; 4];
+
+/// Lengths of the data and of the scratch.
+pub type Lengths = (usize, usize);
+
+// SAFETY, for all calls: the arrays have the lengths that the library declares, the slices are valid for theirs and do not overlap,
+// pointers of empty slices are not null, and the library keeps no pointer.
+impl Words {
+    /// M, R, Z, D, then the share.
+    pub fn open(&mut self, align: [u64; 4], share: u64, b: Buffers) -> u8 {
+        let [mem, req, zero, discard] = align;
+        let (s, k, j, v) = self.alter();
+        unsafe { dock_words_open(s, k, j, v, mem, req, zero, discard, share, b[0], b[1], b[2], b[3]) }
+    }
+
+    pub fn open_row(&mut self, row: usize, share: u64, b: Buffers) -> u8 {
+        let (s, k, j, v) = self.alter();
+        unsafe { dock_words_open_row(s, k, j, v, row, share, b[0], b[1], b[2], b[3]) }
+    }
+
+    /// Changes a word, which no call does where it is refused.
+    pub fn disturb(&mut self) {
+        self.states[STATES - 1] ^= 1;
+    }
+
+    fn alter(&mut self) -> (Alter, Alter, Alter, Alter) {
+        (self.settings.as_mut_ptr(), self.blockers.as_mut_ptr(), self.states.as_mut_ptr(), self.vectors.as_mut_ptr())
+    }
+
+    fn read(&self) -> (Read, Read, Read, Read) {
+        (self.settings.as_ptr(), self.blockers.as_ptr(), self.states.as_ptr(), self.vectors.as_ptr())
+    }
+
+    pub fn begin_read(&mut self, offset: u64, row: &Row, data: &[u8], scratch: &mut [u8]) -> Reply {
+        let (s, k, j, v) = self.alter();
+        let (d, c) = (data.as_ptr(), scratch.as_mut_ptr());
+        unsafe { dock_words_begin_read(s, k, j, v, offset, row.as_ptr(), d, data.len(), c, scratch.len()) }
+    }
+
+    pub fn begin_write(&mut self, offset: u64, row: &Row, data: &[u8], scratch: &mut [u8]) -> Reply {
+        let (s, k, j, v) = self.alter();
+        let (d, c) = (data.as_ptr(), scratch.as_mut_ptr());
+        unsafe { dock_words_begin_write(s, k, j, v, offset, row.as_ptr(), d, data.len(), c, scratch.len()) }
+    }
+
+    pub fn begin_zeroes(&mut self, allocate: bool, offset: u64, length: u64, data: &[u8], scratch: &mut [u8]) -> Reply {
+        let (s, k, j, v) = self.alter();
+        let (a, d, c) = (u8::from(allocate), data.as_ptr(), scratch.as_mut_ptr());
+        unsafe { dock_words_begin_zeroes(s, k, j, v, a, offset, length, d, data.len(), c, scratch.len()) }
+    }
+
+    pub fn begin_discard(&mut self, offset: u64, length: u64, data: &[u8], scratch: &mut [u8]) -> Reply {
+        let (s, k, j, v) = self.alter();
+        let (d, c) = (data.as_ptr(), scratch.as_mut_ptr());
+        unsafe { dock_words_begin_discard(s, k, j, v, offset, length, d, data.len(), c, scratch.len()) }
+    }
+
+    pub fn next(&self, slot: usize, lengths: Lengths) -> Reply {
+        let (s, k, j, v) = self.read();
+        unsafe { dock_words_next(s, k, j, v, slot, lengths.0, lengths.1) }
+    }
+
+    pub fn piece(&self, slot: usize, i: usize, lengths: Lengths) -> Reply {
+        let (s, k, j, v) = self.read();
+        unsafe { dock_words_piece(s, k, j, v, slot, i, lengths.0, lengths.1) }
+    }
+
+    pub fn tell(&mut self, slot: usize, code: u8, data: &mut [u8], scratch: &mut [u8]) -> u8 {
+        let (s, k, j, v) = self.alter();
+        let (d, c) = (data.as_mut_ptr(), scratch.as_mut_ptr());
+        unsafe { dock_words_tell(s, k, j, v, slot, code, d, data.len(), c, scratch.len()) }
+    }
+
+    pub fn collect(&mut self, slot: usize, lengths: Lengths) -> u8 {
+        let (s, k, j, v) = self.alter();
+        unsafe { dock_words_collect(s, k, j, v, slot, lengths.0, lengths.1) }
+    }
+
+    pub fn chunks(&self, offset: u64, length: u64) -> Reply {
+        unsafe { dock_words_chunks(self.settings.as_ptr(), offset, length) }
+    }
+
+    pub fn chunk(&self, offset: u64, length: u64, i: u64) -> Reply {
+        unsafe { dock_words_chunk(self.settings.as_ptr(), offset, length, i) }
+    }
+}
