@@ -150,7 +150,7 @@ mod dock {
 mod dock {
     use super::*;
 
-    const NONE: &str = "built without the dock: make libwords.a (rt staticlib words), or name its folder by DOCK_LIB";
+    const NONE: &str = "built without the dock: make libboundary.a (rt staticlib boundary), or name its folder by DOCK_LIB";
 
     pub fn lists(_: &Options) -> Result<(Progress, Option<Found>), String> {
         Err(NONE.to_owned())
