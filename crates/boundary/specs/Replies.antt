@@ -7,6 +7,8 @@ use Rattle.arithmetic.specs.declared.planner.Count.{Count}
 use Rattle.arithmetic.specs.declared.planner.Count.the-variants.{Chunks, Refused as NotCounted}
 use Rattle.arithmetic.specs.declared.planner.Planned.{Planned}
 use Rattle.arithmetic.specs.declared.planner.Planned.the-variants.{Chunk, Refused as NotPlanned}
+use Rattle.vectors.specs.declared.vector.Alignment.{Alignment}
+use Rattle.vectors.specs.declared.vector.Alignment.the-variants.{Aligned, Unaligned, Refused as NotAsked}
 use Rattle.stages.specs.Stages.{sizeOf}
 use Rattle.dock.specs.Numbers.{Paper, numbered, valued, collectedPaper}
 use Rattle.dock.specs.declared.tell.Collected.{Collected}
@@ -43,6 +45,12 @@ countPaper (NotCounted r) = numbered (numberOf r)
 abbrev pub plannedPaper : Planned → Paper
 plannedPaper (Chunk c) = valued (c .start .0 ∷ sizeOf c ∷ [])
 plannedPaper (NotPlanned r) = numbered (numberOf r)
+
+-- `is_aligned`: 1 for aligned, 0 for not
+abbrev pub alignmentPaper : Alignment → Paper
+alignmentPaper Aligned = valued (1 ∷ [])
+alignmentPaper Unaligned = valued (0 ∷ [])
+alignmentPaper (NotAsked r) = numbered (numberOf r)
 
 -- collect: the number that `collectedPaper` gives
 abbrev pub collectedNumber : Collected → ℕ

@@ -1,5 +1,6 @@
 // The boundary: what C or Rust calls. The arrays have the lengths declared here; data and scratch are a pointer and a length. For any words.
 mod replies; // answers, as they cross
+pub mod parts; // vectors and blockers alone
 
 use crate::replies::Reply;
 use crate::replies::begun_reply;

@@ -8,9 +8,10 @@ use dock::tell::Collected;
 use stages::state::Kind;
 use stages::state::Request;
 use stages::state::size;
+use vectors::vector::Alignment;
 ghost use mathlib.Core.Path.{_≡_};
 ghost use Rattle.dock.specs.Numbers.{kindNumber, begunPaper, duePaper, piecePaper};
-ghost use Rattle.boundary.specs.Replies.{replyOf, numbers, countPaper, plannedPaper, collectedNumber};
+ghost use Rattle.boundary.specs.Replies.{replyOf, numbers, countPaper, plannedPaper, alignmentPaper, collectedNumber};
 
 // The number that stands for none: an answer that has values alone.
 const NO_NUMBER: u64 = 256;
@@ -121,6 +122,16 @@ pub(crate) fn planned_reply(p: Planned) -> Reply
             valued(2, start.0, size(c), 0, 0)
         }
         Planned::Refused(r) => numbered(r.number() as u64),
+    }
+}
+
+pub(crate) fn alignment_reply(a: Alignment) -> Reply
+    ensures { λ r. ⌜ r ≡ replyOf (alignmentPaper a) ⌝ }
+{
+    match a {
+        Alignment::Aligned => valued(1, 1, 0, 0, 0),
+        Alignment::Unaligned => valued(1, 0, 0, 0, 0),
+        Alignment::Refused(r) => numbered(r.number() as u64),
     }
 }
 

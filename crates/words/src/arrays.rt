@@ -1,9 +1,12 @@
 // The calls on a dock in words, which a host holds as four arrays. For any words.
 use crate::setting_words::get_settings;
 use crate::vector_words::get_vector;
+use crate::vector_words::put_vector;
+use arithmetic::offsets::Range;
 use arithmetic::refusals::Outcome;
 use arithmetic::settings::Buffers;
 use arithmetic::settings::Settings;
+use blockers::Kind;
 use dock::begin::Asked;
 use dock::begin::Begun;
 use dock::next::Due;
@@ -11,11 +14,12 @@ use dock::next::Piece;
 use dock::tell::Collected;
 use vectors::vector::IoVector;
 ghost use mathlib.Core.Path.{_≡_};
+ghost use Rattle.blockers.specs.Blockers.{enteredOf, leftOf, waitsOf};
 ghost use Rattle.dock.specs.Dock.{openOf, openProfileOf};
 ghost use Rattle.dock.specs.Begin.{begins, beginOf};
 ghost use Rattle.dock.specs.Next.{nextOf, pieceOf};
 ghost use Rattle.dock.specs.Tell.{tells, tellOf, collectOf};
-ghost use Rattle.words.specs.View.{settingsOf, vectorFrom, dockOf};
+ghost use Rattle.words.specs.View.{settingsOf, vectorFrom, blockersOf, dockOf};
 
 // The settings that the dock was opened with.
 pub fn settings_of(settings: &[u64; 9]) -> Settings
@@ -172,4 +176,34 @@ pub fn collect(
         data_len,
         scratch_len,
     )
+}
+
+// Write a vector over 34 words.
+pub fn put_vector_of(vector: &mut [u64; 34], v: IoVector)
+    ensures { λ t. ⌜ vectorFrom (now (vector .exit)) ≡ v ⌝ }
+{
+    put_vector(vector, v);
+}
+
+// Enter a blocker of this kind. Refused (208) past slot 7 and where one is entered.
+pub fn enter(blockers: &mut [u64; 88], kind: Kind, slot: usize, range: Range) -> Outcome
+    ensures { λ r. ⌜ (r ≡ enteredOf kind slot range (blockersOf (now (blockers .entry))) .outcome)
+        × (blockersOf (now (blockers .exit)) ≡ enteredOf kind slot range (blockersOf (now (blockers .entry))) .blockers) ⌝ }
+{
+    crate::blocker_words::enter(blockers, kind, slot, range)
+}
+
+// The slot's blocker is gone, and nobody notes it any more. Refused (208) past slot 7 and where none is entered.
+pub fn leave(blockers: &mut [u64; 88], slot: usize) -> Outcome
+    ensures { λ r. ⌜ (r ≡ leftOf slot (blockersOf (now (blockers .entry))) .outcome)
+        × (blockersOf (now (blockers .exit)) ≡ leftOf slot (blockersOf (now (blockers .entry))) .blockers) ⌝ }
+{
+    crate::blocker_words::leave(blockers, slot)
+}
+
+// Whether the slot's blocker waits: one that it noted is still there. Past slot 7 none waits.
+pub fn waits(blockers: &[u64; 88], slot: usize) -> bool
+    ensures { λ t. ⌜ t ≡ waitsOf slot (blockersOf (now (blockers .entry))) ⌝ }
+{
+    crate::blocker_words::waits(blockers, slot)
 }

@@ -40,7 +40,7 @@ pub(crate) fn get_vector(row: &[u64]) -> IoVector
 }
 
 // Write a vector over a whole row.
-fn put_vector(row: &mut [u64], v: IoVector)
+pub(crate) fn put_vector(row: &mut [u64], v: IoVector)
     requires { ⌜ length (now row) ≡ 34 ⌝ }
     ensures { λ t. ⌜ now (row .exit) ≡ vectorWords v ⌝ }
 {

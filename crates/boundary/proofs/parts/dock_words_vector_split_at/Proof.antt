@@ -1,0 +1,38 @@
+-- `boundary::parts::dock_words_vector_split_at` meets its contract: head and tail, each written to its words. Assumes nothing.
+use mathlib.Core.Path.{ap, _∙_}
+use Rattle.arithmetic.specs.Refusals.{outcomeNumber}
+use Rattle.vectors.specs.declared.vector.IoVector.{IoVector}
+use Rattle.vectors.specs.declared.vector.Halves.{Halves}
+use Rattle.vectors.specs.Vectors.{splitOf}
+use borrow.Author.Needs.{needs}
+use Rattle.boundary.proofs.parts.dock_words_vector_split_at.Statement.{statement}
+use Rattle.boundary.proofs.parts.dock_words_vector_split_at.Tie as tie
+
+vector-of-requires : tie.Need-vector-of-requires
+vector-of-requires c κs = search needs
+
+split-at-requires : tie.Need-split-at-requires
+split-at-requires c κs = search needs
+
+put-vector-of-requires : tie.Need-put-vector-of-requires
+put-vector-of-requires c κs = search needs
+
+put-vector-of-requires-2 : tie.Need-put-vector-of-requires-2
+put-vector-of-requires-2 c κs = search needs
+
+number-requires : tie.Need-number-requires
+number-requires c κs = search needs
+
+returns : tie.Need-returns
+returns c = let a = c .before .before .before .before .before .before .before .before .args in let e = c .before .before .before .before .before .split-at .ensures ∙ ap (λ (v : IoVector). splitOf (a .data-len) v (a .mid)) (c .before .before .before .before .before .before .vector-of .ensures) in (c .number .ensures ∙ ap (λ (z : Halves). outcomeNumber (z .outcome)) e, c .before .before .before .put-vector-of .ensures ∙ ap (λ (z : Halves). z .head) e, c .before .put-vector-of2 .ensures ∙ ap (λ (z : Halves). z .tail) e)
+
+pub dock-words-vector-split-at-spec : {M : Type 1} → statement M
+dock-words-vector-split-at-spec =
+    tie.close
+    (tie.spec
+    vector-of-requires
+    split-at-requires
+    put-vector-of-requires
+    put-vector-of-requires-2
+    number-requires
+    returns)
