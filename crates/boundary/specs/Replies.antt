@@ -1,5 +1,5 @@
 -- Document 01's number and values of an answer, as they cross the boundary: in one struct of words.
-use mathlib.Core.List.{List, [], _∷_}
+use mathlib.Core.List.{[], _∷_}
 use Prim.Native.Nat.{ℕ}
 use lib.ListN.{length, getD}
 use Rattle.arithmetic.specs.Refusals.{numberOf}

@@ -77,8 +77,7 @@ pub extern "C" fn dock_words_open(
         length: scratch_length,
     };
     let b = Buffers { data, scratch };
-    let outcome = open(settings, blockers, states, vectors, s, b);
-    outcome.number()
+    open(settings, blockers, states, vectors, s, b).number()
 }
 
 // Open by drive profile (document 01: a drive row).

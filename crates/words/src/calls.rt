@@ -94,14 +94,10 @@ pub(crate) fn open_profile(
     ensures { λ r. ⌜ (r ≡ openProfileOf index bounce b .outcome) × (dockOf (now (settings .exit)) (now (blockers .exit)) (now (states .exit)) (now (vectors .exit)) ≡ openProfileOf index bounce b .dock) ⌝ }
 {
     match drive_profile(index) {
-        Profile::Of(align) => open(
-            settings,
-            blockers,
-            states,
-            vectors,
-            Settings { align, bounce },
-            b,
-        ),
+        Profile::Of(align) => {
+            let s = Settings { align, bounce };
+            open(settings, blockers, states, vectors, s, b)
+        }
         Profile::Refused(r) => {
             let align = Alignments {
                 mem: 0,

@@ -174,106 +174,57 @@ fn enters(
     Outcome::Done
 }
 
-// The job x after its step.
+// The job x after its step; b, xs, vs are the words of blockers, states and vectors, s and l settings and buffers.
 fn step(
-    blockers: &mut [u64],
-    states: &mut [u64],
-    vectors: &[u64],
+    b: &mut [u64],
+    xs: &mut [u64],
+    vs: &[u64],
     slot: usize,
-    settings: Settings,
-    buffers: Buffers,
+    s: Settings,
+    l: Buffers,
     x: State,
     code: u8,
     step: Step,
     data: &mut [u8],
     scratch: &mut [u8],
 ) -> Outcome
-    requires { ⌜ (length (now blockers) ≡ 88) × (length (now states) ≡ 144) × (length (now vectors) ≡ 272) × (slot < 8) × StepSeated slot settings buffers x (length (now scratch)) step ⌝ }
-    ensures { λ r. ⌜ keeps r (now (blockers .exit)) (now (states .exit)) (now («data» .exit)) (now (scratch .exit))
-        ≡ kept (blockersOf (now (blockers .entry))) (statesOf (now (states .entry))) slot (steppedAt (blockersOf (now (blockers .entry))) slot (slot * settings .bounce) x code (getD (vectorsOf (now (vectors .entry))) slot noVector) (now («data» .entry)) (now (scratch .entry)) step) ⌝ }
+    requires { ⌜ (length (now b) ≡ 88) × (length (now xs) ≡ 144) × (length (now vs) ≡ 272) × (slot < 8) × StepSeated slot s l x (length (now scratch)) step ⌝ }
+    ensures { λ r. ⌜ keeps r (now (b .exit)) (now (xs .exit)) (now («data» .exit)) (now (scratch .exit))
+        ≡ kept (blockersOf (now (b .entry))) (statesOf (now (xs .entry))) slot (steppedAt (blockersOf (now (b .entry))) slot (slot * s .bounce) x code (getD (vectorsOf (now (vs .entry))) slot noVector) (now («data» .entry)) (now (scratch .entry)) step) ⌝ }
 {
     match step {
-        Step::Stays(y) => stays(
-            blockers,
-            states,
-            vectors,
-            slot,
-            settings,
-            buffers,
-            y,
-            data,
-            scratch,
-        ),
-        Step::Ends(y) => {
-            ends(
-                blockers,
-                states,
-                vectors,
-                slot,
-                settings,
-                buffers,
-                x,
-                code,
-                y,
-                data,
-                scratch,
-            )
-        }
-        Step::Enters(y) => enters(
-            blockers,
-            states,
-            vectors,
-            slot,
-            settings,
-            buffers,
-            x,
-            y,
-            data,
-            scratch,
-        ),
+        Step::Stays(y) => stays(b, xs, vs, slot, s, l, y, data, scratch),
+        Step::Ends(y) => ends(b, xs, vs, slot, s, l, x, code, y, data, scratch),
+        Step::Enters(y) => enters(b, xs, vs, slot, s, l, x, y, data, scratch),
     }
 }
 
-// The code for the job x in `slot`: 208 where no request of it is out, 209 for what is no answer.
+// The code for the job x in `slot`, with the same names: 208 where no request of it is out, 209 for what is no answer.
 pub(crate) fn told_at(
-    blockers: &mut [u64],
-    states: &mut [u64],
-    vectors: &[u64],
+    b: &mut [u64],
+    xs: &mut [u64],
+    vs: &[u64],
     slot: usize,
-    settings: Settings,
-    buffers: Buffers,
+    s: Settings,
+    l: Buffers,
     x: State,
     code: u8,
     data: &mut [u8],
     scratch: &mut [u8],
 ) -> Outcome
-    requires { ⌜ (length (now blockers) ≡ 88) × (length (now states) ≡ 144) × (length (now vectors) ≡ 272) × (slot < 8) × (lentFits buffers (length (now «data»)) (length (now scratch)) ≡ true) ⌝ }
-    ensures { λ r. ⌜ keeps r (now (blockers .exit)) (now (states .exit)) (now («data» .exit)) (now (scratch .exit))
-        ≡ kept (blockersOf (now (blockers .entry))) (statesOf (now (states .entry))) slot (toldAt (blockersOf (now (blockers .entry))) slot settings buffers x (getD (vectorsOf (now (vectors .entry))) slot noVector) code (now («data» .entry)) (now (scratch .entry))) ⌝ }
+    requires { ⌜ (length (now b) ≡ 88) × (length (now xs) ≡ 144) × (length (now vs) ≡ 272) × (slot < 8) × (lentFits l (length (now «data»)) (length (now scratch)) ≡ true) ⌝ }
+    ensures { λ r. ⌜ keeps r (now (b .exit)) (now (xs .exit)) (now («data» .exit)) (now (scratch .exit))
+        ≡ kept (blockersOf (now (b .entry))) (statesOf (now (xs .entry))) slot (toldAt (blockersOf (now (b .entry))) slot s l x (getD (vectorsOf (now (vs .entry))) slot noVector) code (now («data» .entry)) (now (scratch .entry))) ⌝ }
 {
-    if !is_out(blockers, x, slot) {
+    if !is_out(b, x, slot) {
         return Outcome::Refused(Refusal::Slot);
     }
-    if !is_kept(x, settings, buffers) {
+    if !is_kept(x, s, l) {
         return Outcome::Refused(Refusal::Slot);
     }
-    let answer = told(x, settings, code);
+    let answer = told(x, s, code);
     match answer {
         Answered::Refused(r) => Outcome::Refused(r),
-        Answered::Leads(t) => {
-            step(
-                blockers,
-                states,
-                vectors,
-                slot,
-                settings,
-                buffers,
-                x,
-                code,
-                t,
-                data,
-                scratch,
-            )
-        }
+        Answered::Leads(t) => { step(b, xs, vs, slot, s, l, x, code, t, data, scratch) }
     }
 }

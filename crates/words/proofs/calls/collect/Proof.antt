@@ -1,9 +1,8 @@
 -- `words::calls::collect` meets its contract: 205, 208, then the answer, and the slot's rows are vacant. Assumes nothing.
 use borrow.Author.Tests.{not-true, not-false, lt-ltb, le-ltb}
-use native.Mathlib.Omega.{arith}
 use mathlib.Core.Path.{_≡_, refl, sym, ap, _∙_}
 use mathlib.Core.Bool.{true, false}
-use mathlib.Core.List.{List, []}
+use mathlib.Core.List.{[]}
 use Prim.Native.Nat.{ℕ, _<_, _≤_}
 use lib.ListN.{set}
 use Rattle.arithmetic.specs.declared.refusals.Refusal.the-variants.{Buffer, Slot}
@@ -12,10 +11,9 @@ use Rattle.stages.specs.Stages.{hasEnded}
 use Rattle.stages.specs.declared.state.State.{State}
 use Rattle.dock.specs.Dock.{lentFits, stateAt, vacant}
 use Rattle.dock.specs.Tell.{collectOf}
-use Rattle.dock.specs.declared.tell.Collected.{Collected}
 use Rattle.dock.specs.declared.tell.Collected.the-variants.{Final, Refused}
 use Rattle.dock.specs.declared.dock.Dock.{Dock}
-use Rattle.words.specs.View.{dockOf, buffersOf, statesOf, vectorsOf, settingsOf, blockersOf}
+use Rattle.words.specs.View.{dockOf}
 use borrow.Author.Needs.{needs}
 use Rattle.words.proofs.calls.collect.Statement.{statement}
 use Rattle.words.proofs.calls.collect.Tie as tie

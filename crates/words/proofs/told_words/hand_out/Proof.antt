@@ -1,6 +1,6 @@
 -- `words::told_words::hand_out` meets its contract: nothing is moved, or by the slot's vector. Assumes nothing.
 use mathlib.Core.Path.{sym, _∙_}
-use borrow.Author.Tests.{not-true, not-false}
+use borrow.Author.Tests.{not-true}
 use Rattle.dock.specs.Slots.{handedShare}
 use borrow.Author.Needs.{needs}
 use Rattle.words.proofs.told_words.hand_out.Statement.{statement}

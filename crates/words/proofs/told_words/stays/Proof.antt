@@ -1,8 +1,7 @@
 -- `words::told_words::stays` meets its contract: filled, then stored where that was done. Assumes nothing.
-use mathlib.Core.Path.{sym, _∙_}
+use mathlib.Core.Path.{_∙_}
 use Prim.Native.Nat.{_*_}
 use lib.ListN.{getD}
-use borrow.Author.Tests.{not-true, not-false}
 use Rattle.dock.specs.Dock.{noVector}
 use Rattle.words.specs.View.{vectorsOf}
 use Rattle.dock.specs.SeatLaws.{filled-share}
