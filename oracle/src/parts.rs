@@ -60,9 +60,11 @@ fn vector_shapes(random: &mut Random, v: &[Segment], left: &mut impl Vectors, ri
     let index = random.below(v.len() as u64 + 2) as usize;
     let mid = random.below(document::total(v) + 3);
     let mid = random.pick(&[mid, 0, document::total(v), v.first().map_or(0, |s| s.length)]);
+    let rest = &v[index.min(v.len())..];
     unlike(&format!("{v:?} push {s:?}"), left.push(v, s), right.push(v, s))
         .or_else(|| unlike(&format!("{v:?} insert {index} {s:?}"), left.insert(v, index, s), right.insert(v, index, s)))
         .or_else(|| unlike(&format!("{v:?} append itself"), left.append(v, v), right.append(v, v)))
+        .or_else(|| unlike(&format!("{v:?} append {rest:?}"), left.append(v, rest), right.append(v, rest)))
         .or_else(|| unlike(&format!("{v:?} split_at {mid}"), left.split_at(v, mid), right.split_at(v, mid)))
         .or_else(|| {
             unlike(&format!("{v:?} split_tail_at {mid}"), left.split_tail_at(v, mid), right.split_tail_at(v, mid))
