@@ -34,7 +34,9 @@ pub fn blockers(random: &mut Random, left: &mut impl Blockers, right: &mut impl 
         }
         entered[slot] = !entered[slot];
         let waiting = |b: &dyn Fn(usize) -> bool| (0..SLOTS).filter(|s| b(*s)).collect::<Vec<_>>();
-        let found = unlike("waiting", waiting(&|s| left.waits(s)), waiting(&|s| right.waits(s)));
+        let found = unlike("waiting", waiting(&|s| left.waits(s)), waiting(&|s| right.waits(s)))
+            .or_else(|| left.fault())
+            .or_else(|| right.fault());
         if let Some(what) = found {
             return Some(list + &what);
         }
@@ -105,6 +107,8 @@ pub fn vectors(random: &mut Random, left: &mut impl Vectors, right: &mut impl Ve
     unlike(&format!("{v:?} is_aligned {mem} {req}"), aligned.0, aligned.1)
         .or_else(|| vector_shapes(random, &v, left, right))
         .or_else(|| vector_bytes(random, &v, left, right))
+        .or_else(|| left.fault())
+        .or_else(|| right.fault())
 }
 
 /// A plan, where imago can be asked for one.
