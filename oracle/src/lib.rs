@@ -23,6 +23,7 @@ pub mod memory;
 pub mod parts;
 pub mod plain;
 pub mod plant;
+pub mod plant_parts;
 pub mod port;
 pub mod progress;
 pub mod random;
