@@ -4,6 +4,8 @@ pub mod compare;
 pub mod coverage;
 pub mod departures;
 #[cfg(dock)]
+pub mod dock_parts;
+#[cfg(dock)]
 pub mod dock_scratch;
 #[cfg(dock)]
 pub mod dock_side;
