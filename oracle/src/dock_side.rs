@@ -5,7 +5,7 @@
 //! job's share alone.
 
 use crate::dock_scratch::Scratch;
-use crate::dock_words::{Lengths, Reply, Row, Words, NO_NUMBER};
+use crate::dock_words::{row, Lengths, Reply, Words, NO_NUMBER};
 use crate::document;
 use crate::imago_side::CLOSED;
 use crate::memory::Data;
@@ -52,17 +52,6 @@ pub struct DockSide {
     fault: RefCell<Option<String>>,
 }
 
-/// The vector of a begin; a row has room for 16 segments only.
-fn row_of(begin: &Begin) -> Row {
-    let mut row = [0; 34];
-    row[0] = begin.segments.len() as u64;
-    row[1] = begin.length;
-    for (words, s) in row[2..].chunks_mut(2).zip(&begin.segments) {
-        words.copy_from_slice(&[s.start, s.length]);
-    }
-    row
-}
-
 fn kind_of(number: u64) -> Option<Kind> {
     [Kind::Read, Kind::Write, Kind::Zero, Kind::AllocatedZero, Kind::Discard].get(number as usize).copied()
 }
@@ -72,7 +61,7 @@ fn is_refusal(number: u8) -> bool {
     number == document::BUFFER || number == document::SLOT
 }
 
-fn values<const N: usize>(reply: &Reply) -> Option<[u64; N]> {
+pub(crate) fn values<const N: usize>(reply: &Reply) -> Option<[u64; N]> {
     let fits = reply.number == NO_NUMBER && reply.count == N as u64;
     fits.then(|| std::array::from_fn(|i| reply.value[i]))
 }
@@ -88,8 +77,8 @@ fn align_of(o: &Opening) -> [u64; 4] {
 fn begun(words: &mut Words, begin: &Begin, data: &[u8], scratch: &mut [u8]) -> Reply {
     let (offset, length) = (begin.offset, begin.length);
     match begin.job {
-        Job::Read => words.begin_read(offset, &row_of(begin), data, scratch),
-        Job::Write => words.begin_write(offset, &row_of(begin), data, scratch),
+        Job::Read => words.begin_read(offset, &row(&begin.segments, length), data, scratch),
+        Job::Write => words.begin_write(offset, &row(&begin.segments, length), data, scratch),
         Job::Zeroes => words.begin_zeroes(false, offset, length, data, scratch),
         Job::AllocatedZeroes => words.begin_zeroes(true, offset, length, data, scratch),
         Job::Discard => words.begin_discard(offset, length, data, scratch),

@@ -1,4 +1,7 @@
-//! The C boundary of the static library: a dock in four lent arrays of words, and calls over it.
+//! The C boundary of the static library: a dock in four lent arrays of words, and calls over it; a vector and blockers alone.
+
+use crate::side::Segment;
+use std::ops::Range;
 
 pub const SETTINGS: usize = 9;
 pub const BLOCKERS: usize = 88;
@@ -19,6 +22,20 @@ pub struct Reply {
 
 /// A vector as a begin takes it: count of segments, total, then start and length of each, zeroes past the last.
 pub type Row = [u64; 34];
+
+/// A row has room for 16 segments; its count is theirs also where they are more.
+pub fn row(segments: &[Segment], total: u64) -> Row {
+    let mut row = [0; 34];
+    row[0] = segments.len() as u64;
+    row[1] = total;
+    for (words, s) in row[2..].chunks_mut(2).zip(segments) {
+        words.copy_from_slice(&[s.start, s.length]);
+    }
+    row
+}
+
+/// The blockers of a dock, or alone; zeroes where none is entered.
+pub type BlockerRow = [u64; BLOCKERS];
 
 type Read = *const u64;
 type Alter = *mut u64;
@@ -142,13 +159,45 @@ extern "C" {
     ) -> u8;
     fn dock_words_chunks(settings: Read, offset: u64, length: u64) -> Reply;
     fn dock_words_chunk(settings: Read, offset: u64, length: u64, i: u64) -> Reply;
+    fn dock_words_vector_push(vector: Alter, start: usize, length: usize, data_len: usize) -> u8;
+    fn dock_words_vector_insert(vector: Alter, index: usize, start: usize, length: usize, data_len: usize) -> u8;
+    fn dock_words_vector_append(vector: Alter, other: Read, data_len: usize) -> u8;
+    fn dock_words_vector_split_at(vector: Alter, tail: Alter, mid: u64, data_len: usize) -> u8;
+    fn dock_words_vector_split_tail_at(vector: Alter, mid: u64, data_len: usize) -> u8;
+    fn dock_words_vector_copy_into_slice(
+        vector: Read,
+        data: *const u8,
+        data_len: usize,
+        slice: *mut u8,
+        slice_len: usize,
+    ) -> u8;
+    fn dock_words_vector_copy_from_slice(
+        vector: Read,
+        data: *mut u8,
+        data_len: usize,
+        slice: *const u8,
+        slice_len: usize,
+    ) -> u8;
+    fn dock_words_vector_fill(vector: Read, data: *mut u8, data_len: usize, value: u8) -> u8;
+    fn dock_words_vector_is_aligned(
+        vector: Read,
+        mem: u64,
+        req: u64,
+        zero: u64,
+        discard: u64,
+        data_address: u64,
+        data_length: u64,
+    ) -> Reply;
+    fn dock_words_blockers_enter(blockers: Alter, strong: u8, slot: usize, start: u64, end: u64) -> u8;
+    fn dock_words_blockers_leave(blockers: Alter, slot: usize) -> u8;
+    fn dock_words_blockers_wait(blockers: Read, slot: usize) -> u8;
 }
 
 /// The arrays of one dock.
 #[derive(Clone, PartialEq, Eq)]
 pub struct Words {
     settings: [u64; SETTINGS],
-    blockers: [u64; BLOCKERS],
+    blockers: BlockerRow,
     states: [u64; STATES],
     vectors: [u64; VECTORS],
 }
@@ -245,4 +294,60 @@ impl Words {
     pub fn chunk(&self, offset: u64, length: u64, i: u64) -> Reply {
         unsafe { dock_words_chunk(self.settings.as_ptr(), offset, length, i) }
     }
+}
+
+// SAFETY, for the calls below: as above, with the lengths of a row and of blockers.
+
+pub fn vector_push(v: &mut Row, s: Segment, data_len: usize) -> u8 {
+    unsafe { dock_words_vector_push(v.as_mut_ptr(), s.start as usize, s.length as usize, data_len) }
+}
+
+pub fn vector_insert(v: &mut Row, index: usize, s: Segment, data_len: usize) -> u8 {
+    unsafe { dock_words_vector_insert(v.as_mut_ptr(), index, s.start as usize, s.length as usize, data_len) }
+}
+
+pub fn vector_append(v: &mut Row, other: &Row, data_len: usize) -> u8 {
+    unsafe { dock_words_vector_append(v.as_mut_ptr(), other.as_ptr(), data_len) }
+}
+
+/// The vector becomes the head.
+pub fn vector_split_at(v: &mut Row, tail: &mut Row, mid: u64, data_len: usize) -> u8 {
+    unsafe { dock_words_vector_split_at(v.as_mut_ptr(), tail.as_mut_ptr(), mid, data_len) }
+}
+
+pub fn vector_split_tail_at(v: &mut Row, mid: u64, data_len: usize) -> u8 {
+    unsafe { dock_words_vector_split_tail_at(v.as_mut_ptr(), mid, data_len) }
+}
+
+pub fn vector_copy_into_slice(v: &Row, data: &[u8], slice: &mut [u8]) -> u8 {
+    let (d, s) = (data.as_ptr(), slice.as_mut_ptr());
+    unsafe { dock_words_vector_copy_into_slice(v.as_ptr(), d, data.len(), s, slice.len()) }
+}
+
+pub fn vector_copy_from_slice(v: &Row, data: &mut [u8], slice: &[u8]) -> u8 {
+    let (d, s) = (data.as_mut_ptr(), slice.as_ptr());
+    unsafe { dock_words_vector_copy_from_slice(v.as_ptr(), d, data.len(), s, slice.len()) }
+}
+
+pub fn vector_fill(v: &Row, data: &mut [u8], value: u8) -> u8 {
+    unsafe { dock_words_vector_fill(v.as_ptr(), data.as_mut_ptr(), data.len(), value) }
+}
+
+/// M, R, Z, D, then address and length of the data.
+pub fn vector_is_aligned(v: &Row, align: [u64; 4], data: [u64; 2]) -> Reply {
+    let [mem, req, zero, discard] = align;
+    unsafe { dock_words_vector_is_aligned(v.as_ptr(), mem, req, zero, discard, data[0], data[1]) }
+}
+
+pub fn blockers_enter(b: &mut BlockerRow, strong: bool, slot: usize, range: Range<u64>) -> u8 {
+    unsafe { dock_words_blockers_enter(b.as_mut_ptr(), u8::from(strong), slot, range.start, range.end) }
+}
+
+pub fn blockers_leave(b: &mut BlockerRow, slot: usize) -> u8 {
+    unsafe { dock_words_blockers_leave(b.as_mut_ptr(), slot) }
+}
+
+/// 1 where the slot's blocker waits, 0 where not.
+pub fn blockers_wait(b: &BlockerRow, slot: usize) -> u8 {
+    unsafe { dock_words_blockers_wait(b.as_ptr(), slot) }
 }

@@ -4,6 +4,8 @@ pub mod compare;
 pub mod coverage;
 pub mod departures;
 #[cfg(dock)]
+pub mod dock_parts;
+#[cfg(dock)]
 pub mod dock_scratch;
 #[cfg(dock)]
 pub mod dock_side;
@@ -23,6 +25,7 @@ pub mod memory;
 pub mod parts;
 pub mod plain;
 pub mod plant;
+pub mod plant_parts;
 pub mod port;
 pub mod progress;
 pub mod random;

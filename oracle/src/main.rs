@@ -15,7 +15,7 @@ use oracle::progress::Progress;
 use oracle::replay::{imago_trace, Replay};
 use oracle::runner::{run_lists, run_parts, run_replay, vector_data, Found, Run};
 use oracle::script::parse;
-use oracle::side::Planner;
+use oracle::side::{Blockers, Planner, Vectors};
 use oracle::store::Content;
 use std::env;
 use std::fs;
@@ -113,10 +113,12 @@ fn lists(o: &Options) -> Result<u64, String> {
     Ok(progress.differences())
 }
 
-/// Vectors and blockers are inside the dock: there the planner alone is compared.
 fn parts(o: &Options) -> Result<u64, String> {
     let (progress, found) = match o.against {
-        Against::Rules => parts_with(o, &mut DocumentPlanner),
+        Against::Rules => {
+            let vectors = &mut DocumentVectors::new(&vector_data());
+            parts_with(o, NotedBlockers::default, vectors, &mut DocumentPlanner)
+        }
         Against::Dock => dock::parts(o)?,
     };
     found.iter().for_each(|what| println!("{what}"));
@@ -124,16 +126,20 @@ fn parts(o: &Options) -> Result<u64, String> {
     Ok(progress.differences())
 }
 
-fn parts_with(o: &Options, planner: &mut impl Planner) -> (Progress, parts::Found) {
-    let bytes = vector_data();
-    let vectors = (&mut ImagoVectors::new(&bytes), &mut DocumentVectors::new(&bytes));
-    let blockers = (ImagoBlockers::default, NotedBlockers::default);
-    run_parts(o.run, blockers, vectors, (&mut ImagoPlanner, planner))
+fn parts_with<B: Blockers>(
+    o: &Options,
+    blockers: impl Fn() -> B,
+    vectors: &mut impl Vectors,
+    planner: &mut impl Planner,
+) -> (Progress, parts::Found) {
+    let imago = &mut ImagoVectors::new(&vector_data());
+    run_parts(o.run, (ImagoBlockers::default, blockers), (imago, vectors), (&mut ImagoPlanner, planner))
 }
 
 #[cfg(dock)]
 mod dock {
     use super::*;
+    use oracle::dock_parts::{DockBlockers, DockVectors};
     use oracle::dock_side::{DockPlanner, DockSide};
 
     pub fn lists(o: &Options) -> Result<(Progress, Option<Found>), String> {
@@ -142,7 +148,8 @@ mod dock {
     }
 
     pub fn parts(o: &Options) -> Result<(Progress, parts::Found), String> {
-        Ok(parts_with(o, &mut DockPlanner))
+        let vectors = &mut DockVectors::new(&vector_data());
+        Ok(parts_with(o, DockBlockers::default, vectors, &mut DockPlanner))
     }
 }
 

@@ -34,7 +34,9 @@ pub fn blockers(random: &mut Random, left: &mut impl Blockers, right: &mut impl 
         }
         entered[slot] = !entered[slot];
         let waiting = |b: &dyn Fn(usize) -> bool| (0..SLOTS).filter(|s| b(*s)).collect::<Vec<_>>();
-        let found = unlike("waiting", waiting(&|s| left.waits(s)), waiting(&|s| right.waits(s)));
+        let found = unlike("waiting", waiting(&|s| left.waits(s)), waiting(&|s| right.waits(s)))
+            .or_else(|| left.fault())
+            .or_else(|| right.fault());
         if let Some(what) = found {
             return Some(list + &what);
         }
@@ -60,9 +62,11 @@ fn vector_shapes(random: &mut Random, v: &[Segment], left: &mut impl Vectors, ri
     let index = random.below(v.len() as u64 + 2) as usize;
     let mid = random.below(document::total(v) + 3);
     let mid = random.pick(&[mid, 0, document::total(v), v.first().map_or(0, |s| s.length)]);
+    let rest = &v[index.min(v.len())..];
     unlike(&format!("{v:?} push {s:?}"), left.push(v, s), right.push(v, s))
         .or_else(|| unlike(&format!("{v:?} insert {index} {s:?}"), left.insert(v, index, s), right.insert(v, index, s)))
         .or_else(|| unlike(&format!("{v:?} append itself"), left.append(v, v), right.append(v, v)))
+        .or_else(|| unlike(&format!("{v:?} append {rest:?}"), left.append(v, rest), right.append(v, rest)))
         .or_else(|| unlike(&format!("{v:?} split_at {mid}"), left.split_at(v, mid), right.split_at(v, mid)))
         .or_else(|| {
             unlike(&format!("{v:?} split_tail_at {mid}"), left.split_tail_at(v, mid), right.split_tail_at(v, mid))
@@ -103,6 +107,8 @@ pub fn vectors(random: &mut Random, left: &mut impl Vectors, right: &mut impl Ve
     unlike(&format!("{v:?} is_aligned {mem} {req}"), aligned.0, aligned.1)
         .or_else(|| vector_shapes(random, &v, left, right))
         .or_else(|| vector_bytes(random, &v, left, right))
+        .or_else(|| left.fault())
+        .or_else(|| right.fault())
 }
 
 /// A plan, where imago can be asked for one.

@@ -160,6 +160,11 @@ pub trait Blockers {
     fn enter(&mut self, slot: usize, range: std::ops::Range<u64>, strong: bool);
     fn waits(&self, slot: usize) -> bool;
     fn leave(&mut self, slot: usize);
+
+    /// What the side itself saw go wrong, where it looks.
+    fn fault(&self) -> Option<String> {
+        None
+    }
 }
 
 /// The calls on a vector of segments of the data; the number of a refusal where there is one.
@@ -174,6 +179,11 @@ pub trait Vectors {
     fn fill(&mut self, v: &[Segment], value: u8);
     fn is_aligned(&mut self, v: &[Segment], mem: u64, req: u64) -> bool;
     fn data(&self) -> &[u8];
+
+    /// What the side itself saw go wrong, where it looks.
+    fn fault(&self) -> Option<String> {
+        None
+    }
 }
 
 /// `pure_write_full_zeroes`: the chunks that it writes, as offset and length, or the number of a refusal.
