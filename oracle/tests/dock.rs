@@ -188,7 +188,7 @@ fn no_vector(random: &mut Random) -> Row {
     }
 }
 
-/// A call that needs a vector refuses them, and leaves words and bytes; only the tail of a split is then the empty vector.
+/// A call that needs a vector refuses them, and leaves words and bytes.
 #[test]
 fn words_that_are_no_vector_are_refused() {
     let mut random = Random::new(11, 3);
@@ -210,7 +210,7 @@ fn words_that_are_no_vector_are_refused() {
             vector_fill(&wrong, &mut data, 1),
         ];
         assert_eq!(answers, [SEGMENT; 9], "{wrong:?}");
-        assert_eq!((v, tail, kept, data, slice), (wrong, [0; 34], right, [7; 8], [9; 2]), "{wrong:?}");
+        assert_eq!((v, tail, kept, data, slice), (wrong, [5; 34], right, [7; 8], [9; 2]), "{wrong:?}");
     }
 }
 

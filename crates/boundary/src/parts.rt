@@ -3,6 +3,7 @@ use crate::replies::Reply;
 use crate::replies::alignment_reply;
 use arithmetic::offsets::Range;
 use arithmetic::offsets::StoreOffset;
+use arithmetic::refusals::Outcome;
 use arithmetic::settings::Alignments;
 use arithmetic::settings::Lent;
 use blockers::Kind;
@@ -20,6 +21,7 @@ ghost use Rattle.arithmetic.specs.Refusals.{outcomeNumber};
 ghost use Rattle.vectors.specs.Vectors.{segment, pushOf, insertOf, appendOf, splitOf, splitTailOf, outcomeOf, copies, bytesOf, scatterOf, segmentsOf, isValid, fillOf, alignmentOf};
 ghost use Rattle.blockers.specs.Blockers.{enteredOf, leftOf, waitsOf};
 ghost use Rattle.dock.specs.Begin.{strength};
+ghost use Rattle.dock.specs.Slots.{whenDone};
 ghost use Rattle.words.specs.View.{flagOf, flagWord, vectorFrom, blockersOf};
 ghost use Rattle.boundary.specs.Replies.{replyOf, alignmentPaper};
 
@@ -92,7 +94,7 @@ pub extern "C" fn dock_words_vector_append(
     outcome.number()
 }
 
-// The first `mid` bytes of the vector, and the rest in `tail`.
+// The first `mid` bytes of the vector, and the rest in `tail`, which a refusal leaves.
 #[no_mangle]
 pub extern "C" fn dock_words_vector_split_at(
     vector: &mut [u64; 34],
@@ -102,12 +104,15 @@ pub extern "C" fn dock_words_vector_split_at(
 ) -> u8
     ensures { λ r. ⌜ (r ≡ outcomeNumber (splitOf data_len (vectorFrom (now (vector .entry))) mid .outcome))
         × (vectorFrom (now (vector .exit)) ≡ splitOf data_len (vectorFrom (now (vector .entry))) mid .head)
-        × (vectorFrom (now (tail .exit)) ≡ splitOf data_len (vectorFrom (now (vector .entry))) mid .tail) ⌝ }
+        × (vectorFrom (now (tail .exit)) ≡ whenDone (splitOf data_len (vectorFrom (now (vector .entry))) mid .outcome) (splitOf data_len (vectorFrom (now (vector .entry))) mid .tail) (vectorFrom (now (tail .entry)))) ⌝ }
 {
     let v = vector_of(vector);
     let halves = v.split_at(mid, data_len);
     let outcome = halves.outcome;
     put_vector_of(vector, halves.head);
+    let Outcome::Done = outcome else {
+        return outcome.number();
+    };
     put_vector_of(tail, halves.tail);
     outcome.number()
 }

@@ -5,6 +5,14 @@ mod dock_run;
 #[path = "../../../oracle/src/dock_words.rs"]
 mod dock_words;
 mod imago_run;
+/// What the shared declarations name of the oracle.
+mod side {
+    #[derive(Clone, Copy)]
+    pub struct Segment {
+        pub start: u64,
+        pub length: u64,
+    }
+}
 mod timing;
 mod work;
 
