@@ -1,9 +1,9 @@
 -- A seated job's bytes lie in its share, and its share in the scratch. Assumes nothing.
-use mathlib.Core.Path.{_≡_, sym}
+use mathlib.Core.Path.{_≡_}
 use mathlib.Core.Bool.{true, _&&_}
 use Prim.Native.Nat.{ℕ, _*_, _+_, _≤_}
 use native.Mathlib.Omega.{arith}
-use lib.Dec.{leb, ltb, eqb}
+use lib.Dec.{ltb}
 use borrow.Author.Tests.{leb-true, ltb-true, eqb-true}
 use Rattle.arithmetic.specs.SettingsLaws.{and-left, and-right}
 use Rattle.arithmetic.specs.declared.settings.Settings.{Settings}

@@ -5,12 +5,11 @@ use mathlib.Core.List.{List}
 use Prim.Native.Nat.{ℕ, _*_, _<_, _≤_}
 use native.Mathlib.Omega.{arith}
 use mathlib.Core.Logic.{_≢_}
-use lib.Dec.{leb, ltb, eqb}
+use lib.Dec.{leb, eqb}
 use lib.ListN.{length, set}
-use borrow.Author.Tests.{leb-true, ltb-true, eqb-true, lt-ltb, le-ltb}
-use Rattle.arithmetic.specs.Rounding.{pick}
+use borrow.Author.Tests.{leb-true, eqb-true, lt-ltb, le-ltb}
 use Rattle.arithmetic.specs.declared.refusals.Refusal.{Refusal}
-use Rattle.arithmetic.specs.declared.refusals.Refusal.the-variants.{Overlap, Full, Buffer, Slot, NoAnswer}
+use Rattle.arithmetic.specs.declared.refusals.Refusal.the-variants.{Buffer, Slot}
 use Rattle.arithmetic.specs.declared.refusals.Outcome.{Outcome}
 use Rattle.arithmetic.specs.declared.refusals.Outcome.the-variants.{Done, Refused}
 use Rattle.arithmetic.specs.Settings.{openingOf}
@@ -25,14 +24,13 @@ use Rattle.blockers.specs.declared.Changed.{Changed}
 use Rattle.stages.specs.Stages.{isSound, toldOf}
 use Rattle.stages.specs.Laws.{told-stays, told-enters}
 use Rattle.stages.specs.declared.state.Job.{Job}
-use Rattle.stages.specs.declared.state.Job.the-variants.{Read, Write, Zeroes, AllocatedZeroes, Discard}
 use Rattle.stages.specs.declared.plan.Plan.{Plan}
 use Rattle.stages.specs.declared.plan.Plan.the-variants.{Done as NothingToDo, Started, Refused as PlanRefused}
 use Rattle.stages.specs.declared.state.State.{State}
 use Rattle.stages.specs.declared.told.Step.{Step}
 use Rattle.stages.specs.declared.told.Step.the-variants.{Stays, Ends, Enters}
 use Rattle.dock.specs.Dock.{stateAt, vectorAt, isOutBy, lentFits, lentBy, lentOf, overlapsOf, firstFree}
-use Rattle.dock.specs.Begin.{Filled, fills, filled, blockersWith, Begins, begins, withJob, movedOf, planOf, beginOf}
+use Rattle.dock.specs.Begin.{Filled, fills, filled, blockersWith, begins, withJob, movedOf, planOf, beginOf}
 use Rattle.dock.specs.Next.{isKeptBy}
 use Rattle.dock.specs.Tell.{Handed, hands, handed, blockersWithout, tells, tellOf}
 use Rattle.dock.specs.Slots.{Entered, enters, enterAt, decidedOf, admits, unplaced, admitBy, admitAt, PlanInShare, seatedBy, seated, Stepped, steps, unstepped, endsAt, entersBy, entersAt, StepInShare, answeredOf, answeredBy, toldAt, storedBy, stored}
@@ -45,7 +43,7 @@ use Rattle.dock.specs.declared.begin.Begun.the-variants.{Done as NoReque
 use Rattle.dock.specs.declared.begin.Admission.{Admission}
 use Rattle.dock.specs.declared.tell.Stepping.{Stepping}
 use Rattle.dock.specs.declared.tell.Answered.{Answered}
-use Rattle.dock.specs.declared.tell.Answered.the-variants.{Leads, Refused as NoLead}
+use Rattle.dock.specs.declared.tell.Answered.the-variants.{Leads}
 use Rattle.dock.proofs.Merging.{in-share}
 
 -- ---- a job comes to its stage

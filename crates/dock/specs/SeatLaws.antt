@@ -2,15 +2,15 @@
 use mathlib.Core.Path.{_≡_, refl, sym, ap, _∙_}
 use mathlib.Core.Bool.{Bool, true, false, _&&_, _||_}
 use mathlib.Core.List.{List}
-use Prim.Native.Nat.{ℕ, _+_, _*_, _<_, _≤_}
+use Prim.Native.Nat.{ℕ, _+_, _*_, _<_}
 use native.Mathlib.Numerals.{add-one}
 use native.Mathlib.Omega.{arith}
 use lib.Dec.{leb, ltb, eqb}
 use lib.ListN.{length}
-use borrow.Author.Tests.{ltb-true, lt-ltb, eqb-true, leb-true, le-leb}
+use borrow.Author.Tests.{ltb-true, lt-ltb, le-leb}
 use Rattle.arithmetic.specs.Rounding.{pick}
 use Rattle.arithmetic.specs.Loops.{anyBelow}
-use Rattle.arithmetic.specs.declared.refusals.Refusal.the-variants.{Overlap, Full, Slot, NoAnswer}
+use Rattle.arithmetic.specs.declared.refusals.Refusal.the-variants.{Overlap, Full, NoAnswer}
 use Rattle.arithmetic.specs.declared.refusals.Outcome.{Outcome}
 use Rattle.arithmetic.specs.declared.refusals.Outcome.the-variants.{Done, Refused}
 use Rattle.arithmetic.specs.Settings.{openingOf}

@@ -1,23 +1,19 @@
 -- `dock::dock::Dock::begin` meets its contract: the loop finds whether the vector meets another; what the slot's begin leaves is stored where it is placed. Assumes nothing.
 use denote.Ref.{now}
-use mathlib.Core.Path.{_≡_, refl, ap, _∙_}
-use mathlib.Core.Bool.{Bool, true, false, _||_}
-use mathlib.Core.List.{List, [], _∷_}
+use mathlib.Core.Path.{_≡_, _∙_}
+use mathlib.Core.Bool.{_||_}
+use mathlib.Core.List.{[], _∷_}
 use mathlib.Core.Logic.{_≢_, ⊎-elim}
 use types.Run.{OneOf}
 use denote.Enum.Declared.{declared, tagOf}
-use Prim.Native.Nat.{ℕ, _+_, _-_, _<_, _≤_}
-use native.Mathlib.Numerals.{add-one}
+use Prim.Native.Nat.{ℕ, _-_, _<_, _≤_}
 use native.Mathlib.Omega.{arith}
 use lib.ListN.{length}
 use Rattle.arithmetic.specs.Loops.{anyBelow}
-use Rattle.vectors.specs.declared.vector.IoVector.{IoVector}
-use Rattle.stages.specs.declared.state.Job.{Job}
-use Rattle.stages.specs.declared.state.State.{State}
 use Rattle.dock.specs.declared.begin.Begun.{Begun}
 use Rattle.dock.specs.declared.begin.Begun.the-variants.{Done as NoRequest, Placed, Refused}
 use Rattle.dock.proofs.begin.Begun.{enum}
-use Rattle.dock.specs.Dock.{meetsAt, meetsItself, overlapsOf}
+use Rattle.dock.specs.Dock.{meetsAt, meetsItself}
 use Rattle.dock.specs.SeatLaws.{met-none, met-more, met-all}
 use Rattle.dock.proofs.Steps.{decided-in-share, admitted-slot, begin-placed, begin-unplaced}
 use borrow.Author.Needs.{needs}
