@@ -1,0 +1,3 @@
+-- What the proofs of images share.
+pub mod Signed
+pub mod Keeping

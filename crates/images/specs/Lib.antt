@@ -1,0 +1,3 @@
+-- What the contracts of images cite.
+pub mod Codes
+pub mod Carrying
