@@ -6,6 +6,7 @@ use crate::fleet::run_jobs;
 use crate::jobs::buffers;
 use crate::jobs::is_fit;
 use crate::jobs::is_script;
+use crate::jobs::shown;
 use crate::out::end;
 use crate::out::number;
 use crate::out::text;
@@ -19,6 +20,8 @@ use commands::lines::Flaw;
 use commands::lines::Line;
 use commands::lines::Verb;
 use commands::lines::job;
+use commands::numbers::Number;
+use commands::numbers::decimal;
 use images::file::code;
 use words::arrays;
 ghost use mathlib.Core.Path.{_≡_};
@@ -235,29 +238,52 @@ fn script_jobs(book: &mut [u64; 96], fd: i32, script: &[u8]) {
     finish(book, fd);
 }
 
-fn flawed(f: Flaw) {
+// A word of the command line is refused; it is shown as far as it is worth it.
+fn flawed(f: Flaw, word: &[u8]) {
     texts::refused(texts::flaw_number(f));
     texts::flaw(f);
+    text(b": ");
+    shown(word, 60);
     end();
+}
+
+// Which of the two words has the flaw.
+fn bad_words(f: Flaw, offset: &[u8], last: &[u8]) {
+    match f {
+        Flaw::Offset(_) => flawed(f, offset),
+        _ => flawed(f, last),
+    }
 }
 
 // OFFSET, and LENGTH or HEXBYTES.
 fn command_words(book: &mut [u64; 96], fd: i32, verb: Verb, offset: &[u8], last: &[u8]) {
     match job(verb, offset, last, 0) {
         Line::Job(e) => command_job(book, fd, e, last),
-        Line::Bad(f) => flawed(f),
+        Line::Bad(f) => bad_words(f, offset, last),
         Line::Blank => {}
     }
 }
 
-// A look or an edit. An argument that is too long for its place is none that can be read as a number, or too many bytes.
+// An OFFSET of more than 64 bytes, by its start.
+fn long_offset(start: &[u8]) {
+    match decimal(start) {
+        Number::NotDecimal => flawed(Flaw::Offset(Number::NotDecimal), start),
+        _ => flawed(Flaw::Offset(Number::Large), start),
+    }
+}
+
+// A look or an edit. A LENGTH or HEXBYTES too long for its place is that of too many bytes.
 fn single(book: &mut [u64; 96], fd: i32, verb: Verb) {
     let mut offset = [0u8; 64];
     let k = os::arg(get(book, book::SECOND) as usize, &mut offset);
+    if os::errno() == libc::ENAMETOOLONG {
+        long_offset(&offset);
+        return;
+    }
     let mut last = io::large_buffer();
     let n = os::arg(get(book, book::THIRD) as usize, &mut last);
     if os::errno() == libc::ENAMETOOLONG {
-        flawed(Flaw::Long);
+        flawed(Flaw::Long, &last);
         return;
     }
     command_words(book, fd, verb, &offset[..k], &last[..n]);

@@ -13,6 +13,7 @@ use crate::jobs::next_line;
 use crate::out;
 use crate::report;
 use arithmetic::offsets::LARGEST;
+use arithmetic::refusals::Refusal;
 use commands::lines::Entry;
 use commands::lines::Line;
 use commands::lines::Verb;
@@ -30,8 +31,16 @@ use images::file::magnitude;
 use stages::state::Kind;
 use stages::state::Request;
 use words::arrays;
-ghost use Prim.Native.Nat.{_≤_};
+ghost use mathlib.Core.Bool.{true};
+ghost use mathlib.Core.List.{List};
+ghost use mathlib.Core.Path.{_≡_};
+ghost use Prim.Native.Nat.{ℕ, _≤_};
 ghost use lib.ListN.{length};
+ghost use Rattle.arithmetic.specs.declared.refusals.Refusal.the-variants.{Slot};
+ghost use Rattle.dock.specs.declared.next.Due.the-variants.{Refused};
+ghost use Rattle.dock.specs.Next.{nextOf};
+ghost use Rattle.words.specs.View.{dockOf};
+ghost use Rattle.service.specs.Runs.{PartKept, RanWords};
 
 // Where the next line of the script starts, the number of the last one, and whether nothing is left to do.
 pub(crate) struct Place {
@@ -159,7 +168,9 @@ fn ended(book: &mut [u64; 96], line: u64, e: Entry, t: Tally, code: u8, bytes: &
 }
 
 // The bytes of a write, from its hex digits, come to the slot's part of the data, and to no other.
-fn put_bytes(digits: &[u8], slot: usize, data: &mut [u8]) {
+fn put_bytes(digits: &[u8], slot: usize, data: &mut [u8])
+    ensures { λ r. ⌜ PartKept slot (now («data» .entry)) (now («data» .exit)) ⌝ }
+{
     if 8 <= slot {
         return;
     }
@@ -167,6 +178,35 @@ fn put_bytes(digits: &[u8], slot: usize, data: &mut [u8]) {
     let e = a + PART;
     if e <= data.len() {
         put_hex(digits, &mut data[a..e]);
+    }
+}
+
+// Whether the dock has no job in `slot`.
+fn is_free(
+    settings: &[u64; 9],
+    blockers: &[u64; 88],
+    states: &[u64; 144],
+    vectors: &[u64; 272],
+    slot: usize,
+    data_len: usize,
+    scratch_len: usize,
+) -> bool
+    ensures { λ r. ⌜ (r ≡ true → nextOf (dockOf (now (settings .entry)) (now (blockers .entry)) (now (states .entry)) (now (vectors .entry))) slot data_len «scratch_len» ≡ Refused Slot) ⌝ }
+{
+    let Due::Refused(r) = arrays::next(
+        settings,
+        blockers,
+        states,
+        vectors,
+        slot,
+        data_len,
+        scratch_len,
+    ) else {
+        return false;
+    };
+    match r {
+        Refusal::Slot => true,
+        _ => false,
     }
 }
 
@@ -181,7 +221,15 @@ fn begin_in(
     digits: &[u8],
     data: &mut [u8],
     scratch: &mut [u8],
-) -> Begun {
+) -> Begun
+    ensures { λ r. ⌜ RanWords (now (settings .entry)) (now (blockers .entry)) (now (states .entry)) (now (vectors .entry)) (now («data» .entry)) (now (scratch .entry))
+        (now (blockers .exit)) (now (states .exit)) (now (vectors .exit)) (now («data» .exit)) (now (scratch .exit)) ⌝ }
+{
+    let m = data.len();
+    let n = scratch.len();
+    if !is_free(settings, blockers, states, vectors, slot, m, n) {
+        return Begun::Refused(Refusal::Full);
+    }
     put_bytes(digits, slot, data);
     arrays::begin(
         settings,
@@ -225,7 +273,10 @@ pub(crate) fn begin_job(
     digits: &[u8],
     data: &mut [u8],
     scratch: &mut [u8],
-) {
+)
+    ensures { λ r. ⌜ RanWords (now (settings .entry)) (now (blockers .entry)) (now (states .entry)) (now (vectors .entry)) (now («data» .entry)) (now (scratch .entry))
+        (now (blockers .exit)) (now (states .exit)) (now (vectors .exit)) (now («data» .exit)) (now (scratch .exit)) ⌝ }
+{
     let begun = begin_in(
         settings,
         blockers,
@@ -323,9 +374,7 @@ fn progress(book: &mut [u64; 96], slot: usize, q: Request) {
 fn note_carried(book: &mut [u64; 96], slot: usize, q: Request, code: u8) {
     let plan = is_set(book, PLAN);
     book::charge(book, slot, cost(q, code));
-    if !plan {
-        progress(book, slot, q);
-    }
+    progress(book, slot, q);
     if is_set(book, TRACE) {
         report::request(book::line(book, slot), q, code, plan);
     }
@@ -350,7 +399,10 @@ fn collect_job(
     slot: usize,
     data: &[u8],
     scratch_len: usize,
-) {
+)
+    ensures { λ r. ⌜ ((s : List ℕ) → length s ≡ «scratch_len» → RanWords (now (settings .entry)) (now (blockers .entry)) (now (states .entry)) (now (vectors .entry)) (now («data» .entry)) s
+        (now (blockers .entry)) (now (states .exit)) (now (vectors .exit)) (now («data» .entry)) s) ⌝ }
+{
     let n = data.len();
     let taken = arrays::collect(settings, blockers, states, vectors, slot, n, scratch_len);
     if let Collected::Final(code) = taken {
@@ -368,7 +420,10 @@ fn settle(
     slot: usize,
     data: &[u8],
     scratch_len: usize,
-) {
+)
+    ensures { λ r. ⌜ ((s : List ℕ) → length s ≡ «scratch_len» → RanWords (now (settings .entry)) (now (blockers .entry)) (now (states .entry)) (now (vectors .entry)) (now («data» .entry)) s
+        (now (blockers .entry)) (now (states .exit)) (now (vectors .exit)) (now («data» .entry)) s) ⌝ }
+{
     let n = data.len();
     if is_set(book, TRACE) {
         waiting(settings, blockers, states, vectors, book, n, scratch_len);
@@ -398,7 +453,10 @@ fn serve(
     slot: usize,
     data: &mut [u8],
     scratch: &mut [u8],
-) {
+)
+    ensures { λ r. ⌜ RanWords (now (settings .entry)) (now (blockers .entry)) (now (states .entry)) (now (vectors .entry)) (now («data» .entry)) (now (scratch .entry))
+        (now (blockers .exit)) (now (states .exit)) (now (vectors .exit)) (now («data» .exit)) (now (scratch .exit)) ⌝ }
+{
     let plan = is_set(book, PLAN);
     let done = attend(
         fd,
@@ -479,7 +537,10 @@ fn begin_line(
     slot: usize,
     data: &mut [u8],
     scratch: &mut [u8],
-) {
+)
+    ensures { λ r. ⌜ RanWords (now (settings .entry)) (now (blockers .entry)) (now (states .entry)) (now (vectors .entry)) (now («data» .entry)) (now (scratch .entry))
+        (now (blockers .exit)) (now (states .exit)) (now (vectors .exit)) (now («data» .exit)) (now (scratch .exit)) ⌝ }
+{
     let Line::Job(e) = parse(bytes) else {
         return;
     };
@@ -513,6 +574,8 @@ fn begin_next(
     scratch: &mut [u8],
 ) -> Place
     requires { ⌜ p .at ≤ length (now text) ⌝ }
+    ensures { λ r. ⌜ RanWords (now (settings .entry)) (now (blockers .entry)) (now (states .entry)) (now (vectors .entry)) (now («data» .entry)) (now (scratch .entry))
+        (now (blockers .exit)) (now (states .exit)) (now (vectors .exit)) (now («data» .exit)) (now (scratch .exit)) ⌝ }
 {
     let at = p.at;
     let end = line_end(text, at);
@@ -561,7 +624,10 @@ fn serve_next(
     book: &mut [u64; 96],
     data: &mut [u8],
     scratch: &mut [u8],
-) -> Place {
+) -> Place
+    ensures { λ r. ⌜ RanWords (now (settings .entry)) (now (blockers .entry)) (now (states .entry)) (now (vectors .entry)) (now («data» .entry)) (now (scratch .entry))
+        (now (blockers .exit)) (now (states .exit)) (now (vectors .exit)) (now («data» .exit)) (now (scratch .exit)) ⌝ }
+{
     let slot = whose_turn(book);
     if 8 <= slot {
         return over(p, n, book);
@@ -592,7 +658,10 @@ fn step(
     book: &mut [u64; 96],
     data: &mut [u8],
     scratch: &mut [u8],
-) -> Place {
+) -> Place
+    ensures { λ r. ⌜ RanWords (now (settings .entry)) (now (blockers .entry)) (now (states .entry)) (now (vectors .entry)) (now («data» .entry)) (now (scratch .entry))
+        (now (blockers .exit)) (now (states .exit)) (now (vectors .exit)) (now («data» .exit)) (now (scratch .exit)) ⌝ }
+{
     let n = text.len();
     let free = book::lowest_free(book);
     if p.at < n {
@@ -637,7 +706,10 @@ pub(crate) fn run_jobs(
     book: &mut [u64; 96],
     data: &mut [u8],
     scratch: &mut [u8],
-) {
+)
+    ensures { λ r. ⌜ RanWords (now (settings .entry)) (now (blockers .entry)) (now (states .entry)) (now (vectors .entry)) (now («data» .entry)) (now (scratch .entry))
+        (now (blockers .exit)) (now (states .exit)) (now (vectors .exit)) (now («data» .exit)) (now (scratch .exit)) ⌝ }
+{
     let mut p = Place {
         at: from,
         line: 0,

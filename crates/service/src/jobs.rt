@@ -24,6 +24,7 @@ use vectors::vector::IoVector;
 use vectors::vector::Segment;
 ghost use Prim.Native.Nat.{_≤_};
 ghost use lib.ListN.{length};
+ghost use Rattle.service.specs.Runs.{InPart};
 
 // Each slot has a part of the data of its own, as long as the longest read or write.
 pub(crate) const PART: usize = 32768;
@@ -45,10 +46,15 @@ pub(crate) fn buffers() -> Buffers {
     Buffers { data, scratch }
 }
 
-// The vector of n bytes at the start of a slot's part of the data; none past slot 7.
-fn vector_of(slot: usize, n: u64) -> IoVector {
+// The vector of n bytes at the start of a slot's part of the data; of none past slot 7, or where they do not fit the part.
+fn vector_of(slot: usize, n: u64) -> IoVector
+    ensures { λ v. ⌜ InPart slot v ⌝ }
+{
     let v = IoVector::new();
     if n == 0 {
+        return v;
+    }
+    if 32768 < n {
         return v;
     }
     if 8 <= slot {
@@ -63,7 +69,9 @@ fn vector_of(slot: usize, n: u64) -> IoVector {
 }
 
 // What the dock is asked for a job in a slot.
-pub(crate) fn asked(e: Entry, slot: usize) -> Asked {
+pub(crate) fn asked(e: Entry, slot: usize) -> Asked
+    ensures { λ a. ⌜ InPart slot (a .vector) ⌝ }
+{
     let offset = StoreOffset(e.offset);
     let v = e.verb;
     match v {
@@ -114,7 +122,7 @@ pub(crate) fn is_fit(e: Entry, line: u64, s: Settings) -> bool {
 }
 
 // The start of a line, as far as it is worth showing.
-fn shown(line: &[u8], most: usize) {
+pub(crate) fn shown(line: &[u8], most: usize) {
     if line.len() <= most {
         text(line);
         return;

@@ -1,0 +1,2 @@
+-- What the proofs of service share.
+pub mod Running

@@ -1,0 +1,2 @@
+-- What the contracts of service cite.
+pub mod Runs
