@@ -1,19 +1,38 @@
--- What a lent part of the data leaves of the rest, and the events of a run. Assumes nothing.
+-- What a lent part of the data leaves of the rest, the events of a run, and the lowest slot that `next` finds free. Assumes nothing.
+use mathlib.Core.Bool.{Bool, true, false}
 use mathlib.Core.List.{List, [], _∷_, _++_}
 use mathlib.Core.Logic.{⊎-elim}
 use mathlib.Core.Path.{_≡_, refl, ap, _∙_}
-use Prim.Native.Nat.{ℕ, _+_, _*_, _-_, _≤_}
+use Prim.Native.Nat.{ℕ, zero, suc, _+_, _*_, _-_, _≤_, _<_}
 use native.Mathlib.Omega.{arith}
-use lib.ListN.{length}
+use lib.ListN.{length, getD}
+use types.Run.{OneOf, miss}
+use denote.Enum.Declared.{declared, tagOf}
+use borrow.Author.Tests.{lt-ltb}
 use borrow.Rule.Slice.PartMut.{midOf, putMid, mid-len, take-put, drop-put}
+use Rattle.arithmetic.specs.Rounding.{pick}
+use Rattle.arithmetic.proofs.refusals.Refusal.{enum as refusal}
+use Rattle.arithmetic.specs.declared.refusals.Refusal.{Refusal}
+use Rattle.arithmetic.specs.declared.refusals.Refusal.the-variants.{Buffer, Slot}
 use Rattle.vectors.specs.declared.vector.Segment.{Segment}
 use Rattle.vectors.specs.declared.vector.IoVector.{IoVector}
 use Rattle.vectors.specs.declared.vector.Changed.{Changed}
-use Rattle.vectors.specs.Vectors.{vectorOf, segmentsOf, refusedVector, pushOf}
+use Rattle.vectors.specs.Vectors.{vectorOf, segmentsOf, pushOf}
 use Rattle.vectors.specs.SegmentLaws.{segments-of}
 use Rattle.vectors.specs.EditLaws.{pushed}
+use Rattle.blockers.specs.Blockers.{waitsOf}
+use Rattle.stages.specs.Stages.{isFree, hasEnded, requestOf}
+use Rattle.stages.specs.declared.state.Request.{Request}
+use Rattle.stages.specs.declared.state.State.{State}
 use Rattle.dock.specs.declared.dock.Dock.{Dock}
+use Rattle.dock.proofs.next.Due.{enum as due}
+use Rattle.dock.specs.declared.next.Due.{Due}
+use Rattle.dock.specs.declared.next.Due.the-variants.{Waiting, Make, Answer, Refused}
+use Rattle.dock.specs.Dock.{noState, stateAt, vectorAt, lentFits, firstFree}
+use Rattle.dock.specs.Next.{nextOf}
 use Rattle.dock.specs.Tell.{collectOf}
+use Rattle.words.specs.Rows.{rows-length}
+use Rattle.words.specs.View.{stateOf, statesOf}
 use Rattle.images.specs.Carrying.{Idles}
 use Rattle.service.specs.Runs.{held, PartKept, InPart, empty, one, collect, Ran, none, once}
 
@@ -45,3 +64,54 @@ in-pushed slot n m {v} {c} h e p =
     (λ q. one h (ap (λ (z : Changed). segmentsOf (z .vector)) p ∙ q .segments ∙ ap (λ (l : List Segment). l ++ (record { start = slot * 32768; length = n } ∷ [])) (ap segmentsOf e ∙ segments-of [])))
     (λ q. in-none slot (ap (λ (z : Changed). z .vector) (p ∙ q) ∙ e))
     (pushed m v (record { start = slot * 32768; length = n }))
+
+-- ---- the lowest free slot
+
+-- what is no refusal does not refuse the slot
+pub unrefused : (x : Due) → OneOf (0 ∷ 1 ∷ 2 ∷ []) (tagOf (declared due) x) → x ≡ Refused Slot → ⊥
+unrefused x h e = miss (0 ∷ 1 ∷ 2 ∷ []) 3 tt (rw e at h)
+
+-- nor does any other refusal
+pub other : (r : Refusal) → OneOf (0 ∷ 1 ∷ 2 ∷ 3 ∷ 4 ∷ 5 ∷ 6 ∷ 8 ∷ 9 ∷ []) (tagOf (declared refusal) r) → Refused r ≡ Refused Slot → ⊥
+other r h e =
+    let s : r ≡ Slot = cc in
+    miss (0 ∷ 1 ∷ 2 ∷ 3 ∷ 4 ∷ 5 ∷ 6 ∷ 8 ∷ 9 ∷ []) 7 tt (rw s at h)
+
+-- where the lengths are those of the opening, `next` refuses one of the eight slots exactly if it is free; where they are not, none for being free
+module _ (d : Dock) (p m n : ℕ) (h : p < 8) where
+  pub slot-free : nextOf d p m n ≡ Refused Slot → (lentFits (d .buffers) m n ≡ true) × (isFree (stateAt d p .phase) ≡ true)
+  unfolding nextOf
+  slot-free e = go (lentFits (d .buffers) m n) (isFree (stateAt d p .phase)) (hasEnded (stateAt d p .phase)) (waitsOf p (d .blockers)) (stateAt d p .answer) (requestOf (stateAt d p) (vectorAt d p .count)) (rw (lt-ltb p 8 h) at e)
+    where
+      go : (l f g w : Bool) (a : ℕ) (q : Request) → pick l (pick f (Refused Slot) (pick g (Answer a) (pick w Waiting (Make q)))) (Refused Buffer) ≡ Refused Slot → (l ≡ true) × (f ≡ true)
+      go true true g w a q e = (refl, refl)
+      go true false true w a q e = let z : _≡_ {A = ℕ} 0 1 = cc in absurd (omega arith)
+      go true false false true a q e = let z : _≡_ {A = ℕ} 0 1 = cc in absurd (omega arith)
+      go true false false false a q e = let z : _≡_ {A = ℕ} 0 1 = cc in absurd (omega arith)
+      go false f g w a q e = let z : _≡_ {A = ℕ} 0 1 = cc in absurd (omega arith)
+
+  pub free-slot : lentFits (d .buffers) m n ≡ true → isFree (stateAt d p .phase) ≡ true → nextOf d p m n ≡ Refused Slot
+  unfolding nextOf
+  free-slot l f = rw (l, lt-ltb p 8 h, f)
+
+-- the first of a list that is free
+pub first-at : (xs : List State) (r : ℕ) → r < length xs → isFree (getD xs r noState .phase) ≡ true
+    → ((k : ℕ) → k < r → isFree (getD xs k noState .phase) ≡ false) → r ≡ firstFree xs
+unfolding firstFree
+first-at [] r h e f = absurd (omega arith)
+first-at (x ∷ xs) zero h e f = simp e
+first-at (x ∷ xs) (suc r) h e f = simp (f 0 (omega arith)) (omega (arith, first-at xs r (omega arith) e (λ k l. f (suc k) (omega arith))))
+
+-- the first of the eight slots that `next` refuses for being free is the lowest free one
+pub first-refused : (d : Dock) (m n r : ℕ) → length (d .states) ≡ 8 → r < 8 → nextOf d r m n ≡ Refused Slot
+    → ((k : ℕ) → k < r → nextOf d k m n ≡ Refused Slot → ⊥) → r ≡ firstFree (d .states)
+first-refused d m n r l h e f =
+    first-at (d .states) r (omega arith) (slot-free d r m n h e .1) (λ k i. taken (isFree (stateAt d k .phase)) (λ t. f k i (free-slot d k m n (omega arith) (slot-free d r m n h e .0) t)))
+  where
+    taken : (t : Bool) → (t ≡ true → ⊥) → t ≡ false
+    taken true g = absurd (g refl)
+    taken false g = refl
+
+-- a dock in words has eight states
+pub eight : (w : List ℕ) → length (statesOf w) ≡ 8
+eight w = rows-length stateOf 18 8 w

@@ -102,7 +102,6 @@ fn run_single(
         vectors,
         book,
         0,
-        0,
         e,
         text,
         &mut data,

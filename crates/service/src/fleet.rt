@@ -31,13 +31,14 @@ use images::file::magnitude;
 use stages::state::Kind;
 use stages::state::Request;
 use words::arrays;
-ghost use mathlib.Core.Bool.{true};
+ghost use mathlib.Core.Bool.{true, false};
 ghost use mathlib.Core.List.{List};
 ghost use mathlib.Core.Path.{_≡_};
-ghost use Prim.Native.Nat.{ℕ, _≤_};
+ghost use Prim.Native.Nat.{ℕ, _≤_, _<_};
 ghost use lib.ListN.{length};
 ghost use Rattle.arithmetic.specs.declared.refusals.Refusal.the-variants.{Slot};
 ghost use Rattle.dock.specs.declared.next.Due.the-variants.{Refused};
+ghost use Rattle.dock.specs.Dock.{firstFree};
 ghost use Rattle.dock.specs.Next.{nextOf};
 ghost use Rattle.words.specs.View.{dockOf};
 ghost use Rattle.service.specs.Runs.{PartKept, RanWords};
@@ -191,7 +192,8 @@ fn is_free(
     data_len: usize,
     scratch_len: usize,
 ) -> bool
-    ensures { λ r. ⌜ (r ≡ true → nextOf (dockOf (now (settings .entry)) (now (blockers .entry)) (now (states .entry)) (now (vectors .entry))) slot data_len «scratch_len» ≡ Refused Slot) ⌝ }
+    ensures free { λ r. ⌜ (r ≡ true → nextOf (dockOf (now (settings .entry)) (now (blockers .entry)) (now (states .entry)) (now (vectors .entry))) slot data_len «scratch_len» ≡ Refused Slot) ⌝ }
+    ensures taken { λ r. ⌜ (r ≡ false → nextOf (dockOf (now (settings .entry)) (now (blockers .entry)) (now (states .entry)) (now (vectors .entry))) slot data_len «scratch_len» ≡ Refused Slot → ⊥) ⌝ }
 {
     let Due::Refused(r) = arrays::next(
         settings,
@@ -210,13 +212,41 @@ fn is_free(
     }
 }
 
-// A job is begun in `slot`, the lowest free one. The digits are those of a write; other jobs have none.
+// The lowest slot in which the dock has no job; 8 where there is none, or the lengths are not those of its opening.
+fn lowest_free(
+    settings: &[u64; 9],
+    blockers: &[u64; 88],
+    states: &[u64; 144],
+    vectors: &[u64; 272],
+    data_len: usize,
+    scratch_len: usize,
+) -> usize
+    ensures { λ r. ⌜ (r < 8 → r ≡ firstFree (dockOf (now (settings .entry)) (now (blockers .entry)) (now (states .entry)) (now (vectors .entry)) .states)) ⌝ }
+{
+    let mut i = 0usize;
+    while i < 8 {
+        if is_free(
+            settings,
+            blockers,
+            states,
+            vectors,
+            i,
+            data_len,
+            scratch_len,
+        ) {
+            return i;
+        }
+        i += 1;
+    }
+    8
+}
+
+// A job is begun in the dock's lowest free slot. The digits are those of a write; other jobs have none.
 fn begin_in(
     settings: &[u64; 9],
     blockers: &mut [u64; 88],
     states: &mut [u64; 144],
     vectors: &mut [u64; 272],
-    slot: usize,
     e: Entry,
     digits: &[u8],
     data: &mut [u8],
@@ -227,7 +257,8 @@ fn begin_in(
 {
     let m = data.len();
     let n = scratch.len();
-    if !is_free(settings, blockers, states, vectors, slot, m, n) {
+    let slot = lowest_free(settings, blockers, states, vectors, m, n);
+    if 8 <= slot {
         return Begun::Refused(Refusal::Full);
     }
     put_bytes(digits, slot, data);
@@ -267,7 +298,6 @@ pub(crate) fn begin_job(
     states: &mut [u64; 144],
     vectors: &mut [u64; 272],
     book: &mut [u64; 96],
-    slot: usize,
     line: u64,
     e: Entry,
     digits: &[u8],
@@ -282,7 +312,6 @@ pub(crate) fn begin_job(
         blockers,
         states,
         vectors,
-        slot,
         e,
         digits,
         data,
@@ -525,7 +554,7 @@ fn digits_of(line: &[u8], e: Entry) -> &[u8] {
     &line[a..end]
 }
 
-// A line of the script is begun in `slot`, if it is a job.
+// A line of the script is begun, if it is a job.
 fn begin_line(
     line: u64,
     bytes: &[u8],
@@ -534,7 +563,6 @@ fn begin_line(
     states: &mut [u64; 144],
     vectors: &mut [u64; 272],
     book: &mut [u64; 96],
-    slot: usize,
     data: &mut [u8],
     scratch: &mut [u8],
 )
@@ -551,7 +579,6 @@ fn begin_line(
         states,
         vectors,
         book,
-        slot,
         line,
         e,
         digits,
@@ -560,7 +587,7 @@ fn begin_line(
     );
 }
 
-// The next line of the script is begun, in `slot`.
+// The next line of the script is begun.
 fn begin_next(
     p: Place,
     text: &[u8],
@@ -569,7 +596,6 @@ fn begin_next(
     states: &mut [u64; 144],
     vectors: &mut [u64; 272],
     book: &mut [u64; 96],
-    slot: usize,
     data: &mut [u8],
     scratch: &mut [u8],
 ) -> Place
@@ -589,7 +615,6 @@ fn begin_next(
         states,
         vectors,
         book,
-        slot,
         data,
         scratch,
     );
@@ -674,7 +699,6 @@ fn step(
                 states,
                 vectors,
                 book,
-                free,
                 data,
                 scratch,
             );
