@@ -2,7 +2,7 @@
 use mathlib.Core.List.{List}
 use mathlib.Core.Logic.{_⊎_}
 use mathlib.Core.Path.{_≡_}
-use Prim.Native.Nat.{ℕ, _+_, _*_, _/_, _%_, _<_, _≤_}
+use Prim.Native.Nat.{ℕ, _+_, _/_, _%_, _<_, _≤_}
 use lib.ListN.{getD}
 use Rattle.commands.specs.declared.options.Order.{Order}
 use Rattle.commands.specs.declared.options.Order.the-variants.{FirstDue, RoundRobin, Seed, Unknown}

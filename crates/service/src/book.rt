@@ -52,7 +52,7 @@ pub(crate) const UNBEGUN: usize = 18; // the first line that was not begun, wher
 
 const TOTAL: usize = 19; // the costs of all jobs, in three words
 
-// The words of a slot. The first is 0 in a free one.
+// The words of a slot, which count while it has a job.
 const VERB: usize = 0;
 
 const LINE: usize = 1;
@@ -158,10 +158,6 @@ fn verb_of(n: u64) -> Verb {
     }
 }
 
-fn is_busy(book: &[u64; 96], slot: usize) -> bool {
-    word(book, slot, VERB) != 0
-}
-
 // A job comes to a slot; it has cost nothing yet.
 pub(crate) fn enter(book: &mut [u64; 96], slot: usize, line: u64, e: Entry) {
     let v = e.verb;
@@ -176,11 +172,6 @@ fn clear(book: &mut [u64; 96], slot: usize) {
     set_word(book, slot, REQUESTS, 0);
     set_word(book, slot, READ, 0);
     set_word(book, slot, WRITTEN, 0);
-}
-
-// The slot is free again.
-pub(crate) fn leave(book: &mut [u64; 96], slot: usize) {
-    set_word(book, slot, VERB, 0);
 }
 
 // The job in a slot.
@@ -248,16 +239,4 @@ pub(crate) fn fail(book: &mut [u64; 96], line: u64, code: u64) {
         set(book, FAILURE, code);
         set(book, FAILED_LINE, line);
     }
-}
-
-// The lowest free slot; 8 where none is.
-pub(crate) fn lowest_free(book: &[u64; 96]) -> usize {
-    let mut i = 0usize;
-    while i < 8 {
-        if !is_busy(book, i) {
-            return i;
-        }
-        i += 1;
-    }
-    8
 }

@@ -15,6 +15,7 @@ use crate::setup::command_line;
 use crate::texts;
 use arithmetic::refusals::Outcome;
 use arithmetic::refusals::Refusal;
+use arithmetic::settings::Settings;
 use commands::lines::Entry;
 use commands::lines::Flaw;
 use commands::lines::Line;
@@ -82,19 +83,28 @@ fn finish(book: &[u64; 96], fd: i32) {
     report::last_line(book, synced);
 }
 
-// The job of the command line, whose hex digits the text is.
-fn run_single(
-    fd: i32,
-    e: Entry,
+// What is run: one job, whose hex digits the text is, or the jobs of the lines of the text.
+struct Source {
+    single: bool,
+    entry: Entry,
+}
+
+// The one job of a source is begun, if it is one; where the lines start that are left.
+fn begin_source(
+    source: Source,
     text: &[u8],
     settings: &[u64; 9],
     blockers: &mut [u64; 88],
     states: &mut [u64; 144],
     vectors: &mut [u64; 272],
     book: &mut [u64; 96],
-) {
-    let mut data = data_bytes();
-    let mut scratch = scratch_bytes();
+    data: &mut [u8],
+    scratch: &mut [u8],
+) -> usize {
+    let e = source.entry;
+    if !source.single {
+        return 0;
+    }
     begin_job(
         settings,
         blockers,
@@ -104,46 +114,47 @@ fn run_single(
         0,
         e,
         text,
-        &mut data,
-        &mut scratch,
+        data,
+        scratch,
     );
-    run_jobs(
-        fd,
-        text.len(),
-        text,
-        settings,
-        blockers,
-        states,
-        vectors,
-        book,
-        &mut data,
-        &mut scratch,
-    );
+    text.len()
 }
 
-// The jobs of a script.
-fn run_script(
+// The jobs of a source are begun and served.
+fn run_source(
     fd: i32,
+    source: Source,
     text: &[u8],
     settings: &[u64; 9],
     blockers: &mut [u64; 88],
     states: &mut [u64; 144],
     vectors: &mut [u64; 272],
     book: &mut [u64; 96],
+    data: &mut [u8],
+    scratch: &mut [u8],
 ) {
-    let mut data = data_bytes();
-    let mut scratch = scratch_bytes();
-    run_jobs(
-        fd,
-        0,
+    let from = begin_source(
+        source,
         text,
         settings,
         blockers,
         states,
         vectors,
         book,
-        &mut data,
-        &mut scratch,
+        data,
+        scratch,
+    );
+    run_jobs(
+        fd,
+        from,
+        text,
+        settings,
+        blockers,
+        states,
+        vectors,
+        book,
+        data,
+        scratch,
     );
 }
 
@@ -176,8 +187,17 @@ fn open_dock(
     false
 }
 
-// A job of the command line: looked over, run and told of.
-fn command_job(book: &mut [u64; 96], fd: i32, e: Entry, digits: &[u8]) {
+// Whether every job of a source may be run.
+fn is_fit_source(source: Source, text: &[u8], s: Settings) -> bool {
+    let e = source.entry;
+    if source.single {
+        return is_fit(e, 0, s);
+    }
+    is_script(text, s)
+}
+
+// A source: looked over, run and told of.
+fn run_on_dock(book: &mut [u64; 96], fd: i32, source: Source, text: &[u8]) {
     let mut settings = [0u64; 9];
     let mut blockers = [0u64; 88];
     let mut states = [0u64; 144];
@@ -191,50 +211,48 @@ fn command_job(book: &mut [u64; 96], fd: i32, e: Entry, digits: &[u8]) {
     ) {
         return;
     }
-    if !is_fit(e, 0, arrays::settings_of(&settings)) {
+    if !is_fit_source(source, text, arrays::settings_of(&settings)) {
         return;
     }
-    run_single(
+    let mut data = data_bytes();
+    let mut scratch = scratch_bytes();
+    run_source(
         fd,
-        e,
-        digits,
+        source,
+        text,
         &settings,
         &mut blockers,
         &mut states,
         &mut vectors,
         book,
+        &mut data,
+        &mut scratch,
     );
     finish(book, fd);
 }
 
-// The jobs of a script: looked over, run and told of.
+// A job of the command line.
+fn command_job(book: &mut [u64; 96], fd: i32, e: Entry, digits: &[u8]) {
+    let source = Source {
+        single: true,
+        entry: e,
+    };
+    run_on_dock(book, fd, source, digits);
+}
+
+// The jobs of a script, which has no single one.
 fn script_jobs(book: &mut [u64; 96], fd: i32, script: &[u8]) {
-    let mut settings = [0u64; 9];
-    let mut blockers = [0u64; 88];
-    let mut states = [0u64; 144];
-    let mut vectors = [0u64; 272];
-    if !open_dock(
-        book,
-        &mut settings,
-        &mut blockers,
-        &mut states,
-        &mut vectors,
-    ) {
-        return;
-    }
-    if !is_script(script, arrays::settings_of(&settings)) {
-        return;
-    }
-    run_script(
-        fd,
-        script,
-        &settings,
-        &mut blockers,
-        &mut states,
-        &mut vectors,
-        book,
-    );
-    finish(book, fd);
+    let entry = Entry {
+        verb: Verb::Read,
+        offset: 0,
+        length: 0,
+        start: 0,
+    };
+    let source = Source {
+        single: false,
+        entry,
+    };
+    run_on_dock(book, fd, source, script);
 }
 
 // A word of the command line is refused; it is shown as far as it is worth it.

@@ -414,7 +414,6 @@ fn note_collected(book: &mut [u64; 96], slot: usize, code: u8, data: &[u8]) {
     let e = book::entry(book, slot);
     let t = book::cost_of(book, slot);
     let line = book::line(book, slot);
-    book::leave(book, slot);
     ended(book, line, e, t, code, part(data, slot, e.length));
 }
 
@@ -688,7 +687,14 @@ fn step(
         (now (blockers .exit)) (now (states .exit)) (now (vectors .exit)) (now («data» .exit)) (now (scratch .exit)) ⌝ }
 {
     let n = text.len();
-    let free = book::lowest_free(book);
+    let free = lowest_free(
+        settings,
+        blockers,
+        states,
+        vectors,
+        data.len(),
+        scratch.len(),
+    );
     if p.at < n {
         if (free < 8) & !is_set(book, book::FAILURE) {
             return begin_next(
