@@ -38,7 +38,6 @@ use arithmetic::refusals::Outcome;
 use arithmetic::settings::Buffers;
 use arithmetic::settings::Lent;
 use dock::begin::Asked;
-use dock::begin::Beginning;
 use dock::dock::Dock;
 use dock::next::Due;
 use dock::open::Opened;
@@ -82,7 +81,7 @@ fn opened(o: Opened, marks: &mut [u64]) -> Dock {
 }
 
 // The vector of the first so many segments of an event, up to the first that is refused.
-fn asked(e: Event, segments: usize, data_len: usize) -> Changed {
+fn vector_of(e: Event, segments: usize, data_len: usize) -> Changed {
     let mut changed = Changed {
         vector: IoVector::new(),
         outcome: Outcome::Done,
@@ -100,40 +99,41 @@ fn asked(e: Event, segments: usize, data_len: usize) -> Changed {
     changed
 }
 
-fn ended(b: Beginning) -> Dock {
-    let answer = b.answer;
-    trace::begun(answer);
-    b.dock
+// How many segments an event has: a read or a write, two numbers for each after the offset.
+fn segments(e: Event) -> usize {
+    let verb = e.verb;
+    match verb {
+        Verb::Read | Verb::Write => e.count / 2,
+        _ => 0,
+    }
 }
 
-// Begins a read or a write; a vector that is refused begins none.
-fn begin_vector(dock: Dock, e: Event, data: &[u8], scratch: &mut [u8]) -> Dock {
-    let v = asked(e, e.count / 2, data.len());
+// What an event asks the dock for. Where it is none that begins a job, it is not looked at.
+fn asked(e: Event, vector: IoVector) -> Asked {
+    let verb = e.verb;
+    let offset = StoreOffset(e.number(0));
+    let n = e.number(1);
+    match verb {
+        Verb::Read => Asked::read(offset, vector),
+        Verb::Write => Asked::write(offset, vector),
+        Verb::Alloc => Asked::zeroes(true, offset, n),
+        Verb::Discard => Asked::discard(offset, n),
+        _ => Asked::zeroes(false, offset, n),
+    }
+}
+
+// Begins a job; a vector that is refused begins none.
+fn begin(dock: Dock, e: Event, data: &[u8], scratch: &mut [u8]) -> Dock {
+    let v = vector_of(e, segments(e), data.len());
     let fit = v.outcome;
     if let Outcome::Refused(r) = fit {
         trace::refused(r);
         return dock;
     }
-    let vector = v.vector;
-    let offset = StoreOffset(e.number(0));
-    let verb = e.verb;
-    match verb {
-        Verb::Read => ended(dock.begin(Asked::read(offset, vector), data, scratch)),
-        _ => ended(dock.begin(Asked::write(offset, vector), data, scratch)),
-    }
-}
-
-fn begin(dock: Dock, e: Event, data: &[u8], scratch: &mut [u8]) -> Dock {
-    let verb = e.verb;
-    let offset = StoreOffset(e.number(0));
-    let n = e.number(1);
-    match verb {
-        Verb::Read | Verb::Write => begin_vector(dock, e, data, scratch),
-        Verb::Zero => ended(dock.begin(Asked::zeroes(false, offset, n), data, scratch)),
-        Verb::Alloc => ended(dock.begin(Asked::zeroes(true, offset, n), data, scratch)),
-        Verb::Discard => ended(dock.begin(Asked::discard(offset, n), data, scratch)),
-        _ => dock,
-    }
+    let b = dock.begin(asked(e, v.vector), data, scratch);
+    let answer = b.answer;
+    trace::begun(answer);
+    b.dock
 }
 
 fn next(dock: Dock, slot: usize, data: &[u8], scratch: &[u8]) {

@@ -207,25 +207,18 @@ pub fn bytes(store: &[u8], at: u64, n: u64) {
     }
 }
 
-// The numbers that an event takes.
+// The numbers that an event takes, after its word.
 fn usage(verb: Verb) {
     match verb {
-        Verb::Open => text(b"open takes ROW BOUNCE"),
-        Verb::Store => text(b"store takes OFFSET LENGTH BYTE"),
-        Verb::Data => text(b"data takes OFFSET LENGTH BYTE"),
-        Verb::Read => text(b"read takes OFFSET, and START LENGTH for each of at most 17 segments"),
-        Verb::Write => text(
-            b"write takes OFFSET, and START LENGTH for each of at most 17 segments",
+        Verb::Open => text(b"ROW BOUNCE"),
+        Verb::Store | Verb::Data => text(b"OFFSET LENGTH BYTE"),
+        Verb::Read | Verb::Write => text(
+            b"OFFSET, and START LENGTH for each of at most 17 segments",
         ),
-        Verb::Zero => text(b"zero takes OFFSET LENGTH"),
-        Verb::Alloc => text(b"alloc takes OFFSET LENGTH"),
-        Verb::Discard => text(b"discard takes OFFSET LENGTH"),
-        Verb::Next => text(b"next takes SLOT"),
-        Verb::Carry => text(b"carry takes SLOT CODE, and CHOICE or not"),
-        Verb::Tell => text(b"tell takes SLOT CODE"),
-        Verb::Collect => text(b"collect takes SLOT"),
-        Verb::Show => text(b"show takes OFFSET LENGTH"),
-        Verb::Unknown => {}
+        Verb::Next | Verb::Collect => text(b"SLOT"),
+        Verb::Carry => text(b"SLOT CODE, and CHOICE or not"),
+        Verb::Tell => text(b"SLOT CODE"),
+        _ => text(b"OFFSET LENGTH"),
     }
 }
 
@@ -246,7 +239,10 @@ fn flaw(f: Flaw) {
             after_numbers(good);
             text(b" comes neither the line's end nor one blank and a decimal number below 2^64");
         }
-        Flaw::Count(verb) => usage(verb),
+        Flaw::Count(verb) => {
+            text(b"the event takes ");
+            usage(verb);
+        }
         Flaw::Byte => text(b"BYTE is at most 255"),
         Flaw::Code => text(b"CODE is at most 255"),
         Flaw::Long => text(b"LENGTH is at most 64 to show"),

@@ -1,8 +1,8 @@
--- `replaying::asked` is safe and ends: each turn pushes one segment. Assumes nothing.
+-- `replaying::vector_of` is safe and ends: each turn pushes one segment. Assumes nothing.
 use borrow.Author.Needs.{needs}
 use Prim.Native.Nat.{_≤_, _-_}
-use Rattle.replaying.proofs.asked.Statement.{statement}
-use Rattle.replaying.proofs.asked.Tie as tie
+use Rattle.replaying.proofs.vector_of.Statement.{statement}
+use Rattle.replaying.proofs.vector_of.Tie as tie
 
 abbrev Inv-loop : tie.InvT-loop
 Inv-loop e segments data-len changed₀ k₀ changed k = k ≤ segments
@@ -43,8 +43,8 @@ returns c = search needs
 returns-2 : tie.Need-returns-2 Inv-loop μ-loop
 returns-2 c = search needs
 
-pub asked-spec : {M : Type 1} → statement M
-asked-spec =
+pub vector-of-spec : {M : Type 1} → statement M
+vector-of-spec =
     tie.close
     (tie.spec
     Inv-loop
