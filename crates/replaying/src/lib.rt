@@ -22,17 +22,10 @@
 // bytes modulo 65536.
 // A program has no exit status, so the last line tells: `ok` where the script ran to its end; `error: line N: ..` where line
 // N is neither event nor comment, and the run stops there; `error: ..` for a script of more than 65535 bytes, which is not run.
-mod marks; // what became of the request in each slot
-mod script; // a line of the script, taken apart
 mod store; // the stand-in store
-mod trace; // what is printed
 
-use crate::script::Event;
-use crate::script::Verb;
-use crate::script::Verdict;
 use crate::store::Act;
 use crate::store::Carried;
-use crate::trace::text;
 use arithmetic::offsets::StoreOffset;
 use arithmetic::refusals::Outcome;
 use arithmetic::settings::Buffers;
@@ -43,9 +36,16 @@ use dock::next::Due;
 use dock::open::Opened;
 use dock::tell::Telling;
 use libc::STDIN_FILENO;
+use replay_text::marks;
+use replay_text::script;
+use replay_text::script::Event;
+use replay_text::script::Verb;
+use replay_text::script::Verdict;
+use replay_text::trace;
+use replay_text::trace::text;
 use vectors::vector::Changed;
 use vectors::vector::IoVector;
-ghost use Prim.Native.Nat.{_<_};
+ghost use Prim.Native.Nat.{_<_, _≤_};
 ghost use lib.ListN.{length};
 
 // The dock between two events, where the next line starts, the number of the last one, and whether that was malformed.
@@ -356,6 +356,21 @@ fn passed(mut t: Turn, end: usize, n: usize) -> Turn {
     t
 }
 
+// Where the line that starts at `at` ends: at its newline, or the text's end.
+fn line_end(text: &[u8], at: usize) -> usize
+    requires { ⌜ at ≤ length (now text) ⌝ }
+    ensures { λ r. ⌜ (at ≤ r) × (r ≤ length (now (text .entry))) ⌝ }
+{
+    let mut i = at;
+    while i < text.len() {
+        if text[i] == b'\n' {
+            return i;
+        }
+        i += 1;
+    }
+    i
+}
+
 // One turn: the line that starts where the turn says.
 fn step(
     t: Turn,
@@ -368,7 +383,7 @@ fn step(
     requires { ⌜ t .at < length (now script) ⌝ }
 {
     let at = t.at;
-    let end = script::line_end(script, at);
+    let end = line_end(script, at);
     let next = passed(t, end, script.len());
     play(next, &script[at..end], marks, store, data, scratch)
 }

@@ -1,8 +1,8 @@
--- `replaying::script::is_word` is safe and ends: each turn passes one byte of n, which both texts have. Assumes nothing.
+-- `replay_text::script::is_word` is safe and ends: each turn passes one byte of n, which both texts have. Assumes nothing.
 use borrow.Author.Needs.{needs}
 use Prim.Native.Nat.{_≤_, _-_}
-use Rattle.replaying.proofs.script.is_word.Statement.{statement}
-use Rattle.replaying.proofs.script.is_word.Tie as tie
+use Rattle.replay_text.proofs.script.is_word.Statement.{statement}
+use Rattle.replay_text.proofs.script.is_word.Tie as tie
 
 abbrev Inv-loop : tie.InvT-loop
 Inv-loop line n word i₀ i = i ≤ n

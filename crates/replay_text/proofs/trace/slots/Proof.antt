@@ -1,10 +1,10 @@
--- `replaying::trace::slots` is safe and ends: each turn prints one slot of eight. Assumes nothing.
+-- `replay_text::trace::slots` is safe and ends: each turn prints one slot of eight. Assumes nothing.
 use borrow.Author.Needs.{needs}
 use Prim.Native.Nat.{_≤_, _-_}
 use mathlib.Core.Path.{_≡_}
 use lib.ListN.{length}
-use Rattle.replaying.proofs.trace.slots.Statement.{statement}
-use Rattle.replaying.proofs.trace.slots.Tie as tie
+use Rattle.replay_text.proofs.trace.slots.Statement.{statement}
+use Rattle.replay_text.proofs.trace.slots.Tie as tie
 
 abbrev Inv-loop : tie.InvT-loop
 Inv-loop dock marks₀ «data» scratch i₀ marks i = (i ≤ 8) × (length marks ≡ length marks₀)

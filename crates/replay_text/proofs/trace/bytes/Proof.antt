@@ -1,9 +1,9 @@
--- `replaying::trace::bytes` is safe and ends: each turn prints one byte of the store. Assumes nothing.
+-- `replay_text::trace::bytes` is safe and ends: each turn prints one byte of the store. Assumes nothing.
 use borrow.Author.Needs.{needs}
 use Prim.Native.Nat.{_-_}
 use lib.ListN.{length}
-use Rattle.replaying.proofs.trace.bytes.Statement.{statement}
-use Rattle.replaying.proofs.trace.bytes.Tie as tie
+use Rattle.replay_text.proofs.trace.bytes.Statement.{statement}
+use Rattle.replay_text.proofs.trace.bytes.Tie as tie
 
 abbrev Inv-loop : tie.InvT-loop
 Inv-loop store at n i₀ left₀ t6 i left = Unit {0}

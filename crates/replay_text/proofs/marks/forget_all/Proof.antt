@@ -1,10 +1,10 @@
--- `replaying::marks::forget_all` is safe and ends: each turn forgets one slot. Assumes nothing.
+-- `replay_text::marks::forget_all` is safe and ends: each turn forgets one slot. Assumes nothing.
 use borrow.Author.Needs.{needs}
 use Prim.Native.Nat.{_≤_, _-_}
 use mathlib.Core.Path.{_≡_}
 use lib.ListN.{length}
-use Rattle.replaying.proofs.marks.forget_all.Statement.{statement}
-use Rattle.replaying.proofs.marks.forget_all.Tie as tie
+use Rattle.replay_text.proofs.marks.forget_all.Statement.{statement}
+use Rattle.replay_text.proofs.marks.forget_all.Tie as tie
 
 abbrev Inv-loop : tie.InvT-loop
 Inv-loop marks₀ n i₀ marks i = (i ≤ n) × (length marks ≡ length marks₀)

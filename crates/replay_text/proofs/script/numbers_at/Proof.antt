@@ -1,10 +1,10 @@
--- `replaying::script::numbers_at` is safe and ends: each turn takes one number of at most 35. Assumes nothing.
+-- `replay_text::script::numbers_at` is safe and ends: each turn takes one number of at most 35. Assumes nothing.
 use borrow.Author.Needs.{needs}
 use Prim.Native.Nat.{_≤_, _-_}
 use mathlib.Core.Path.{_≡_}
 use lib.ListN.{length}
-use Rattle.replaying.proofs.script.numbers_at.Statement.{statement}
-use Rattle.replaying.proofs.script.numbers_at.Tie as tie
+use Rattle.replay_text.proofs.script.numbers_at.Statement.{statement}
+use Rattle.replay_text.proofs.script.numbers_at.Tie as tie
 
 abbrev Inv-loop : tie.InvT-loop
 Inv-loop line from values₀ count₀ at₀ values count at = (count ≤ 35) × (length values ≡ 35)

@@ -1,9 +1,9 @@
--- `replaying::script::line_end` meets its contract: each turn passes one byte of the text, from `at` on and up to its end. Assumes nothing.
+-- `replaying::line_end` meets its contract: each turn passes one byte of the text, from `at` on and up to its end. Assumes nothing.
 use borrow.Author.Needs.{needs}
 use Prim.Native.Nat.{_≤_, _-_}
 use lib.ListN.{length}
-use Rattle.replaying.proofs.script.line_end.Statement.{statement}
-use Rattle.replaying.proofs.script.line_end.Tie as tie
+use Rattle.replaying.proofs.line_end.Statement.{statement}
+use Rattle.replaying.proofs.line_end.Tie as tie
 
 abbrev Inv-loop : tie.InvT-loop
 Inv-loop text at i₀ i = (at ≤ i) × (i ≤ length text)

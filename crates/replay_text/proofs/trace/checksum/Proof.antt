@@ -1,9 +1,9 @@
--- `replaying::trace::checksum` is safe and ends: each turn adds one byte, and the sum is reduced before it. Assumes nothing.
+-- `replay_text::trace::checksum` is safe and ends: each turn adds one byte, and the sum is reduced before it. Assumes nothing.
 use borrow.Author.Needs.{needs}
 use Prim.Native.Nat.{_<_, _-_}
 use lib.ListN.{length}
-use Rattle.replaying.proofs.trace.checksum.Statement.{statement}
-use Rattle.replaying.proofs.trace.checksum.Tie as tie
+use Rattle.replay_text.proofs.trace.checksum.Statement.{statement}
+use Rattle.replay_text.proofs.trace.checksum.Tie as tie
 
 abbrev Inv-loop : tie.InvT-loop
 Inv-loop bytes sum₀ i₀ sum i = sum < 131072

@@ -1,7 +1,5 @@
 // A line of the script, taken apart.
 use vectors::vector::Segment;
-ghost use Prim.Native.Nat.{_≤_};
-ghost use lib.ListN.{length};
 
 // The word that a line starts with.
 pub enum Verb {
@@ -93,21 +91,6 @@ impl Event {
             length: self.number(2 * k + 2) as usize,
         }
     }
-}
-
-// Where the line that starts at `at` ends: at its newline, or the text's end.
-pub(crate) fn line_end(text: &[u8], at: usize) -> usize
-    requires { ⌜ at ≤ length (now text) ⌝ }
-    ensures { λ r. ⌜ (at ≤ r) × (r ≤ length (now (text .entry))) ⌝ }
-{
-    let mut i = at;
-    while i < text.len() {
-        if text[i] == b'\n' {
-            return i;
-        }
-        i += 1;
-    }
-    i
 }
 
 // Where the first word of a line ends.

@@ -1,9 +1,9 @@
--- `replaying::script::word_end` is safe and ends: each turn passes one byte of the line. Assumes nothing.
+-- `replay_text::script::word_end` is safe and ends: each turn passes one byte of the line. Assumes nothing.
 use borrow.Author.Needs.{needs}
 use Prim.Native.Nat.{_-_}
 use lib.ListN.{length}
-use Rattle.replaying.proofs.script.word_end.Statement.{statement}
-use Rattle.replaying.proofs.script.word_end.Tie as tie
+use Rattle.replay_text.proofs.script.word_end.Statement.{statement}
+use Rattle.replay_text.proofs.script.word_end.Tie as tie
 
 abbrev Inv-loop : tie.InvT-loop
 Inv-loop line i₀ i = Unit {0}

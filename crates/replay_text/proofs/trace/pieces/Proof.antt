@@ -1,8 +1,8 @@
--- `replaying::trace::pieces` is safe and ends: each turn prints one piece. Assumes nothing.
+-- `replay_text::trace::pieces` is safe and ends: each turn prints one piece. Assumes nothing.
 use borrow.Author.Needs.{needs}
 use Prim.Native.Nat.{_≤_, _-_}
-use Rattle.replaying.proofs.trace.pieces.Statement.{statement}
-use Rattle.replaying.proofs.trace.pieces.Tie as tie
+use Rattle.replay_text.proofs.trace.pieces.Statement.{statement}
+use Rattle.replay_text.proofs.trace.pieces.Tie as tie
 
 abbrev Inv-loop : tie.InvT-loop
 Inv-loop dock slot n data-len scratch-len i₀ i = i ≤ n

@@ -1,9 +1,9 @@
--- `replaying::script::number_at` is safe and ends: each turn passes one digit of the line, and a number that does not fit is left. Assumes nothing.
+-- `replay_text::script::number_at` is safe and ends: each turn passes one digit of the line, and a number that does not fit is left. Assumes nothing.
 use borrow.Author.Needs.{needs}
 use Prim.Native.Nat.{_-_}
 use lib.ListN.{length}
-use Rattle.replaying.proofs.script.number_at.Statement.{statement}
-use Rattle.replaying.proofs.script.number_at.Tie as tie
+use Rattle.replay_text.proofs.script.number_at.Statement.{statement}
+use Rattle.replay_text.proofs.script.number_at.Tie as tie
 
 abbrev Inv-loop : tie.InvT-loop
 Inv-loop line from i₀ x₀ i x = Unit {0}
