@@ -3,7 +3,8 @@
  *
  * A job is begun (read, write, zeroes, discard) over any byte range of the store. dock_next says which aligned request the store
  * must carry out for it, dock_piece where that request's bytes lie, dock_tell hands in the store's code, dock_collect takes the final
- * answer. The dock does no input or output itself. "Document 01" is the agreed scope; its numbers are the constants below.
+ * answer. The dock does no input or output itself. "Document 01" is the agreed scope; its numbers are the constants below. dock_serve.h
+ * has that loop ready, over a store of callbacks.
  *
  * Who owns what, and when bytes may change:
  *
@@ -34,6 +35,13 @@
 #ifdef __cplusplus
 extern "C" {
 #endif
+
+/* ---- The version of this header and of libboundary.a ---- */
+
+#define DOCK_VERSION_MAJOR 0
+#define DOCK_VERSION_MINOR 2
+#define DOCK_VERSION_PATCH 0
+#define DOCK_VERSION "0.2.0"
 
 /* ---- Numbers of document 01 ---- */
 
