@@ -34,14 +34,15 @@ static inline uint8_t dock_code_or_eio(int number)
     return number >= DOCK_DONE && number <= DOCK_FAILED_LAST ? (uint8_t)number : EIO;
 }
 
-/* The code of an error number: 0 is 0, 2 to 199 stay as they are, and what is no code is EIO. EPERM, which is 1, becomes
+/* The code of an error number: 0 is 0, 2 to 199 stay as they are, what is no code is EIO. EPERM, which is 1, becomes
  * EACCES: code 1 says that the store lacks a request, and then zeroes are written and a discard counts as done. */
 static inline uint8_t dock_code_of_errno(int number)
 {
     return dock_code_or_eio(number == EPERM ? EACCES : number);
 }
 
-/* The same for a request that a store may lack (zero, allocated zero, discard): 1 where the system says that it does. */
+/* The same for a request that a store may lack (zero, allocated zero, discard): 1 where the system says that it lacks
+ * it. */
 static inline uint8_t dock_optional_code_of_errno(int number)
 {
     if (number == EOPNOTSUPP || number == ENOSYS || number == ENOTTY)
@@ -122,8 +123,8 @@ static inline int dock_carry_range(const struct dock_store *store, const struct 
     return callback == NULL ? DOCK_UNSUPPORTED : callback(store->context, request->offset, request->length);
 }
 
-/* Carries out the request that is out for `slot` and tells its code: 0. On words of no call's making a piece or the tell
- * may be refused; a request that lacks a piece is not carried out. */
+/* Carries out the request that is out for `slot` and tells its code: 0. On words of no call's making a piece or the
+ * tell may be refused; a request that lacks a piece is not carried out. */
 static inline uint8_t dock_serve_request(struct dock *dock, size_t slot, const struct dock_request *request,
                                          const struct dock_store *store, const struct dock_lent *lent)
 {
@@ -202,9 +203,9 @@ static inline uint8_t dock_serve(struct dock *dock, const struct dock_store *sto
 }
 
 /*
- * Serves until the job in `slot` has ended, and collects it alone: its final answer (0, 1 to 199, 207). Refused with 205,
- * or with 208 where the slot is not 0 to 7 or free, or all wait. The job's own requests come first; while it waits, all
- * take turns, and those that end so keep their answer until they are collected.
+ * Serves until the job in `slot` has ended, and collects it alone: its final answer (0, 1 to 199, 207). Refused with
+ * 205, or with 208 where the slot is not 0 to 7 or free, or all wait. The job's own requests come first; while it waits,
+ * all take turns, and those that end so keep their answer until they are collected.
  */
 static inline uint8_t dock_serve_slot(struct dock *dock, size_t slot, const struct dock_store *store,
                                       const struct dock_lent *lent)
