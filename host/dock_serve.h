@@ -204,8 +204,8 @@ static inline uint8_t dock_serve(struct dock *dock, const struct dock_store *sto
 
 /*
  * Serves until the job in `slot` has ended, and collects it alone: its final answer (0, 1 to 199, 207). Refused with
- * 205, or with 208 where the slot is not 0 to 7 or free, or all wait. The job's own requests come first; while it waits,
- * all take turns, and those that end so keep their answer until they are collected.
+ * 205, or with 208 where the slot is not 0 to 7 or free, or all wait. The job's own requests come first; while it
+ * waits, all take turns, and those that end so keep their answer until they are collected.
  */
 static inline uint8_t dock_serve_slot(struct dock *dock, size_t slot, const struct dock_store *store,
                                       const struct dock_lent *lent)

@@ -156,8 +156,9 @@ int main(int argc, char **argv)
     }
     check(begun > 0 && refused > 0 && carried > 0 && waited > 0 && collected > 0 && fallbacks > 0,
           "something was never reached");
-    printf("%llu begun, %llu refused, %llu carried, %llu times waiting, %llu fallbacks, %llu collected; no difference\n",
-           (unsigned long long)begun, (unsigned long long)refused, (unsigned long long)carried,
-           (unsigned long long)waited, (unsigned long long)fallbacks, (unsigned long long)collected);
+    printf("%llu begun, %llu refused, %llu carried, ", (unsigned long long)begun, (unsigned long long)refused,
+           (unsigned long long)carried);
+    printf("%llu times waiting, %llu fallbacks, %llu collected; no difference\n", (unsigned long long)waited,
+           (unsigned long long)fallbacks, (unsigned long long)collected);
     return EXIT_SUCCESS;
 }
