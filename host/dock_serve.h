@@ -87,7 +87,7 @@ struct dock_store {
 static inline int dock_carry_read(const struct dock_store *store, uint64_t offset, const struct dock_part *parts,
                                   size_t count)
 {
-    struct dock_fill pieces[DOCK_SEGMENTS];
+    struct dock_fill pieces[DOCK_SEGMENTS] = { { NULL, 0 } };
     size_t i;
     if (store->read == NULL)
         return DOCK_UNSUPPORTED;
@@ -101,7 +101,7 @@ static inline int dock_carry_read(const struct dock_store *store, uint64_t offse
 static inline int dock_carry_write(const struct dock_store *store, uint64_t offset, const struct dock_part *parts,
                                    size_t count)
 {
-    struct dock_take pieces[DOCK_SEGMENTS];
+    struct dock_take pieces[DOCK_SEGMENTS] = { { NULL, 0 } };
     size_t i;
     if (store->write == NULL)
         return DOCK_UNSUPPORTED;
@@ -128,7 +128,7 @@ static inline int dock_carry_range(const struct dock_store *store, const struct 
 static inline uint8_t dock_serve_request(struct dock *dock, size_t slot, const struct dock_request *request,
                                          const struct dock_store *store, const struct dock_lent *lent)
 {
-    struct dock_part parts[DOCK_SEGMENTS];
+    struct dock_part parts[DOCK_SEGMENTS] = { { NULL, 0, 0 } };
     size_t i;
     int answered;
     if (request->pieces > DOCK_SEGMENTS)

@@ -22,7 +22,7 @@ static void carry_pieces(size_t slot, const struct dock_request *request, uint8_
             if (request->kind == DOCK_WRITE)
                 put_byte(store, at, part.bytes[j], code);
             else
-                part.bytes[j] = code == 0 ? store[at] : chosen(at);
+                part.bytes[j] = byte_read(at, code);
         }
     }
     check(at - request->offset == request->length, "pieces of another length than the request");
@@ -31,20 +31,15 @@ static void carry_pieces(size_t slot, const struct dock_request *request, uint8_
 static void carry(size_t slot, const struct dock_request *request, uint8_t code)
 {
     struct range range = between(request->offset, request->offset + request->length);
-    if (request->kind == DOCK_READ || request->kind == DOCK_WRITE)
+    if (moves_bytes(request->kind))
         carry_pieces(slot, request, code);
-    else if (request->kind == DOCK_DISCARD)
-        put_chosen(store, range);
     else
-        put_zeroes(store, range, code);
+        carry_range(request->kind, range, code);
 }
 
 /* ---- Events ---- */
 
-static uint64_t carried;
 static uint64_t waited;
-static uint64_t collected;
-static uint64_t fallbacks;
 
 static void try_begin(void)
 {
@@ -81,12 +76,8 @@ static void try_carry(size_t slot)
     check_pieces(slot, &due.request);
     choice = rnd();
     carry(slot, &due.request, code);
-    plain_step(job, kind, code);
-    check(memcmp(store, plain, STORE) == 0, "the store is not as the plain byte store");
+    step(slot, kind, code);
     check(dock_tell(&dock, slot, code, &lent) == 0, "a tell is refused");
-    carried++;
-    fallbacks += code == 1 && job->course == MIDDLE;
-    told(job, code);
 }
 
 static void try_collect(size_t slot)
@@ -97,11 +88,7 @@ static void try_collect(size_t slot)
         check(number == DOCK_SLOT, "a collect before the end");
         return;
     }
-    check(number == job->answer, "another answer than the rules give");
-    if (job->kind == DOCK_READ && number == 0)
-        check(gather(&job->vector, job->bytes, 1), "a read does not hold what its step yielded");
-    job->in_flight = 0;
-    collected++;
+    collect_job(slot, number);
 }
 
 /* Where jobs are in flight that have not ended, one of them does not wait. */

@@ -240,6 +240,21 @@ static inline void put_chosen(uint8_t *bytes, struct range range)
         bytes[at] = chosen(at);
 }
 
+/* A zero, allocated zero or discard request on the store. */
+static inline void carry_range(enum dock_kind kind, struct range range, uint8_t code)
+{
+    if (kind == DOCK_DISCARD)
+        put_chosen(store, range);
+    else
+        put_zeroes(store, range, code);
+}
+
+/* A byte of a read: what the store has there, or what it chose where it fails. */
+static inline uint8_t byte_read(uint64_t at, uint8_t code)
+{
+    return code == 0 ? store[at] : chosen(at);
+}
+
 /* The same carry as a step of the plain byte store: over the asked range alone. */
 static inline void plain_step(struct job *job, enum dock_kind kind, uint8_t code)
 {
@@ -258,10 +273,25 @@ static inline void plain_step(struct job *job, enum dock_kind kind, uint8_t code
     }
 }
 
+static uint64_t carried;
+static uint64_t fallbacks;
+
+/* A request of the slot's job was carried out on the store, and this code is told: the plain byte store follows. */
+static inline void step(size_t slot, enum dock_kind kind, uint8_t code)
+{
+    struct job *job = &jobs[slot];
+    plain_step(job, kind, code);
+    check(memcmp(store, plain, STORE) == 0, "the store is not as the plain byte store");
+    carried++;
+    fallbacks += code == 1 && job->course == MIDDLE;
+    told(job, code);
+}
+
 /* ---- Vectors, and jobs that are begun ---- */
 
 static uint64_t begun;
 static uint64_t refused;
+static uint64_t collected;
 
 /* Copies a vector's bytes out of the data, or compares them: whether all are as in `bytes`. */
 static inline int gather(const struct dock_vector *vector, uint8_t *bytes, int compare)
@@ -423,6 +453,17 @@ static inline const uint8_t *piece_at(size_t slot, size_t i)
     if (job->stage.direct && job->vector.words[0] > 0)
         return lent.data + job->vector.words[2 + 2 * i];
     return lent.scratch + slot * settings.bounce + (range.start - job->stage.request.start);
+}
+
+/* The slot's job was collected with a number. */
+static inline void collect_job(size_t slot, uint8_t number)
+{
+    struct job *job = &jobs[slot];
+    check(job->in_flight && job->ended && number == job->answer, "another answer than the rules give");
+    if (job->kind == DOCK_READ && number == 0)
+        check(gather(&job->vector, job->bytes, 1), "a read does not hold what its step yielded");
+    job->in_flight = 0;
+    collected++;
 }
 
 static inline int is_in_flight(uint64_t at)
