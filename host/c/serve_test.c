@@ -4,11 +4,13 @@
  * request is one that document 01's rules give, carried out once, and after it the store is as the plain byte store,
  * byte by byte; each answer is the rules', and a read answered 0 holds what its step yielded.
  */
+#define _POSIX_C_SOURCE 200809L
 #include "../dock_serve.h"
 #include "rules.h"
 
 #include <limits.h>
 #include <time.h>
+#include <unistd.h>
 
 static uint64_t checks;
 
@@ -39,12 +41,17 @@ static int note(void *context, enum dock_kind kind, uint64_t offset, uint64_t le
     return at->answers[kind];
 }
 
+/* Past its end the drive reads as zeroes and drops writes. */
 static int read_drive(void *context, uint64_t offset, const struct dock_fill *pieces, size_t count)
 {
     uint64_t length = 0;
     size_t i;
-    for (i = 0; i < count; length += pieces[i++].length)
-        memcpy(pieces[i].bytes, store + offset + length, pieces[i].length);
+    for (i = 0; i < count; length += pieces[i++].length) {
+        if (offset < STORE)
+            memcpy(pieces[i].bytes, store + offset + length, pieces[i].length);
+        else
+            memset(pieces[i].bytes, 0, pieces[i].length);
+    }
     return note(context, DOCK_READ, offset, length, count);
 }
 
@@ -52,8 +59,10 @@ static int write_drive(void *context, uint64_t offset, const struct dock_take *p
 {
     uint64_t length = 0;
     size_t i;
-    for (i = 0; i < count; length += pieces[i++].length)
-        memcpy(store + offset + length, pieces[i].bytes, pieces[i].length);
+    for (i = 0; i < count; length += pieces[i++].length) {
+        if (offset < STORE)
+            memcpy(store + offset + length, pieces[i].bytes, pieces[i].length);
+    }
     return note(context, DOCK_WRITE, offset, length, count);
 }
 
@@ -61,7 +70,7 @@ static int write_drive(void *context, uint64_t offset, const struct dock_take *p
 static int clear_drive(void *context, enum dock_kind kind, uint64_t offset, uint64_t length)
 {
     int answer = note(context, kind, offset, length, 0);
-    if (answer == 0)
+    if (answer == 0 && offset < STORE)
         memset(store + offset, 0, (size_t)length);
     return answer;
 }
@@ -273,6 +282,14 @@ static void test_failing_read_of_a_write(void)
     start();
     drive.answers[DOCK_READ] = EIO;
     CHECK(serve_one(&whole_drive, DOCK_WRITE, 100, 10) == EIO && drive.logged == 1 && changed_only(0, 0, NULL));
+}
+
+/* The tail of a zero job has no offsets left: 207 is its answer, and no refusal of the call. */
+static void test_late_overflow(void)
+{
+    start();
+    CHECK(serve_one(&whole_drive, DOCK_ZERO, UINT64_MAX - 1024, 1024) == DOCK_OVERFLOW && drive.logged == 3);
+    CHECK(was_asked(0, DOCK_ZERO, UINT64_MAX - 1023, 512, 0) && was_asked(2, DOCK_WRITE, UINT64_MAX - 1535, 512, 1));
 }
 
 /* ---- Jobs together ---- */
@@ -723,6 +740,7 @@ static void test_all(void)
     test_null_callbacks();
     test_every_answer();
     test_failing_read_of_a_write();
+    test_late_overflow();
     test_no_job();
     test_eight_in_one_block();
     test_answers_by_slot();
@@ -739,6 +757,7 @@ int main(int argc, char **argv)
     long seconds = argc > 1 ? strtol(argv[1], NULL, 10) : 2;
     uint64_t first = argc > 3 ? strtoull(argv[3], NULL, 10) : 0;
     time_t began;
+    alarm((unsigned)seconds + 60); /* a call that spins ends the test */
     test_all();
     printf("%llu checks, 0 failed\n", (unsigned long long)checks);
     seed = argc > 2 ? strtoull(argv[2], NULL, 10) : 1;
