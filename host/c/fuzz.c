@@ -340,7 +340,7 @@ static void try_begin(enum call call)
     size_t slot;
     put_vector();
     keep();
-    at_call = call;
+    at_call = (sig_atomic_t)call;
     reply = raw_begin(call, offset, length);
     slot = (size_t)reply.value[0];
     done(reply.number == 256);
@@ -497,7 +497,7 @@ static void try_planner(enum call call)
         length -= length % req;
     }
     keep();
-    at_call = call;
+    at_call = (sig_atomic_t)call;
     reply = call == CHUNKS ? dock_words_chunks(words(SETTINGS), offset, length) : dock_words_chunk(words(SETTINGS), offset, length, i);
     check(all_same(), "changed something");
     done(reply.number == 256);
