@@ -137,8 +137,8 @@ abbrev pub placed : Dock → ℕ → State → IoVector → List ℕ → List �
 placed d p x v memory scratch =
     record { dock = withJob d p (blockersWith (d .blockers) p x .blockers) x v; answer = Placed p; scratch = filled (shareAt d p) x v memory scratch .scratch }
 
--- A dock of no call's making may have a blocker where the slot is free: the begin is then refused, and changes nothing. Law `made-begin` of
--- crate histories: no dock that calls made is refused so.
+-- A dock of no call's making may have a blocker where the slot is free: the begin is then refused, and changes nothing. No dock that calls
+-- made is refused so: MadeLaws of crate histories.
 unfoldable pub placedAt : Dock → ℕ → State → IoVector → List ℕ → List ℕ → Begins
 placedAt d p x v memory scratch =
     onlyIf d scratch (thenDo (blockersWith (d .blockers) p x .outcome) (filled (shareAt d p) x v memory scratch .outcome)) (placed d p x v memory scratch)
