@@ -213,6 +213,13 @@ planOf Zeroes s b o n v = zeroPlan s false o n
 planOf AllocatedZeroes s b o n v = zeroPlan s true o n
 planOf Discard s b o n v = discardPlan s o n
 
+-- the vector and the plan of what is asked
+abbrev pub vectorFor : Asked → IoVector
+vectorFor q = movedOf (q .job) (q .vector)
+
+abbrev pub planFor : Settings → Buffers → Asked → Plan
+planFor s b q = planOf (q .job) s b (q .offset) (q .length) (q .vector)
+
 -- begin, by the kind of the job
 abbrev pub beginBy : Job → Dock → StoreOffset → ℕ → IoVector → List ℕ → List ℕ → Begins
 beginBy Read d o n v memory scratch = beginReadOf d o v memory scratch

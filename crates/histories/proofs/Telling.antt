@@ -49,8 +49,8 @@ use Rattle.histories.specs.Calls.{read-no-write, write-vector, read-vect
 use Rattle.histories.specs.Keeping.{Changes, leave-changes}
 use Rattle.histories.specs.MadeLaws.{data-long}
 use Rattle.histories.specs.Store.{Bytes}
-use Rattle.histories.specs.PlainStore.{Did, yielded, wrote, zeroed, Tracked, Plain, newBytes, standing, stateOf, setAt}
-use Rattle.histories.specs.Histories.{World, Among, here, later, puts as putsAt, putBy, OwedBy}
+use Rattle.histories.specs.PlainStore.{Did, yielded, wrote, zeroed, Tracked, Plain, newBytes, standing, stateOf, putJob, withCode}
+use Rattle.histories.specs.Histories.{World, Among, here, later, puts as putsAt, putBy, OwedBy, answered}
 use Rattle.histories.proofs.Lists.{list-ext, share-room, share-put-off}
 use Rattle.histories.proofs.Geometry.{Beside, AsAsked, Zone}
 use Rattle.histories.proofs.Progress.{Put, Before, Follows, Goes as Leads, done-goes, chunk-goes}
@@ -192,7 +192,7 @@ module _ (w : World) (m : Plain) (I : Inv w m) (p : ℕ) (h : p < 8) (pending : 
   fit = opened (w .dock .settings) (w .dock .buffers) (I .held .opened) .fit
 
   abbrev job' : Tracked
-  job' = record { first = T .j .first; bytes = T .j .bytes; codes = code ∷ T .j .codes; steps = T .j .steps }
+  job' = withCode (T .j) code
 
   -- the fact of the phase
   fact-at : (ph : Phase) → x .phase ≡ ph → code ≡ 0 → Fact ph (w .store) (w .memory) (share (w .scratch) N p) x v (some 0) (T .j)
@@ -443,10 +443,10 @@ module _ (w : World) (m : Plain) (I : Inv w m) (p : ℕ) (h : p < 8) (pending : 
   -- ---- the two sides after it
 
   abbrev toldWorld : Step → World
-  toldWorld t = record { dock = after (w .dock) p x code (w .memory) (w .scratch) t .dock; store = w .store; memory = after (w .dock) p x code (w .memory) (w .scratch) t .memory; scratch = after (w .dock) p x code (w .memory) (w .scratch) t .scratch; carried = setAt (w .carried) p none }
+  toldWorld t = answered w p (after (w .dock) p x code (w .memory) (w .scratch) t .dock) (after (w .dock) p x code (w .memory) (w .scratch) t .memory) (after (w .dock) p x code (w .memory) (w .scratch) t .scratch)
 
   abbrev toldPlain : Plain
-  toldPlain = record { settings = m .settings; buffers = m .buffers; bytes = m .bytes; jobs = setAt (m .jobs) p (some job') }
+  toldPlain = putJob m p (some job')
 
   stands : (t : Step) → toldOf (w .dock .settings) x code ≡ t → standing (w .dock .settings) (T .j .first) (code ∷ T .j .codes) ≡ stateOf t
   stands t e = ap (λ (y : State). stateOf (toldOf (w .dock .settings) y code)) (T .flight .stands) ∙ ap stateOf e

@@ -33,7 +33,7 @@ use Rattle.histories.specs.Held.{SlotOf, Held}
 use Rattle.histories.specs.MadeLaws.{data-long}
 use Rattle.histories.specs.Store.{inRange}
 use Rattle.histories.specs.PlainStore.{Tracked, Plain}
-use Rattle.histories.specs.Histories.{Lends, World, fitsLent, LentOf, Same}
+use Rattle.histories.specs.Histories.{Lends, World, fitsLent, LentOf, Same, called}
 use Rattle.histories.proofs.Lists.{bytes-agree}
 use Rattle.histories.proofs.Invariant.{share, Flight, flight-frame}
 
@@ -115,7 +115,7 @@ module _ (w w' : World) (m m' : Plain) (I : Inv w m) (q : ℕ) (h : q < 8)
 -- ---- a call is lent other data, but for that of jobs in flight
 
 abbrev pub withData : World → List ℕ → World
-withData w memory = record { dock = w .dock; store = w .store; memory = memory; scratch = w .scratch; carried = w .carried }
+withData w memory = called w (w .dock) memory (w .scratch)
 
 module _ (w : World) (m : Plain) (I : Inv w m) (l : Lends) (fit : fitsLent w l ≡ true) (lent : LentOf w l) where
   pub lent-scratch : l .scratch ≡ w .scratch

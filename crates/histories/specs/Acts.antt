@@ -7,21 +7,17 @@ use Prim.Native.Nat.{ℕ}
 use lib.Dec.{eqb}
 use borrow.Author.Tests.{eqb-true}
 use Rattle.arithmetic.specs.SettingsLaws.{and-left, and-right}
-use Rattle.arithmetic.specs.declared.offsets.StoreOffset.{StoreOffset}
 use Rattle.arithmetic.specs.declared.refusals.Outcome.{Outcome}
 use Rattle.arithmetic.specs.declared.refusals.Outcome.the-variants.{Done, Refused}
-use Rattle.vectors.specs.declared.vector.IoVector.{IoVector}
+use Rattle.dock.specs.declared.begin.Asked.{Asked}
 use Rattle.dock.specs.Tell.{tellOf}
 use Rattle.histories.specs.Store.{Choice}
 use Rattle.histories.specs.PlainStore.{Plain, plainStep}
-use Rattle.histories.specs.Histories.{Lends, Event, begins-read, begins-write, begins-zeroes, begins-discard, carries, tells, collects, World, step, fed, LentOf, HandsIn, Allowed, Lawful}
+use Rattle.histories.specs.Histories.{Lends, Event, begins, carries, tells, collects, World, step, fed, LentOf, HandsIn, Allowed, Lawful}
 
 -- an event without its buffers
 pub data Act : Type 0 where
-  reads : StoreOffset → IoVector → Act
-  writes : StoreOffset → IoVector → Act
-  zeroes : Bool → StoreOffset → ℕ → Act
-  discards : StoreOffset → ℕ → Act
+  begin : Asked → Act
   carry : ℕ → ℕ → Choice → Act
   tell : ℕ → ℕ → Act
   collect : ℕ → Act
@@ -30,10 +26,7 @@ abbrev pub own : World → Lends
 own w = record { memory = w .memory; scratch = w .scratch }
 
 abbrev pub eventOf : World → Act → Event
-eventOf w (reads o v) = begins-read o v (own w)
-eventOf w (writes o v) = begins-write o v (own w)
-eventOf w (zeroes t o n) = begins-zeroes t o n (own w)
-eventOf w (discards o n) = begins-discard o n (own w)
+eventOf w (begin q) = begins q (own w)
 eventOf w (carry p code c) = carries p code c
 eventOf w (tell p code) = tells p code (own w)
 eventOf w (collect p) = collects p (own w)
@@ -67,10 +60,7 @@ matches true c = c
 matches false c = true
 
 abbrev pub isAllowed : World → Act → Bool
-isAllowed w (reads o v) = true
-isAllowed w (writes o v) = true
-isAllowed w (zeroes t o n) = true
-isAllowed w (discards o n) = true
+isAllowed w (begin q) = true
 isAllowed w (carry p code c) = true
 isAllowed w (tell p code) = matches (isDone (tellOf (w .dock) p code (w .memory) (w .scratch) .outcome)) (isCode (w .carried p) code)
 isAllowed w (collect p) = true
@@ -91,10 +81,7 @@ hands-in w p code e d = code-of (w .carried p) code (rw d at e)
 
 -- a lawful list extends by each kind of event: a tell that is accepted by the code of its carry, every other in any state
 pub allowed : (w : World) (a : Act) → isAllowed w a ≡ true → Allowed w (eventOf w a)
-allowed w (reads o v) e = lent-own w
-allowed w (writes o v) e = lent-own w
-allowed w (zeroes t o n) e = lent-own w
-allowed w (discards o n) e = lent-own w
+allowed w (begin q) e = lent-own w
 allowed w (carry p code c) e = tt
 allowed w (tell p code) e = (lent-own w, hands-in w p code e)
 allowed w (collect p) e = lent-own w

@@ -19,7 +19,7 @@ use Rattle.dock.specs.Begin.{sourceOf, sourceFits, mergedAt, filled, blockersWi
 use Rattle.dock.specs.Next.{nextOf, isKeptBy}
 use Rattle.dock.specs.Tell.{blockersWithout, copiedAt, handed, staysOf, endsOf, entersOf, tellAt, tellOf, collectOf}
 use Rattle.dock.specs.Dock.{openProfileOf}
-use Rattle.dock.specs.Begin.{beginWriteOf, beginZeroesOf, beginDiscardOf}
+use Rattle.dock.specs.Begin.{beginWriteOf, beginZeroesOf, beginDiscardOf, beginOf, readOf, writeOf, zeroesOf}
 use Rattle.arithmetic.specs.Offsets.{storeAt}
 use Rattle.arithmetic.specs.Settings.{alignments}
 use Rattle.arithmetic.specs.declared.settings.Settings.{Settings}
@@ -33,7 +33,7 @@ use Rattle.dock.specs.Next.{pieceOf, partOf, isKept}
 use Rattle.histories.specs.Store.{Choice, changed, window, piecesFrom, gathered, landed}
 use Rattle.histories.specs.PlainStore.{Plain, plainOpened, carriedOut, plainStep}
 use Rattle.histories.specs.Histories.{World, opened, step, fed, Lawful}
-use Rattle.histories.specs.Acts.{Act, reads, writes, zeroes, carry, tell, collect, eventsOf, run, allAllowed, lawful}
+use Rattle.histories.specs.Acts.{Act, begin, carry, tell, collect, eventsOf, run, allAllowed, lawful}
 
 -- a drive of blocks of 8 bytes, shares of 32; a store whose every byte is 9
 abbrev pub settings : Settings
@@ -62,7 +62,7 @@ served p code rest = carry p code healthy ∷ (tell p code ∷ rest)
 
 -- "write 2 at 3", "write 8 at 0" behind it; the first one's reads and write, then the second one's write
 abbrev edits : List Act
-edits = writes (storeAt 3) (vectorOf (segment 0 2 ∷ [])) ∷ (writes (storeAt 0) (vectorOf (segment 2 8 ∷ [])) ∷ [])
+edits = begin (writeOf (storeAt 3) (vectorOf (segment 0 2 ∷ []))) ∷ (begin (writeOf (storeAt 0) (vectorOf (segment 2 8 ∷ []))) ∷ [])
 
 abbrev first-done : List Act
 first-done = edits ++ served 0 0 (served 0 0 (served 0 0 []))
@@ -74,8 +74,8 @@ both-done = first-done ++ served 1 0 []
 abbrev all-done : List Act
 all-done =
     both-done
-    ++ (reads (storeAt 2) (vectorOf (segment 10 4 ∷ []))
-    ∷ served 2 0 (zeroes false (storeAt 4) 20 ∷ served 3 1 (served 3 0 (served 3 0 (served 3 0 [])))))
+    ++ (begin (readOf (storeAt 2) (vectorOf (segment 10 4 ∷ [])))
+    ∷ served 2 0 (begin (zeroesOf false (storeAt 4) 20) ∷ served 3 1 (served 3 0 (served 3 0 (served 3 0 [])))))
 
 abbrev answer : World → ℕ → Collected
 answer w p = collectOf (w .dock) p (length (w .memory)) (length (w .scratch)) .answer
@@ -102,7 +102,7 @@ pub record Computed : Type 0 where
   pub is-lawful : allAllowed world all-done ≡ true
 
 pub computed : Computed
-unfolding fits isMultiple roundDown roundUp sumOf upOf inBufferOf onStoreOf isAlignment alignmentsFit lengthAlign bounceFits settingsFit buffersFit openingOf profiles profileOf paddedStart roundedEnd paddedLength paddingFits spanOf paddedOf paddingOf isDirect transferOf readsOf isRead cutFits hasMiddle cutOf zeroCutOf discardCutOf chunkLength chunkOf anyBelow sizeOf liesIn allSegments anySegment segmentsFit vectorOf isValid changedTo pushOf insertOf appendOf headOf tailOf splitOf splitTailOf put bytesOf scatterOf fillOf copies owns ownedOf shares overlapOf selfOverlapOf allAligned isAlignedOf alignmentOf blockers-overlaps conflict notes notesOf noBlockers enteredOf forgetting leftOf waitsOf directStage paddedStage firstPhase readPlan writePlan zeroesPlan zeroPlan discardPlan chunkNext tailNext headNext toldOf requestOf stages-liesIn isSound vacant fresh openOf openProfileOf lentFits lentOf isOutBy isOut meetsOf meetsAt overlapsOf firstFree sourceOf sourceFits mergedAt filled blockersWith placedAt beginReadOf beginWriteOf beginZeroesOf beginDiscardOf nextOf isKeptBy blockersWithout copiedAt handed staysOf endsOf entersOf tellAt tellOf collectOf pieceOf partOf isKept changed window piecesFrom gathered landed carriedOut plainStep step fed
+unfolding fits isMultiple roundDown roundUp sumOf upOf inBufferOf onStoreOf isAlignment alignmentsFit lengthAlign bounceFits settingsFit buffersFit openingOf profiles profileOf paddedStart roundedEnd paddedLength paddingFits spanOf paddedOf paddingOf isDirect transferOf readsOf isRead cutFits hasMiddle cutOf zeroCutOf discardCutOf chunkLength chunkOf anyBelow sizeOf liesIn allSegments anySegment segmentsFit vectorOf isValid changedTo pushOf insertOf appendOf headOf tailOf splitOf splitTailOf put bytesOf scatterOf fillOf copies owns ownedOf shares overlapOf selfOverlapOf allAligned isAlignedOf alignmentOf blockers-overlaps conflict notes notesOf noBlockers enteredOf forgetting leftOf waitsOf directStage paddedStage firstPhase readPlan writePlan zeroesPlan zeroPlan discardPlan chunkNext tailNext headNext toldOf requestOf stages-liesIn isSound vacant fresh openOf openProfileOf lentFits lentOf isOutBy isOut meetsOf meetsAt overlapsOf firstFree sourceOf sourceFits mergedAt filled blockersWith placedAt beginReadOf beginWriteOf beginZeroesOf beginDiscardOf beginOf nextOf isKeptBy blockersWithout copiedAt handed staysOf endsOf entersOf tellAt tellOf collectOf pieceOf partOf isKept changed window piecesFrom gathered landed carriedOut plainStep step fed
 computed = record {
   waits = refl;
   first = refl;
@@ -122,7 +122,7 @@ abbrev pub whole-list : List Act
 whole-list = all-done ++ (collect 0 ∷ (collect 1 ∷ (collect 2 ∷ (collect 3 ∷ []))))
 
 pub all-lawful : allAllowed world whole-list ≡ true
-unfolding fits isMultiple roundDown roundUp sumOf upOf inBufferOf onStoreOf isAlignment alignmentsFit lengthAlign bounceFits settingsFit buffersFit openingOf profiles profileOf paddedStart roundedEnd paddedLength paddingFits spanOf paddedOf paddingOf isDirect transferOf readsOf isRead cutFits hasMiddle cutOf zeroCutOf discardCutOf chunkLength chunkOf anyBelow sizeOf liesIn allSegments anySegment segmentsFit vectorOf isValid changedTo pushOf insertOf appendOf headOf tailOf splitOf splitTailOf put bytesOf scatterOf fillOf copies owns ownedOf shares overlapOf selfOverlapOf allAligned isAlignedOf alignmentOf blockers-overlaps conflict notes notesOf noBlockers enteredOf forgetting leftOf waitsOf directStage paddedStage firstPhase readPlan writePlan zeroesPlan zeroPlan discardPlan chunkNext tailNext headNext toldOf requestOf stages-liesIn isSound vacant fresh openOf openProfileOf lentFits lentOf isOutBy isOut meetsOf meetsAt overlapsOf firstFree sourceOf sourceFits mergedAt filled blockersWith placedAt beginReadOf beginWriteOf beginZeroesOf beginDiscardOf nextOf isKeptBy blockersWithout copiedAt handed staysOf endsOf entersOf tellAt tellOf collectOf pieceOf partOf isKept changed window piecesFrom gathered landed carriedOut plainStep step fed
+unfolding fits isMultiple roundDown roundUp sumOf upOf inBufferOf onStoreOf isAlignment alignmentsFit lengthAlign bounceFits settingsFit buffersFit openingOf profiles profileOf paddedStart roundedEnd paddedLength paddingFits spanOf paddedOf paddingOf isDirect transferOf readsOf isRead cutFits hasMiddle cutOf zeroCutOf discardCutOf chunkLength chunkOf anyBelow sizeOf liesIn allSegments anySegment segmentsFit vectorOf isValid changedTo pushOf insertOf appendOf headOf tailOf splitOf splitTailOf put bytesOf scatterOf fillOf copies owns ownedOf shares overlapOf selfOverlapOf allAligned isAlignedOf alignmentOf blockers-overlaps conflict notes notesOf noBlockers enteredOf forgetting leftOf waitsOf directStage paddedStage firstPhase readPlan writePlan zeroesPlan zeroPlan discardPlan chunkNext tailNext headNext toldOf requestOf stages-liesIn isSound vacant fresh openOf openProfileOf lentFits lentOf isOutBy isOut meetsOf meetsAt overlapsOf firstFree sourceOf sourceFits mergedAt filled blockersWith placedAt beginReadOf beginWriteOf beginZeroesOf beginDiscardOf beginOf nextOf isKeptBy blockersWithout copiedAt handed staysOf endsOf entersOf tellAt tellOf collectOf pieceOf partOf isKept changed window piecesFrom gathered landed carriedOut plainStep step fed
 all-lawful = refl
 
 pub example : Lawful world (eventsOf world whole-list)

@@ -19,7 +19,7 @@ use Rattle.dock.specs.Begin.{sourceOf, sourceFits, mergedAt, filled, blockersWi
 use Rattle.dock.specs.Next.{nextOf, isKeptBy}
 use Rattle.dock.specs.Tell.{blockersWithout, copiedAt, handed, staysOf, endsOf, entersOf, tellAt, tellOf, collectOf}
 use Rattle.dock.specs.Dock.{openProfileOf}
-use Rattle.dock.specs.Begin.{beginWriteOf, beginZeroesOf, beginDiscardOf}
+use Rattle.dock.specs.Begin.{beginWriteOf, beginZeroesOf, beginDiscardOf, beginOf, writeOf, zeroesOf, discardOf}
 use Rattle.arithmetic.specs.Offsets.{storeAt}
 use Rattle.arithmetic.specs.Settings.{alignments}
 use Rattle.arithmetic.specs.declared.settings.Settings.{Settings}
@@ -30,7 +30,7 @@ use Rattle.histories.specs.Store.{changed, window, piecesFrom, gathered,
 use Rattle.histories.specs.PlainStore.{plainOpened, carriedOut, plainStep}
 use Rattle.histories.specs.Histories.{World, opened, step, fed}
 use Rattle.histories.specs.Example.{healthy}
-use Rattle.histories.specs.Acts.{Act, writes, zeroes, discards, carry, tell, collect, run, allAllowed}
+use Rattle.histories.specs.Acts.{Act, begin, carry, tell, collect, run, allAllowed}
 use Rattle.vectors.specs.declared.vector.Segment.{Segment}
 
 -- data of 2048 bytes, at address 1
@@ -53,10 +53,10 @@ served [] = []
 served (c ∷ cs) = carry 0 c healthy ∷ (tell 0 c ∷ served cs)
 
 abbrev writing : ℕ → List Segment → List ℕ → List Act
-writing o ps codes = writes (storeAt o) (vectorOf ps) ∷ served codes
+writing o ps codes = begin (writeOf (storeAt o) (vectorOf ps)) ∷ served codes
 
 abbrev zeroing : ℕ → ℕ → List ℕ → List Act
-zeroing o n codes = zeroes false (storeAt o) n ∷ served codes
+zeroing o n codes = begin (zeroesOf false (storeAt o) n) ∷ served codes
 
 -- n times code 0
 abbrev zeros : ℕ → List ℕ
@@ -80,12 +80,12 @@ pub record StarredLists : Type 0 where
   pub fallback : Well row-1 (zeroing 100 1000 (1 ∷ 0 ∷ 0 ∷ 0 ∷ 0 ∷ []))
   pub one-write : Well row-1 (zeroing 1 1022 (zeros 2))
   -- the discards make no request, and take no place
-  pub discard : allAllowed row-1 (discards (storeAt 100) 400 ∷ []) ≡ true
-  pub discard-over : allAllowed row-1 (discards (storeAt (2 ^ 64 - 511)) 0 ∷ []) ≡ true
-  pub discard-last : allAllowed row-1 (discards (storeAt (2 ^ 64 - 512)) 0 ∷ []) ≡ true
+  pub discard : allAllowed row-1 (begin (discardOf (storeAt 100) 400) ∷ []) ≡ true
+  pub discard-over : allAllowed row-1 (begin (discardOf (storeAt (2 ^ 64 - 511)) 0) ∷ []) ≡ true
+  pub discard-last : allAllowed row-1 (begin (discardOf (storeAt (2 ^ 64 - 512)) 0) ∷ []) ≡ true
 
 pub starred-lists : StarredLists
-unfolding fits isMultiple roundDown roundUp sumOf upOf inBufferOf onStoreOf isAlignment alignmentsFit lengthAlign bounceFits settingsFit buffersFit openingOf profiles profileOf paddedStart roundedEnd paddedLength paddingFits spanOf paddedOf paddingOf isDirect transferOf readsOf isRead cutFits hasMiddle cutOf zeroCutOf discardCutOf chunkLength chunkOf anyBelow sizeOf liesIn allSegments anySegment segmentsFit vectorOf isValid changedTo pushOf insertOf appendOf headOf tailOf splitOf splitTailOf put bytesOf scatterOf fillOf copies owns ownedOf shares overlapOf selfOverlapOf allAligned isAlignedOf alignmentOf blockers-overlaps conflict notes notesOf noBlockers enteredOf forgetting leftOf waitsOf directStage paddedStage firstPhase readPlan writePlan zeroesPlan zeroPlan discardPlan chunkNext tailNext headNext toldOf requestOf stages-liesIn isSound vacant fresh openOf openProfileOf lentFits lentOf isOutBy isOut meetsOf meetsAt overlapsOf firstFree sourceOf sourceFits mergedAt filled blockersWith placedAt beginReadOf beginWriteOf beginZeroesOf beginDiscardOf nextOf isKeptBy blockersWithout copiedAt handed staysOf endsOf entersOf tellAt tellOf collectOf pieceOf partOf isKept changed window piecesFrom gathered landed carriedOut plainStep step fed
+unfolding fits isMultiple roundDown roundUp sumOf upOf inBufferOf onStoreOf isAlignment alignmentsFit lengthAlign bounceFits settingsFit buffersFit openingOf profiles profileOf paddedStart roundedEnd paddedLength paddingFits spanOf paddedOf paddingOf isDirect transferOf readsOf isRead cutFits hasMiddle cutOf zeroCutOf discardCutOf chunkLength chunkOf anyBelow sizeOf liesIn allSegments anySegment segmentsFit vectorOf isValid changedTo pushOf insertOf appendOf headOf tailOf splitOf splitTailOf put bytesOf scatterOf fillOf copies owns ownedOf shares overlapOf selfOverlapOf allAligned isAlignedOf alignmentOf blockers-overlaps conflict notes notesOf noBlockers enteredOf forgetting leftOf waitsOf directStage paddedStage firstPhase readPlan writePlan zeroesPlan zeroPlan discardPlan chunkNext tailNext headNext toldOf requestOf stages-liesIn isSound vacant fresh openOf openProfileOf lentFits lentOf isOutBy isOut meetsOf meetsAt overlapsOf firstFree sourceOf sourceFits mergedAt filled blockersWith placedAt beginReadOf beginWriteOf beginZeroesOf beginDiscardOf beginOf nextOf isKeptBy blockersWithout copiedAt handed staysOf endsOf entersOf tellAt tellOf collectOf pieceOf partOf isKept changed window piecesFrom gathered landed carriedOut plainStep step fed
 starred-lists = record {
   ten = (refl, refl);
   to-the-end = (refl, refl);
