@@ -22,7 +22,7 @@ use Rattle.blockers.specs.declared.Kind.{Kind}
 use Rattle.blockers.specs.declared.Kind.the-variants.{Weak, Strong}
 use Rattle.blockers.specs.declared.Blockers.{Blockers}
 use Rattle.blockers.specs.declared.Changed.{Changed}
-use Rattle.stages.specs.Stages.{sizeOf, isBlocking, usesBounce, zeroJob, readPlan, writePlan, zeroPlan, discardPlan}
+use Rattle.stages.specs.Stages.{sizeOf, blockedOf, isBlocking, usesBounce, zeroJob, readPlan, writePlan, zeroPlan, discardPlan}
 use Rattle.stages.specs.declared.state.Job.{Job}
 use Rattle.stages.specs.declared.state.Job.the-variants.{Read, Write, Zeroes, AllocatedZeroes, Discard}
 use Rattle.stages.specs.declared.state.Phase.{Phase}
@@ -102,7 +102,8 @@ strength false = Weak
 -- "Direct writes, zero requests and discard requests enter a weak blocker over their range, padded writes a strong one over the padded range;
 -- reads enter none."
 unfoldable pub blockersWith : Blockers → ℕ → State → Changed
-blockersWith b p x = pick (isBlocking (x .phase)) (enteredOf (strength (x .stage .strong)) p (x .stage .request) b) (record { blockers = b; outcome = Done })
+blockersWith b p x =
+    pick (isBlocking (x .phase)) (enteredOf (strength (x .stage .strong)) p (blockedOf (x .stage)) b) (record { blockers = b; outcome = Done })
 
 abbrev pub withJob : Dock → ℕ → Blockers → State → IoVector → Dock
 withJob d p b x v = record { settings = d .settings; buffers = d .buffers; blockers = b; states = set (d .states) p x; vectors = set (d .vectors) p v }

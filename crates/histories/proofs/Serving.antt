@@ -198,15 +198,21 @@ module _ (w : World) (m : Plain) (I : Inv w m) (p : ℕ) (q : Request) (O : Out 
       U : SlotOf (w .dock) o
       U = I .held .slots o h
 
-      clear : overlaps (x .stage .request) (stateAt (w .dock) o .stage .request) ≡ false
+      B : ℕ → Range
+      B k = blockerAt (w .dock .blockers) k .range
+
+      clear : overlaps (B p) (B o) ≡ false
       clear =
-          subst (λ (r : Range). overlaps r (stateAt (w .dock) o .stage .request) ≡ false) (S .blocker b .1)
-          (subst (λ (r : Range). overlaps (blockerAt (w .dock .blockers) p .range) r ≡ false) (U .blocker blocks .1)
-          (free-apart (w .dock .blockers) (I .held .rank) (I .held .clock) (I .held .blockers) p o (O .slot) h (λ e. n (sym e)) (S .entered ∙ b) (U .entered ∙ blocks)
-          (inr (U .blocker blocks .0 ∙ ap strength strong)) (O .free) free))
+          free-apart (w .dock .blockers) (I .held .rank) (I .held .clock) (I .held .blockers) p o (O .slot) h (λ e. n (sym e)) (S .entered ∙ b) (U .entered ∙ blocks)
+          (inr (U .blocker blocks .0 ∙ ap strength strong)) (O .free) free
 
       outside : (t : Bool) → inRange (x .stage .request) y ≡ t → t ≡ false
-      outside true e = sym (shared-overlap (x .stage .request) (stateAt (w .dock) o .stage .request) y e (in-range (stateAt (w .dock) o .stage .request) y (omega arith) (omega arith))) ∙ clear
+      outside true e =
+          let a = leb-true (x .stage .request .start .0) y (and-left _ _ e) in
+          let z = ltb-true y (x .stage .request .end .0) (and-right (leb (x .stage .request .start .0) y) _ e) in
+          let own = S .blocker b .1 in
+          let its = U .blocker blocks .1 in
+          sym (shared-overlap (B p) (B o) y (in-range (B p) y (omega (arith, own .from, a)) (omega (arith, own .to, z))) (in-range (B o) y (omega (arith, its .from)) (omega (arith, its .to, l)))) ∙ clear
       outside false e = refl
 
   -- ---- a read into the share, of the range r, from a on

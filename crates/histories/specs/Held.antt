@@ -2,7 +2,7 @@
 use mathlib.Core.Path.{_≡_}
 use mathlib.Core.Bool.{true, false}
 use mathlib.Core.List.{List}
-use Prim.Native.Nat.{ℕ, _<_}
+use Prim.Native.Nat.{ℕ, _<_, _≤_}
 use lib.ListN.{length}
 use Rattle.arithmetic.specs.Settings.{openingOf}
 use Rattle.arithmetic.specs.declared.refusals.Outcome.the-variants.{Done}
@@ -24,6 +24,11 @@ use Rattle.dock.specs.declared.dock.Dock.{Dock}
 use Rattle.dock.specs.declared.begin.Asked.{Asked}
 use Rattle.histories.specs.Courses.{hasVector, isRegular}
 
+-- one range lies inside another
+pub record Encloses (r q : Range) : Type 0 where
+  pub from : r .start .0 ≤ q .start .0
+  pub to : q .end .0 ≤ r .end .0
+
 -- One slot: its job x, its vector v, and the kind and range of its blocker, where a share has n bytes and the data m.
 pub record SlotHeld (n m : ℕ) (x : State) (v : IoVector) (k : Kind) (r : Range) : Type 0 where
   -- its bytes lie in its share, its ranges on the store
@@ -34,9 +39,9 @@ pub record SlotHeld (n m : ℕ) (x : State) (v : IoVector) (k : Kind) (r : Range
   -- a read or write has one stage, and a vector over the data of as many bytes
   pub sole : isFree (x .phase) ≡ false → hasVector (x .job) ≡ true → x .stage .asked ≡ x .range
   pub vector : isFree (x .phase) ≡ false → hasVector (x .job) ≡ true → (isValid m v ≡ true) × (v .total ≡ sizeOf (x .range))
-  -- a blocker is entered exactly where the phase has one: that of its stage, over the range of its request
+  -- a blocker is entered exactly where the phase has one: as strong as its stage says, and its request's range lies inside the blocker's
   pub entered : present k ≡ isBlocking (x .phase)
-  pub blocker : isBlocking (x .phase) ≡ true → (k ≡ strength (x .stage .strong)) × (r ≡ x .stage .request)
+  pub blocker : isBlocking (x .phase) ≡ true → (k ≡ strength (x .stage .strong)) × Encloses r (x .stage .request)
 
 abbrev pub SlotOf : Dock → ℕ → Type 0
 SlotOf d p =
