@@ -31,6 +31,7 @@ use Rattle.stages.specs.declared.state.State.{State}
 use Rattle.dock.specs.Dock.{noState, noVector, stateAt, vectorAt, isReadJob, meetsOf, meetsAt, overlapsOf, firstFree}
 use Rattle.dock.specs.Begin.{isWriteJob, isBouncedWrite, sourceOf, sourceFits, mergedAt, filled, placed}
 use Rattle.dock.specs.declared.dock.Dock.{Dock}
+use Rattle.dock.specs.declared.begin.Asked.{Asked}
 use Rattle.histories.specs.Courses.{isZeroJob, puts, isRegular, suited, never}
 use Rattle.histories.specs.Calls.{Ready, free-idle, write-vector, copied, first-free, free-there, place-held}
 use Rattle.histories.specs.MadeLaws.{data-long}
@@ -40,7 +41,7 @@ use Rattle.histories.specs.Histories.{World, called}
 use Rattle.histories.proofs.Lists.{share-put-length, share-put-other, share-put-on}
 use Rattle.histories.proofs.Geometry.{Geo, Unread, Shaped}
 use Rattle.histories.proofs.Progress.{Before}
-use Rattle.histories.proofs.Invariant.{share, Fact, Flight, within, no-padding}
+use Rattle.histories.proofs.Invariant.{share, Fact, AskedFor, Flight, within, no-padding}
 use Rattle.histories.proofs.World.{Taken, SlotInv, Inv, room, enter-waits}
 use Rattle.histories.proofs.Renewing.{set-same, set-other, renewed-inv}
 
@@ -140,7 +141,8 @@ module _ (n p : ℕ) (h : p < 8) (x : State) (v : IoVector) (memory scratch : Li
 -- ---- the job comes to its slot
 
 -- what a begin's plan and its vector give
-pub record Start (d : Dock) (j : Job) (v : IoVector) (x : State) : Type 0 where
+pub record Start (d : Dock) (q : Asked) (j : Job) (v : IoVector) (x : State) : Type 0 where
+  pub asked : AskedFor q x v
   pub ready : Ready (d .settings) (d .buffers .«data» .length) v x
   pub shaped : Shaped x
   pub reads : isReadJob (x .job) ≡ isReadJob j
@@ -187,7 +189,7 @@ opened-fact s memory sh x v j g u p f = by (x .phase) refl u p f
     by ZeroRequest e u p f = λ c. no c
     by DiscardRequest e u p f = tt
 
-module _ (w : World) (m : Plain) (I : Inv w m) (j : Job) (v : IoVector) (x : State) (k : Start (w .dock) j v x) (clear : overlapsOf (w .dock .states) (w .dock .vectors) j v ≡ false) (h : firstFree (w .dock .states) < 8) where
+module _ (w : World) (m : Plain) (I : Inv w m) (ask : Asked) (j : Job) (v : IoVector) (x : State) (k : Start (w .dock) ask j v x) (clear : overlapsOf (w .dock .states) (w .dock .vectors) j v ≡ false) (h : firstFree (w .dock .states) < 8) where
   abbrev d : Dock
   d = w .dock
 
@@ -199,7 +201,7 @@ module _ (w : World) (m : Plain) (I : Inv w m) (j : Job) (v : IoVector) (x : Sta
   bs = bytesOf (w .memory) (segmentsOf v)
 
   abbrev job : Tracked
-  job = record { first = x; bytes = bs; codes = []; steps = [] }
+  job = record { asked = ask; bytes = bs; first = x; codes = []; steps = [] }
 
   abbrev begun : World
   begun = called w (placed d p x v (w .memory) (w .scratch) .dock) (w .memory) (placed d p x v (w .memory) (w .scratch) .scratch)
@@ -231,8 +233,7 @@ module _ (w : World) (m : Plain) (I : Inv w m) (j : Job) (v : IoVector) (x : Sta
   flies : Flight (d .settings) (w .store) (w .memory) (share (begun .scratch) (d .settings .bounce) p) x v none (waitsOf p (begun .dock .blockers)) job
   flies = record {
     stands = refl;
-    job = refl;
-    range = refl;
+    asked = k .asked;
     source = λ u. refl;
     geo = k .shaped .geo;
     zoned = λ e. k .shaped .zoned;

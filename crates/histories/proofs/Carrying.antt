@@ -182,8 +182,7 @@ module _ (w : World) (m : Plain) (I : Inv w m) (p : ℕ) (h : p < 8) (pending : 
                   rw (set-same (w .carried) p (some code))
                   (record {
                     stands = T .flight .stands;
-                    job = T .flight .job;
-                    range = T .flight .range;
+                    asked = T .flight .asked;
                     source = source;
                     geo = T .flight .geo;
                     zoned = T .flight .zoned;

@@ -357,8 +357,8 @@ module _ (w : World) (m : Plain) (I : Inv w m) (p : ℕ) (q : Request) (O : Out 
       fits : 0 + sizeOf (x .stage .request) ≤ N
       fits = let k = within N x (S .sound) (ap usesBounce e) .size in omega (arith, k)
 
-      range-same : T .j .first .range ≡ x .stage .asked
-      range-same = T .flight .range ∙ sym (sole (read-vector (x .job) (bounced-read e)))
+      range-same : x .range ≡ x .stage .asked
+      range-same = sym (sole (read-vector (x .job) (bounced-read e)))
 
       sh : ℕ → ℕ
       sh = share (put (w .scratch) (p * N + 0) (window (yields code c (w .store)) (r .start .0) (sizeOf r))) N p
@@ -442,14 +442,14 @@ module _ (w : World) (m : Plain) (I : Inv w m) (p : ℕ) (q : Request) (O : Out 
           ap (λ (f : Bytes). window f (r .start .0) (sizeOf r)) (yields-is code c (w .store) z) ∙ window-same (w .store) (m .bytes) (r .start .0) (sizeOf r) (I .same)
           ∙ ap (λ (k : Range). window (m .bytes) (k .start .0) (sizeOf k)) (sym as-asked)
 
-      range-same : T .j .first .range ≡ x .stage .asked
-      range-same = T .flight .range ∙ sym (sole has)
+      range-same : x .range ≡ x .stage .asked
+      range-same = sym (sole has)
 
       holds : bytesOf memory' (segmentsOf v) ≡ got
       holds = gather-scatter (w .memory) (segmentsOf v) got lie (I .alone p (O .slot) taken reads) size
 
       inv : (steps' : List Did) → ((y : ℕ) → putBy (T .j .steps) y ≡ true → putBy steps' y ≡ true)
-          → (_≡_ {A = Option ℕ} (some code) (some 0) → OwedBy Read (withSteps (T .j) steps') v memory')
+          → (_≡_ {A = Option ℕ} (some code) (some 0) → OwedBy Read (x .range) v (withSteps (T .j) steps') memory')
           → Inv (acted w p code (w .store) memory' (w .scratch)) (putJob m p (some (withSteps (T .j) steps')))
       inv steps' grows owed =
           carry-inv w m I p (O .slot) (O .pending) (O .free) T code (w .store) memory' (w .scratch) (m .bytes) steps' grows

@@ -18,12 +18,13 @@ use Rattle.arithmetic.specs.declared.refusals.Refusal.the-variants.{Segment, Ov
 use Rattle.arithmetic.specs.declared.refusals.Outcome.{Outcome}
 use Rattle.arithmetic.specs.declared.refusals.Outcome.the-variants.{Done, Refused}
 use Rattle.arithmetic.specs.declared.offsets.StoreOffset.{StoreOffset}
+use Rattle.arithmetic.specs.declared.offsets.Range.{Range}
 use Rattle.arithmetic.specs.declared.settings.Settings.{Settings}
 use Rattle.arithmetic.specs.declared.zeroes.ZeroCut.{ZeroCut}
 use Rattle.arithmetic.specs.declared.zeroes.ZeroCut.the-variants.{Nothing as NoCut, Whole, Split, Refused as CutRefused}
 use Rattle.vectors.specs.Vectors.{segmentsOf, bytesOf, isValid, vectorOf, alignmentOf}
 use Rattle.vectors.specs.declared.vector.IoVector.{IoVector}
-use Rattle.stages.specs.Stages.{isFree, hasEnded, isPending, readPlan, writePlan, zeroJob, zeroBy, zeroPlan, discardPlan, zeroesPlan, toldOf}
+use Rattle.stages.specs.Stages.{asked, isFree, hasEnded, isPending, readPlan, writePlan, zeroJob, zeroBy, zeroPlan, discardPlan, zeroesPlan, toldOf}
 use Rattle.stages.specs.Laws.{Starts, read-opens, write-opens, zero-opens, discard-opens}
 use Rattle.stages.specs.declared.state.Job.{Job}
 use Rattle.stages.specs.declared.state.Job.the-variants.{Read, Write, Zeroes, AllocatedZeroes, Discard}
@@ -51,7 +52,7 @@ use Rattle.histories.specs.Courses.{never}
 use Rattle.histories.specs.Calls.{starts-from, read-ready, write-ready, zero-ready, discard-ready, place-done}
 use Rattle.histories.specs.MadeLaws.{judgedAs, begin-is, data-long, tell-is}
 use Rattle.histories.specs.Store.{Bytes, Choice}
-use Rattle.histories.specs.PlainStore.{Tracked, Plain, plainOpened, plainStep, entersBy, broughtBy, toldBy, tellBy, collectBy}
+use Rattle.histories.specs.PlainStore.{rangeFor, Tracked, Plain, plainOpened, plainStep, entersBy, broughtBy, toldBy, tellBy, collectBy}
 use Rattle.histories.specs.Histories.{Lends, Event, begins, carries, tells, collects, World, opened, called, fitsLent, afterBegin, told, afterTell, afterCollect, outIn, afterCarry, step, carryItem, fed, LentOf, Allowed, Lawful, OwedBy, OwedTo, Owed, Claim, EveryList}
 use Rattle.histories.proofs.Geometry.{read-shaped, write-shaped, zero-shaped, discard-shaped}
 use Rattle.histories.proofs.Progress.{Before, Follows, Opening, zeroes-follow}
@@ -92,37 +93,45 @@ module _ (d : Dock) (fit : settingsFit (d .settings) ≡ true) (o : StoreOffset)
   abbrev al : IoVector → Bool
   al v = isAligned (alignmentOf (d .settings .align) (d .buffers .«data») v)
 
-  zero-start : (t : Bool) (n : ℕ) → Starts (Start d Zeroes (vectorOf [])) (zeroPlan (d .settings) t o n)
-  zero-start t n = starts-from (Start d Zeroes (vectorOf [])) (zeroPlan (d .settings) t o n) (λ x i.
+  abbrev ask : Job → ℕ → IoVector → Asked
+  ask j n v = record { job = j; offset = o; length = n; vector = v }
+
+  zero-start : (t : Bool) (n : ℕ) (q : Asked) → q .job ≡ zeroJob t → rangeFor q ≡ asked o n → vectorFor q ≡ vectorOf [] → Starts (Start d q Zeroes (vectorOf [])) (zeroPlan (d .settings) t o n)
+  zero-start t n q a b c = starts-from (Start d q Zeroes (vectorOf [])) (zeroPlan (d .settings) t o n) (λ x i.
+      let k = zero-opens (d .settings) o n t x i in
       record {
+        asked = record { job = a ∙ sym (k .job); range = b ∙ sym (k .range); vector = c };
         ready = rw i at (zero-ready (d .settings) M o (vectorOf []) t n);
         shaped = rw i at (zero-shaped (d .settings) fit t o n);
-        reads = ap isReadJob (zero-opens (d .settings) o n t x i .job) ∙ zero-reads t;
+        reads = ap isReadJob (k .job) ∙ zero-reads t;
         before = λ z. rw i at (zero-before (d .settings) fit t o n);
       })
 
-  starts : (j : Job) (n : ℕ) (v : IoVector) → isValid M (movedOf j v) ≡ true → Starts (Start d (judgedAs j) (movedOf j v)) (planOf j (d .settings) (d .buffers) o n v)
-  starts Read n v e = starts-from (Start d Read v) (readPlan (d .settings) o (v .total) (al v)) (λ x i.
+  starts : (j : Job) (n : ℕ) (v : IoVector) → isValid M (movedOf j v) ≡ true → Starts (Start d (ask j n v) (judgedAs j) (movedOf j v)) (planOf j (d .settings) (d .buffers) o n v)
+  starts Read n v e = starts-from (Start d (ask Read n v) Read v) (readPlan (d .settings) o (v .total) (al v)) (λ x i.
       let k = read-opens (d .settings) o (v .total) (al v) x i in
       record {
+        asked = record { job = sym (k .job); range = sym (k .range); vector = refl };
         ready = rw i at (read-ready (d .settings) M o v e (al v));
         shaped = rw i at (read-shaped (d .settings) fit o (v .total) (al v));
         reads = ap isReadJob (k .job);
         before = λ z. never (rw (k .job) at z);
       })
-  starts Write n v e = starts-from (Start d Write v) (writePlan (d .settings) o (v .total) (al v)) (λ x i.
+  starts Write n v e = starts-from (Start d (ask Write n v) Write v) (writePlan (d .settings) o (v .total) (al v)) (λ x i.
       let k = write-opens (d .settings) o (v .total) (al v) x i in
       record {
+        asked = record { job = sym (k .job); range = sym (k .range); vector = refl };
         ready = rw i at (write-ready (d .settings) M o v e (al v));
         shaped = rw i at (write-shaped (d .settings) fit o (v .total) (al v));
         reads = ap isReadJob (k .job);
         before = λ z. never (rw (k .job) at z);
       })
-  starts Zeroes n v e = zero-start false n
-  starts AllocatedZeroes n v e = zero-start true n
-  starts Discard n v e = starts-from (Start d Discard (vectorOf [])) (discardPlan (d .settings) o n) (λ x i.
+  starts Zeroes n v e = zero-start false n (ask Zeroes n v) refl refl refl
+  starts AllocatedZeroes n v e = zero-start true n (ask AllocatedZeroes n v) refl refl refl
+  starts Discard n v e = starts-from (Start d (ask Discard n v) Discard (vectorOf [])) (discardPlan (d .settings) o n) (λ x i.
       let k = discard-opens (d .settings) o n x i in
       record {
+        asked = record { job = sym (k .job); range = sym (k .range); vector = refl };
         ready = rw i at (discard-ready (d .settings) M o (vectorOf []) n);
         shaped = rw i at (discard-shaped (d .settings) fit o n);
         reads = ap isReadJob (k .job);
@@ -139,25 +148,25 @@ module _ (w : World) (m : Plain) (I : Inv w m) where
   fits : settingsFit (w .dock .settings) ≡ true
   fits = opened-facts (w .dock .settings) (w .dock .buffers) (I .held .opened) .fit
 
-  abbrev Keeps : Begins → Plan → List ℕ → Type 0
-  Keeps b plan bs = Inv (begunWorld w b) (entersBy (b .answer) m plan bs)
+  abbrev Keeps : Asked → Begins → Plan → List ℕ → Type 0
+  Keeps q b plan bs = Inv (begunWorld w b) (entersBy (b .answer) m q bs plan)
 
   -- a planned job
-  begun-keeps : (j : Job) (v : IoVector) (plan : Plan) → Starts (Start (w .dock) j v) plan
-      → Keeps (begunBy (w .dock) j v (w .memory) (w .scratch) plan) plan (bytesOf (w .memory) (segmentsOf v))
-  begun-keeps j v NothingToDo k = I
-  begun-keeps j v (PlanRefused r) k = I
-  begun-keeps j v (Started x) k = go (overlapsOf (w .dock .states) (w .dock .vectors) j v) (ltb (firstFree (w .dock .states)) 8) refl refl
+  begun-keeps : (q : Asked) (j : Job) (v : IoVector) (plan : Plan) → Starts (Start (w .dock) q j v) plan
+      → Keeps q (begunBy (w .dock) j v (w .memory) (w .scratch) plan) plan (bytesOf (w .memory) (segmentsOf v))
+  begun-keeps q j v NothingToDo k = I
+  begun-keeps q j v (PlanRefused r) k = I
+  begun-keeps q j v (Started x) k = go (overlapsOf (w .dock .states) (w .dock .vectors) j v) (ltb (firstFree (w .dock .states)) 8) refl refl
     where
       p : ℕ
       p = firstFree (w .dock .states)
 
       go : (a b : Bool) → overlapsOf (w .dock .states) (w .dock .vectors) j v ≡ a → ltb (firstFree (w .dock .states)) 8 ≡ b
-          → Keeps (pick a (refusedBegin (w .dock) (w .scratch) Overlap) (pick b (placedAt (w .dock) p x v (w .memory) (w .scratch)) (refusedBegin (w .dock) (w .scratch) Full))) (Started x) (bytesOf (w .memory) (segmentsOf v))
+          → Keeps q (pick a (refusedBegin (w .dock) (w .scratch) Overlap) (pick b (placedAt (w .dock) p x v (w .memory) (w .scratch)) (refusedBegin (w .dock) (w .scratch) Full))) (Started x) (bytesOf (w .memory) (segmentsOf v))
       go true b e f = I
       go false true e f =
           let h = ltb-true (firstFree (w .dock .states)) 8 f in
-          subst (λ (z : Begins). Keeps z (Started x) (bytesOf (w .memory) (segmentsOf v))) (sym (place-done (w .dock) (I .held) v (w .memory) (w .scratch) long x (k .ready) h)) (begun-inv w m I j v x k e h)
+          subst (λ (z : Begins). Keeps q z (Started x) (bytesOf (w .memory) (segmentsOf v))) (sym (place-done (w .dock) (I .held) v (w .memory) (w .scratch) long x (k .ready) h)) (begun-inv w m I q j v x k e h)
       go false false e f = I
 
   lent-ok : lentOf (w .dock .settings) (w .dock .buffers) (length (w .memory)) (length (w .scratch)) ≡ Done
@@ -165,15 +174,15 @@ module _ (w : World) (m : Plain) (I : Inv w m) where
   lent-ok = simp (I .held .opened, I .long)
 
   -- 205, 202, then the plan
-  begin-keeps : (q : Asked) → Keeps (beginOf (w .dock) q (w .memory) (w .scratch)) (planFor (w .dock .settings) (w .dock .buffers) q) (broughtBy q (w .memory))
-  begin-keeps q = subst (λ (b : Begins). Keeps b (planFor (w .dock .settings) (w .dock .buffers) q) (broughtBy q (w .memory))) (sym (begin-is (w .dock) q (w .memory) (w .scratch)))
-      (subst (λ (o : Outcome). Keeps (onlyIf (w .dock) (w .scratch) o (past (isValid (length (w .memory)) (vectorFor q)))) (planFor (w .dock .settings) (w .dock .buffers) q) (broughtBy q (w .memory))) (sym lent-ok) (go (isValid (length (w .memory)) (vectorFor q)) refl))
+  begin-keeps : (q : Asked) → Keeps q (beginOf (w .dock) q (w .memory) (w .scratch)) (planFor (w .dock .settings) (w .dock .buffers) q) (broughtBy q (w .memory))
+  begin-keeps q = subst (λ (b : Begins). Keeps q b (planFor (w .dock .settings) (w .dock .buffers) q) (broughtBy q (w .memory))) (sym (begin-is (w .dock) q (w .memory) (w .scratch)))
+      (subst (λ (o : Outcome). Keeps q (onlyIf (w .dock) (w .scratch) o (past (isValid (length (w .memory)) (vectorFor q)))) (planFor (w .dock .settings) (w .dock .buffers) q) (broughtBy q (w .memory))) (sym lent-ok) (go (isValid (length (w .memory)) (vectorFor q)) refl))
     where
       past : Bool → Begins
       past t = pick t (begunBy (w .dock) (judgedAs (q .job)) (vectorFor q) (w .memory) (w .scratch) (planFor (w .dock .settings) (w .dock .buffers) q)) (refusedBegin (w .dock) (w .scratch) Segment)
 
-      go : (t : Bool) → isValid (length (w .memory)) (vectorFor q) ≡ t → Keeps (past t) (planFor (w .dock .settings) (w .dock .buffers) q) (broughtBy q (w .memory))
-      go true e = begun-keeps (judgedAs (q .job)) (vectorFor q) (planFor (w .dock .settings) (w .dock .buffers) q) (starts (w .dock) fits (q .offset) (q .job) (q .length) (q .vector) (rw long at e))
+      go : (t : Bool) → isValid (length (w .memory)) (vectorFor q) ≡ t → Keeps q (past t) (planFor (w .dock .settings) (w .dock .buffers) q) (broughtBy q (w .memory))
+      go true e = begun-keeps q (judgedAs (q .job)) (vectorFor q) (planFor (w .dock .settings) (w .dock .buffers) q) (starts (w .dock) fits (q .offset) (q .job) (q .length) (q .vector) (rw long at e))
       go false e = I
 
 -- ---- an event
@@ -198,7 +207,7 @@ ended-taken DirectWrite e = refl
 ended-taken ZeroRequest e = refl
 ended-taken DiscardRequest e = refl
 
-ended-owes : (s : Bytes) (memory : List ℕ) (sh : ℕ → ℕ) (x : State) (v : IoVector) (car : Option ℕ) (j : Tracked) → x .phase ≡ Ended → Fact (x .phase) s memory sh x v car j → x .answer ≡ 0 → OwedBy (x .job) j v memory
+ended-owes : (s : Bytes) (memory : List ℕ) (sh : ℕ → ℕ) (x : State) (v : IoVector) (car : Option ℕ) (j : Tracked) → x .phase ≡ Ended → Fact (x .phase) s memory sh x v car j → x .answer ≡ 0 → OwedBy (x .job) (x .range) v j memory
 ended-owes s memory sh x v car j e f z = (subst (λ (ph : Phase). Fact ph s memory sh x v car j) e f) z
 
 final-zero : (a : ℕ) → _≡_ {A = Collected} (Final a) (Final 0) → a ≡ 0
@@ -213,11 +222,8 @@ module _ (w : World) (m : Plain) (I : Inv w m) (l : Lends) (lent : LentOf w l) w
   unfolding lentOf
   lent-other e = simp (I .held .opened, e)
 
-  abbrev begunEvent : Begins → Plan → List ℕ → Type 0
-  begunEvent b plan bs = Inv (afterBegin w l b) (entersBy (b .answer) m plan bs)
-
-  begin-event : (q : Asked) → begunEvent (beginOf (w .dock) q (l .memory) (l .scratch)) (planFor (m .settings) (m .buffers) q) (broughtBy q (l .memory))
-  begin-event q = subst (λ (k : Plan). begunEvent b k (broughtBy q (l .memory))) (sym plan-of) (go (fitsLent w l) refl)
+  begin-event : (q : Asked) → Inv (afterBegin w l (beginOf (w .dock) q (l .memory) (l .scratch))) (entersBy (beginOf (w .dock) q (l .memory) (l .scratch) .answer) m q (broughtBy q (l .memory)) (planFor (m .settings) (m .buffers) q))
+  begin-event q = subst (λ (k : Plan). Inv (afterBegin w l b) (entersBy (b .answer) m q (broughtBy q (l .memory)) k)) (sym plan-of) (go (fitsLent w l) refl)
     where
       b : Begins
       b = beginOf (w .dock) q (l .memory) (l .scratch)
@@ -225,11 +231,11 @@ module _ (w : World) (m : Plain) (I : Inv w m) (l : Lends) (lent : LentOf w l) w
       plan-of : planFor (m .settings) (m .buffers) q ≡ planFor (w .dock .settings) (w .dock .buffers) q
       plan-of = let a = I .settings in let c = I .buffers in λ i. planFor (a i) (c i) q
 
-      go : (t : Bool) → fitsLent w l ≡ t → Inv (pick t (called w (b .dock) (l .memory) (b .scratch)) w) (entersBy (b .answer) m (planFor (w .dock .settings) (w .dock .buffers) q) (broughtBy q (l .memory)))
+      go : (t : Bool) → fitsLent w l ≡ t → Inv (pick t (called w (b .dock) (l .memory) (b .scratch)) w) (entersBy (b .answer) m q (broughtBy q (l .memory)) (planFor (w .dock .settings) (w .dock .buffers) q))
       go true f =
-          subst (λ (s : List ℕ). Inv (begunWorld (withData w (l .memory)) (beginOf (w .dock) q (l .memory) s)) (entersBy (beginOf (w .dock) q (l .memory) s .answer) m (planFor (w .dock .settings) (w .dock .buffers) q) (broughtBy q (l .memory))))
+          subst (λ (s : List ℕ). Inv (begunWorld (withData w (l .memory)) (beginOf (w .dock) q (l .memory) s)) (entersBy (beginOf (w .dock) q (l .memory) s .answer) m q (broughtBy q (l .memory)) (planFor (w .dock .settings) (w .dock .buffers) q)))
           (sym (lent-scratch w m I l f lent)) (begin-keeps (withData w (l .memory)) m (lent-keeps w m I l f lent) q)
-      go false f = subst (λ (a : Begun). Inv w (entersBy a m (planFor (w .dock .settings) (w .dock .buffers) q) (broughtBy q (l .memory)))) (sym (begin-refused (w .dock) (l .memory) (l .scratch) q (lent-other f))) I
+      go false f = subst (λ (a : Begun). Inv w (entersBy a m q (broughtBy q (l .memory)) (planFor (w .dock .settings) (w .dock .buffers) q))) (sym (begin-refused (w .dock) (l .memory) (l .scratch) q (lent-other f))) I
 
   -- ---- tell
 
@@ -308,22 +314,25 @@ module _ (w : World) (m : Plain) (I : Inv w m) (l : Lends) (lent : LentOf w l) w
   ended-phase ZeroRequest e = never e
   ended-phase DiscardRequest e = never e
 
-  owed-at-collect : (p : ℕ) → collectOf (w .dock) p (length (l .memory)) (length (l .scratch)) .answer ≡ Final 0 → OwedTo (m .jobs p) (vectorAt (w .dock) p) (l .memory)
+  owed-at-collect : (p : ℕ) → collectOf (w .dock) p (length (l .memory)) (length (l .scratch)) .answer ≡ Final 0 → OwedTo (m .jobs p) (l .memory)
   unfolding collectOf
   owed-at-collect p e = go (fitsLent w l) (ltb p 8) (hasEnded (stateAt (w .dock) p .phase)) refl refl refl e
     where
       x : State
       x = stateAt (w .dock) p
 
-      owed : fitsLent w l ≡ true → p < 8 → hasEnded (x .phase) ≡ true → x .answer ≡ 0 → OwedTo (m .jobs p) (vectorAt (w .dock) p) (l .memory)
+      owed : fitsLent w l ≡ true → p < 8 → hasEnded (x .phase) ≡ true → x .answer ≡ 0 → OwedTo (m .jobs p) (l .memory)
       owed f h k z =
           let ph = ended-phase (x .phase) k in
           let t = lent-keeps w m I l f lent .slots p h .tracks (ended-taken (x .phase) k) in
-          subst (λ (o : Option Tracked). OwedTo o (vectorAt (w .dock) p) (l .memory)) (sym (t .is))
-          (subst (λ (o : Job). OwedBy o (t .j) (vectorAt (w .dock) p) (l .memory)) (sym (t .flight .job))
-          (ended-owes (w .store) (l .memory) _ x (vectorAt (w .dock) p) (w .carried p) (t .j) ph (t .flight .fact) z))
+          let a = t .flight .asked in
+          subst (λ (o : Option Tracked). OwedTo o (l .memory)) (sym (t .is))
+          (subst (λ (o : Job). OwedBy o (rangeFor (t .j .asked)) (vectorFor (t .j .asked)) (t .j) (l .memory)) (sym (a .job))
+          (subst (λ (r : Range). OwedBy (x .job) r (vectorFor (t .j .asked)) (t .j) (l .memory)) (sym (a .range))
+          (subst (λ (v : IoVector). OwedBy (x .job) (x .range) v (t .j) (l .memory)) (sym (a .vector))
+          (ended-owes (w .store) (l .memory) _ x (vectorAt (w .dock) p) (w .carried p) (t .j) ph (t .flight .fact) z))))
 
-      go : (a b c : Bool) → fitsLent w l ≡ a → ltb p 8 ≡ b → hasEnded (x .phase) ≡ c → answerOf a (b && c) p .answer ≡ Final 0 → OwedTo (m .jobs p) (vectorAt (w .dock) p) (l .memory)
+      go : (a b c : Bool) → fitsLent w l ≡ a → ltb p 8 ≡ b → hasEnded (x .phase) ≡ c → answerOf a (b && c) p .answer ≡ Final 0 → OwedTo (m .jobs p) (l .memory)
       go true true true f h k e = owed f (ltb-true p 8 h) k (final-zero (x .answer) e)
       go true true false f h k e = refused-final e
       go true false c f h k e = refused-final e

@@ -7,6 +7,7 @@ use Prim.Native.Nat.{ℕ, _-_, _<_}
 use lib.Dec.{eqb}
 use lib.ListN.{length, getD}
 use Rattle.arithmetic.specs.Rounding.{pick}
+use Rattle.arithmetic.specs.declared.offsets.Range.{Range}
 use Rattle.arithmetic.specs.declared.settings.Settings.{Settings}
 use Rattle.arithmetic.specs.declared.settings.Buffers.{Buffers}
 use Rattle.arithmetic.specs.declared.refusals.Outcome.{Outcome}
@@ -19,7 +20,7 @@ use Rattle.stages.specs.declared.state.Job.{Job}
 use Rattle.stages.specs.declared.state.Job.the-variants.{Read, Write, Zeroes, AllocatedZeroes, Discard}
 use Rattle.stages.specs.declared.state.Request.{Request}
 use Rattle.dock.specs.Dock.{openOf, stateAt, vectorAt, lentFits}
-use Rattle.dock.specs.Begin.{Begins, beginOf}
+use Rattle.dock.specs.Begin.{Begins, vectorFor, beginOf}
 use Rattle.dock.specs.Next.{nextOf}
 use Rattle.dock.specs.Tell.{Told, tellOf, collectOf}
 use Rattle.dock.specs.declared.dock.Dock.{Dock}
@@ -29,7 +30,7 @@ use Rattle.dock.specs.declared.next.Due.the-variants.{Waiting, Make, Answer, Re
 use Rattle.dock.specs.declared.tell.Collects.{Collects}
 use Rattle.dock.specs.declared.tell.Collected.the-variants.{Final}
 use Rattle.histories.specs.Store.{Bytes, Choice, piecesFrom, gathered, rangeAsked, stored, fetched, inRange}
-use Rattle.histories.specs.PlainStore.{Item, begin, carry, tell, collect, nothing, Did, yielded, wrote, zeroed, discarded, Tracked, Plain, plainOpened, plainStep, setAt}
+use Rattle.histories.specs.PlainStore.{Item, begin, carry, tell, collect, nothing, Did, yielded, wrote, zeroed, discarded, rangeFor, Tracked, Plain, plainOpened, plainStep, setAt}
 
 -- ---- events
 
@@ -176,20 +177,22 @@ abbrev pub putBy : List Did → ℕ → Bool
 putBy [] x = false
 putBy (d ∷ ds) x = pick (puts d x) true (putBy ds x)
 
--- "Owed besides", by the job: j is what the plain byte store has of it, v its vector, memory the data at collect
-abbrev pub OwedBy : Job → Tracked → IoVector → List ℕ → Type 0
+-- "Owed besides", by what was handed to begin: the kind of the job, its range r, its vector v; j has its bytes then and its steps, memory is the data at
+-- collect
+abbrev pub OwedBy : Job → Range → IoVector → Tracked → List ℕ → Type 0
 -- "A read answered 0 holds at collect what its step yielded."
-OwedBy Read j v memory = (bs : List ℕ) × Among (yielded (j .first .range) bs) (j .steps) × (bytesOf memory (segmentsOf v) ≡ bs)
+OwedBy Read r v j memory = (bs : List ℕ) × Among (yielded r bs) (j .steps) × (bytesOf memory (segmentsOf v) ≡ bs)
 -- "a write step of that job, code 0, with its vector's bytes over its asked range"
-OwedBy Write j v memory = (new : Bytes) × Among (wrote (j .first .range) 0 new) (j .steps) × ((x : ℕ) → inRange (j .first .range) x ≡ true → new x ≡ getD (j .bytes) (x - j .first .range .start .0) 0)
+OwedBy Write r v j memory =
+    (new : Bytes) × Among (wrote r 0 new) (j .steps) × ((x : ℕ) → inRange r x ≡ true → new x ≡ getD (j .bytes) (x - r .start .0) 0)
 -- "every byte of the job's range is covered by a write or zero step of that job with code 0"
-OwedBy Zeroes j v memory = (x : ℕ) → inRange (j .first .range) x ≡ true → putBy (j .steps) x ≡ true
-OwedBy AllocatedZeroes j v memory = (x : ℕ) → inRange (j .first .range) x ≡ true → putBy (j .steps) x ≡ true
-OwedBy Discard j v memory = Unit {0}
+OwedBy Zeroes r v j memory = (x : ℕ) → inRange r x ≡ true → putBy (j .steps) x ≡ true
+OwedBy AllocatedZeroes r v j memory = (x : ℕ) → inRange r x ≡ true → putBy (j .steps) x ≡ true
+OwedBy Discard r v j memory = Unit {0}
 
-abbrev pub OwedTo : Option Tracked → IoVector → List ℕ → Type 0
-OwedTo none v memory = ⊥
-OwedTo (some j) v memory = OwedBy (j .first .job) j v memory
+abbrev pub OwedTo : Option Tracked → List ℕ → Type 0
+OwedTo none memory = ⊥
+OwedTo (some j) memory = OwedBy (j .asked .job) (rangeFor (j .asked)) (vectorFor (j .asked)) j memory
 
 -- "Answered 0: collect returned 0."
 abbrev pub Owed : World → Plain → Event → Type 0
@@ -197,7 +200,7 @@ Owed w m (begins q l) = Unit {0}
 Owed w m (carries p code c) = Unit {0}
 Owed w m (tells p code l) = Unit {0}
 Owed w m (collects p l) =
-    collectOf (w .dock) p (length (l .memory)) (length (l .scratch)) .answer ≡ Final 0 → OwedTo (m .jobs p) (vectorAt (w .dock) p) (l .memory)
+    collectOf (w .dock) p (length (l .memory)) (length (l .scratch)) .answer ≡ Final 0 → OwedTo (m .jobs p) (l .memory)
 
 -- after every event, and at every collect that answers 0
 abbrev pub Claim : World → Plain → List Event → Type 0

@@ -2,9 +2,10 @@
 use mathlib.Core.Bool.{true}
 use mathlib.Core.List.{List, [], _∷_}
 use mathlib.Core.Option.{Option, none, some}
-use Prim.Native.Nat.{ℕ}
+use Prim.Native.Nat.{ℕ, _+_}
 use lib.Dec.{eqb}
 use Rattle.arithmetic.specs.Rounding.{pick}
+use Rattle.arithmetic.specs.Offsets.{rangeOf}
 use Rattle.arithmetic.specs.declared.offsets.Range.{Range}
 use Rattle.arithmetic.specs.declared.settings.Settings.{Settings}
 use Rattle.arithmetic.specs.declared.settings.Buffers.{Buffers}
@@ -49,10 +50,22 @@ pub data Did : Type 0 where
   zeroed : Range → ℕ → Did
   discarded : Range → Did
 
--- a job: its first stage by the rules, its vector's bytes at begin, the codes told and its steps, the newest of each first
+-- "its job's range", by what was handed to begin: a read or write has as many bytes as its vector, the others as many as they name
+abbrev pub lengthBy : Job → Asked → ℕ
+lengthBy Read q = q .vector .total
+lengthBy Write q = q .vector .total
+lengthBy Zeroes q = q .length
+lengthBy AllocatedZeroes q = q .length
+lengthBy Discard q = q .length
+
+abbrev pub rangeFor : Asked → Range
+rangeFor q = rangeOf (q .offset .0) (q .offset .0 + lengthBy (q .job) q)
+
+-- a job: what was handed to its begin, and its vector's bytes then; its first stage by the rules; the codes told and its steps, the newest of each first
 pub record Tracked : Type 0 where
-  pub first : State
+  pub asked : Asked
   pub bytes : List ℕ
+  pub first : State
   pub codes : List ℕ
   pub steps : List Did
 
@@ -90,13 +103,13 @@ newBytes Discard o bs = λ x. 0
 
 -- the job with these steps, with one more, with one more code told
 abbrev pub withSteps : Tracked → List Did → Tracked
-withSteps j ds = record { first = j .first; bytes = j .bytes; codes = j .codes; steps = ds }
+withSteps j ds = record { asked = j .asked; bytes = j .bytes; first = j .first; codes = j .codes; steps = ds }
 
 abbrev pub withStep : Tracked → Did → Tracked
 withStep j d = withSteps j (d ∷ j .steps)
 
 abbrev pub withCode : Tracked → ℕ → Tracked
-withCode j code = record { first = j .first; bytes = j .bytes; codes = code ∷ j .codes; steps = j .steps }
+withCode j code = record { asked = j .asked; bytes = j .bytes; first = j .first; codes = code ∷ j .codes; steps = j .steps }
 
 -- the bytes and the job after a request was carried out
 pub record Stepped : Type 0 where
@@ -155,15 +168,15 @@ abbrev pub afterStep : Plain → ℕ → Stepped → Plain
 afterStep m p r = putJob (putBytes m (r .bytes)) p (some (r .job))
 
 -- "A begin that gets a place enters its job"
-abbrev pub tracked : Plan → List ℕ → Option Tracked
-tracked (Started x) bs = some (record { first = x; bytes = bs; codes = []; steps = [] })
-tracked NothingToDo bs = none
-tracked (PlanRefused r) bs = none
+abbrev pub tracked : Asked → List ℕ → Plan → Option Tracked
+tracked q bs (Started x) = some (record { asked = q; bytes = bs; first = x; codes = []; steps = [] })
+tracked q bs NothingToDo = none
+tracked q bs (PlanRefused r) = none
 
-abbrev pub entersBy : Begun → Plain → Plan → List ℕ → Plain
-entersBy (Placed p) m plan bs = putJob m p (tracked plan bs)
-entersBy NoRequest m plan bs = m
-entersBy (BeginRefused r) m plan bs = m
+abbrev pub entersBy : Begun → Plain → Asked → List ℕ → Plan → Plain
+entersBy (Placed p) m q bs plan = putJob m p (tracked q bs plan)
+entersBy NoRequest m q bs plan = m
+entersBy (BeginRefused r) m q bs plan = m
 
 -- "the vector's bytes at begin"
 abbrev pub broughtBy : Asked → List ℕ → List ℕ
@@ -188,7 +201,7 @@ collectBy (Final a) m p = putJob m p none
 collectBy (NotCollected r) m p = m
 
 unfoldable pub plainStep : Plain → Item → Plain
-plainStep m (begin q memory a) = entersBy a m (planFor (m .settings) (m .buffers) q) (broughtBy q memory)
+plainStep m (begin q memory a) = entersBy a m q (broughtBy q memory) (planFor (m .settings) (m .buffers) q)
 plainStep m (carry p code c) = carriedBy (m .jobs p) m p code c
 plainStep m (tell p code a) = tellBy a m p code
 plainStep m (collect p a) = collectBy a m p
