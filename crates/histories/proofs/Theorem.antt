@@ -53,7 +53,7 @@ use Rattle.histories.specs.Calls.{starts-from, read-ready, write-ready, 
 use Rattle.histories.specs.MadeLaws.{judgedAs, begin-is, data-long, tell-is}
 use Rattle.histories.specs.Store.{Bytes, Choice}
 use Rattle.histories.specs.PlainStore.{rangeFor, Tracked, Plain, plainOpened, plainStep, entersBy, broughtBy, toldBy, tellBy, collectBy}
-use Rattle.histories.specs.Histories.{Lends, Event, begins, carries, tells, collects, World, opened, called, fitsLent, afterBegin, told, afterTell, afterCollect, outIn, afterCarry, step, carryItem, fed, LentOf, Allowed, Lawful, OwedBy, OwedTo, Owed, Claim, EveryList}
+use Rattle.histories.specs.Histories.{Lends, Event, begins, carries, tells, collects, World, opened, called, fitsLent, afterBegin, told, afterTell, afterCollect, outIn, afterCarry, step, carryItem, fed, LentOf, CodeOf, HandsIn, Allowed, Lawful, OwedBy, OwedTo, Owed, Claim, EveryList}
 use Rattle.histories.proofs.Geometry.{read-shaped, write-shaped, zero-shaped, discard-shaped}
 use Rattle.histories.proofs.Progress.{Before, Follows, Opening, zeroes-follow}
 use Rattle.histories.proofs.Invariant.{Fact}
@@ -242,10 +242,10 @@ module _ (w : World) (m : Plain) (I : Inv w m) (l : Lends) (lent : LentOf w l) w
   abbrev after-tell : ℕ → ℕ → Told → Type 0
   after-tell p code t = Inv (afterTell w p l t) (tellBy (t .outcome) m p code)
 
-  tell-event : (p code : ℕ) → (tellOf (w .dock) p code (l .memory) (l .scratch) .outcome ≡ Done → w .carried p ≡ some code) → Inv (afterTell w p l (tellOf (w .dock) p code (l .memory) (l .scratch))) (tellBy (tellOf (w .dock) p code (l .memory) (l .scratch) .outcome) m p code)
+  tell-event : (p code : ℕ) → HandsIn w p code l → Inv (afterTell w p l (tellOf (w .dock) p code (l .memory) (l .scratch))) (tellBy (tellOf (w .dock) p code (l .memory) (l .scratch) .outcome) m p code)
   unfolding isOut isOutBy
   tell-event p code hands =
-      subst (λ (t : Told). (t .outcome ≡ Done → w .carried p ≡ some code) → after-tell p code t) (sym (tell-is (w .dock) (I .held) p code (l .memory) (l .scratch)))
+      subst (λ (t : Told). (t .outcome ≡ Done → CodeOf (w .carried p) code) → after-tell p code t) (sym (tell-is (w .dock) (I .held) p code (l .memory) (l .scratch)))
       (go (fitsLent w l) (ltb p 8) (isPending (stateAt (w .dock) p .phase)) (waitsOf p (w .dock .blockers)) (ltb code 200) refl refl refl refl) hands
     where
       x : State
@@ -266,17 +266,22 @@ module _ (w : World) (m : Plain) (I : Inv w m) (l : Lends) (lent : LentOf w l) w
       rule a b c g u =
           pick a (pick (b && (c && not g)) (pick u (after (w .dock) p x code (l .memory) (l .scratch) (toldOf (w .dock .settings) x code)) (refusedTell (w .dock) (l .memory) (l .scratch) NoAnswer)) (refusedTell (w .dock) (l .memory) (l .scratch) Slot)) (refusedTell (w .dock) (l .memory) (l .scratch) Buffer)
 
+      -- the premise of an accepted tell: its request was carried out, with this code
+      carried-with : (o : Option ℕ) → CodeOf o code → o ≡ some code
+      carried-with none c = absurd c
+      carried-with (some k) c = ap some c
+
       done : after (w .dock) p x code (l .memory) (l .scratch) (toldOf (w .dock .settings) x code) .outcome ≡ Done
       done = after-done (w .dock) p x code (l .memory) (l .scratch) (toldOf (w .dock .settings) x code)
 
       yes-case : fitsLent w l ≡ true → p < 8 → isPending (x .phase) ≡ true → waitsOf p (w .dock .blockers) ≡ false
-          → (after (w .dock) p x code (l .memory) (l .scratch) (toldOf (w .dock .settings) x code) .outcome ≡ Done → w .carried p ≡ some code)
+          → (after (w .dock) p x code (l .memory) (l .scratch) (toldOf (w .dock .settings) x code) .outcome ≡ Done → CodeOf (w .carried p) code)
           → Inv (told (after (w .dock) p x code (l .memory) (l .scratch) (toldOf (w .dock .settings) x code) .outcome) w p (after (w .dock) p x code (l .memory) (l .scratch) (toldOf (w .dock .settings) x code))) (tellBy (after (w .dock) p x code (l .memory) (l .scratch) (toldOf (w .dock .settings) x code) .outcome) m p code)
       yes-case f h k n c =
-          subst (λ (o : Outcome). Inv (told o w p (after (w .dock) p x code (l .memory) (l .scratch) (toldOf (w .dock .settings) x code))) (tellBy o m p code)) (sym done) (accepted f h k n (c done))
+          subst (λ (o : Outcome). Inv (told o w p (after (w .dock) p x code (l .memory) (l .scratch) (toldOf (w .dock .settings) x code))) (tellBy o m p code)) (sym done) (accepted f h k n (carried-with (w .carried p) (c done)))
 
       go : (a b c g u : Bool) → fitsLent w l ≡ a → ltb p 8 ≡ b → isPending (x .phase) ≡ c → waitsOf p (w .dock .blockers) ≡ g
-          → (rule a b c g u .outcome ≡ Done → w .carried p ≡ some code) → Inv (pick a (told (rule a b c g u .outcome) w p (rule a b c g u)) w) (tellBy (rule a b c g u .outcome) m p code)
+          → (rule a b c g u .outcome ≡ Done → CodeOf (w .carried p) code) → Inv (pick a (told (rule a b c g u .outcome) w p (rule a b c g u)) w) (tellBy (rule a b c g u .outcome) m p code)
       go true true true false true f h k n c = yes-case f (ltb-true p 8 h) k n c
       go true true true false false f h k n c = refused NoAnswer f
       go true true true true u f h k n c = refused Slot f

@@ -13,7 +13,7 @@ use Rattle.dock.specs.declared.begin.Asked.{Asked}
 use Rattle.dock.specs.Tell.{tellOf}
 use Rattle.histories.specs.Store.{Choice}
 use Rattle.histories.specs.PlainStore.{Plain, plainStep}
-use Rattle.histories.specs.Histories.{Lends, Event, begins, carries, tells, collects, World, step, fed, LentOf, HandsIn, Allowed, Lawful}
+use Rattle.histories.specs.Histories.{Lends, Event, begins, carries, tells, collects, World, step, fed, LentOf, CodeOf, HandsIn, Allowed, Lawful}
 
 -- an event without its buffers
 pub data Act : Type 0 where
@@ -72,9 +72,9 @@ allAllowed w (a ∷ rest) = isAllowed w a && allAllowed (step w (eventOf w a)) r
 lent-own : (w : World) → LentOf w (own w)
 lent-own w e = (refl, λ p k h f c. refl)
 
-code-of : (o : Option ℕ) (code : ℕ) → isCode o code ≡ true → o ≡ some code
+code-of : (o : Option ℕ) (code : ℕ) → isCode o code ≡ true → CodeOf o code
 code-of none code e = absurd (false≢true e)
-code-of (some c) code e = let i = eqb-true c code e in rw i
+code-of (some c) code e = eqb-true c code e
 
 hands-in : (w : World) (p code : ℕ) → isAllowed w (tell p code) ≡ true → HandsIn w p code (own w)
 hands-in w p code e d = code-of (w .carried p) code (rw d at e)

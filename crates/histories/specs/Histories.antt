@@ -141,9 +141,14 @@ LentOf w l =
     (l .scratch ≡ w .scratch)
     × ((p k : ℕ) → p < 8 → isFree (stateAt (w .dock) p .phase) ≡ false → covered (segmentsOf (vectorAt (w .dock) p)) k ≡ true → getD (l .memory) k 0 ≡ getD (w .memory) k 0)
 
+-- the code of a carry; a request that was not carried out has none
+abbrev pub CodeOf : Option ℕ → ℕ → Type 0
+CodeOf none code = ⊥
+CodeOf (some c) code = c ≡ code
+
 -- "An accepted tell follows its request's carry and hands in that code; a refused one may hand in any."
 abbrev pub HandsIn : World → ℕ → ℕ → Lends → Type 0
-HandsIn w p code l = tellOf (w .dock) p code (l .memory) (l .scratch) .outcome ≡ Done → w .carried p ≡ some code
+HandsIn w p code l = tellOf (w .dock) p code (l .memory) (l .scratch) .outcome ≡ Done → CodeOf (w .carried p) code
 
 abbrev pub Allowed : World → Event → Type 0
 Allowed w (begins q l) = LentOf w l
