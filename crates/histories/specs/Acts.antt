@@ -11,8 +11,9 @@ use Rattle.arithmetic.specs.declared.refusals.Outcome.{Outcome}
 use Rattle.arithmetic.specs.declared.refusals.Outcome.the-variants.{Done, Refused}
 use Rattle.dock.specs.declared.begin.Asked.{Asked}
 use Rattle.dock.specs.Tell.{tellOf}
-use Rattle.histories.specs.Store.{Choice}
-use Rattle.histories.specs.PlainStore.{Plain, plainStep}
+use Rattle.dock.specs.Computing.{computing}
+use Rattle.histories.specs.Store.{Choice, changed, window, piecesFrom, gathered, landed}
+use Rattle.histories.specs.PlainStore.{Plain, carriedOut, plainStep}
 use Rattle.histories.specs.Histories.{Lends, Event, begins, carries, tells, collects, World, step, fed, LentOf, CodeOf, HandsIn, Allowed, Lawful}
 
 -- an event without its buffers
@@ -100,3 +101,10 @@ after w (e ∷ es) = after (step w e) es
 pub extends : (w : World) (es : List Event) (e : Event) → Lawful w es → Allowed (after w es) e → Lawful w (es ++ (e ∷ []))
 extends w [] e k a = (a, tt)
 extends w (d ∷ es) e k a = (k .0, extends (step w d) es e (k .1) a)
+
+-- ---- lists by computation
+
+-- a declaration that says `unfolding computing-lists` sees through the dock, the store and both sides
+unfoldable pub computing-lists : Unit {0}
+unfolding computing changed window piecesFrom gathered landed carriedOut plainStep step fed
+computing-lists = tt

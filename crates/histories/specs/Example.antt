@@ -5,21 +5,9 @@ use mathlib.Core.List.{List, [], _∷_, _++_}
 use Prim.Native.Nat.{ℕ}
 use lib.ListN.{length, take, drop, replicate}
 use Rattle.vectors.specs.Vectors.{vectorOf}
-use Rattle.arithmetic.specs.Rounding.{fits, isMultiple, roundDown, roundUp, sumOf, upOf}
-use Rattle.arithmetic.specs.Offsets.{inBufferOf, onStoreOf}
-use Rattle.arithmetic.specs.Settings.{isAlignment, alignmentsFit, lengthAlign, bounceFits, settingsFit, buffersFit, openingOf, profiles, profileOf}
-use Rattle.arithmetic.specs.Padding.{paddedStart, roundedEnd, paddedLength, paddingFits, spanOf, paddedOf, paddingOf, isDirect, transferOf, readsOf, isRead}
-use Rattle.arithmetic.specs.Zeroes.{cutFits, hasMiddle, cutOf, zeroCutOf, discardCutOf, chunkLength, chunkOf}
-use Rattle.arithmetic.specs.Loops.{anyBelow}
-use Rattle.vectors.specs.Vectors.{sizeOf, liesIn, allSegments, anySegment, segmentsFit, isValid, changedTo, pushOf, insertOf, appendOf, headOf, tailOf, splitOf, splitTailOf, put, bytesOf, scatterOf, fillOf, copies, owns, ownedOf, shares, overlapOf, selfOverlapOf, allAligned, isAlignedOf, alignmentOf}
-use Rattle.blockers.specs.Blockers.{overlaps as blockers-overlaps, conflict, notes, notesOf, noBlockers, enteredOf, forgetting, leftOf, waitsOf}
-use Rattle.stages.specs.Stages.{directStage, paddedStage, firstPhase, readPlan, writePlan, zeroesPlan, zeroPlan, discardPlan, chunkNext, tailNext, headNext, toldOf, requestOf, liesIn as stages-liesIn, isSound}
-use Rattle.dock.specs.Dock.{vacant, fresh, openOf, lentFits, lentOf, isOutBy, isOut, meetsOf, meetsAt, overlapsOf, firstFree}
-use Rattle.dock.specs.Begin.{sourceOf, sourceFits, mergedAt, filled, blockersWith, placedAt, beginReadOf}
-use Rattle.dock.specs.Next.{nextOf, isKeptBy}
-use Rattle.dock.specs.Tell.{blockersWithout, copiedAt, handed, staysOf, endsOf, entersOf, tellAt, tellOf, collectOf}
-use Rattle.dock.specs.Dock.{openProfileOf}
-use Rattle.dock.specs.Begin.{beginWriteOf, beginZeroesOf, beginDiscardOf, beginOf, readOf, writeOf, zeroesOf}
+use Rattle.dock.specs.Next.{nextOf}
+use Rattle.dock.specs.Tell.{collectOf}
+use Rattle.dock.specs.Begin.{readOf, writeOf, zeroesOf}
 use Rattle.arithmetic.specs.Offsets.{storeAt}
 use Rattle.arithmetic.specs.Settings.{alignments}
 use Rattle.arithmetic.specs.declared.settings.Settings.{Settings}
@@ -29,11 +17,10 @@ use Rattle.dock.specs.declared.tell.Collected.{Collected}
 use Rattle.dock.specs.declared.tell.Collected.the-variants.{Final}
 use Rattle.dock.specs.declared.next.Due.{Due}
 use Rattle.dock.specs.declared.next.Due.the-variants.{Waiting}
-use Rattle.dock.specs.Next.{pieceOf, partOf, isKept}
-use Rattle.histories.specs.Store.{Choice, changed, window, piecesFrom, gathered, landed}
-use Rattle.histories.specs.PlainStore.{Plain, plainOpened, carriedOut, plainStep}
-use Rattle.histories.specs.Histories.{World, opened, step, fed, Lawful}
-use Rattle.histories.specs.Acts.{Act, begin, carry, tell, collect, eventsOf, run, allAllowed, lawful}
+use Rattle.histories.specs.Store.{Choice, window}
+use Rattle.histories.specs.PlainStore.{Plain, plainOpened}
+use Rattle.histories.specs.Histories.{World, opened, Lawful}
+use Rattle.histories.specs.Acts.{Act, begin, carry, tell, collect, eventsOf, run, allAllowed, lawful, computing-lists}
 
 -- a drive of blocks of 8 bytes, shares of 32; a store whose every byte is 9
 abbrev pub settings : Settings
@@ -102,7 +89,7 @@ pub record Computed : Type 0 where
   pub is-lawful : allAllowed world all-done ≡ true
 
 pub computed : Computed
-unfolding fits isMultiple roundDown roundUp sumOf upOf inBufferOf onStoreOf isAlignment alignmentsFit lengthAlign bounceFits settingsFit buffersFit openingOf profiles profileOf paddedStart roundedEnd paddedLength paddingFits spanOf paddedOf paddingOf isDirect transferOf readsOf isRead cutFits hasMiddle cutOf zeroCutOf discardCutOf chunkLength chunkOf anyBelow sizeOf liesIn allSegments anySegment segmentsFit vectorOf isValid changedTo pushOf insertOf appendOf headOf tailOf splitOf splitTailOf put bytesOf scatterOf fillOf copies owns ownedOf shares overlapOf selfOverlapOf allAligned isAlignedOf alignmentOf blockers-overlaps conflict notes notesOf noBlockers enteredOf forgetting leftOf waitsOf directStage paddedStage firstPhase readPlan writePlan zeroesPlan zeroPlan discardPlan chunkNext tailNext headNext toldOf requestOf stages-liesIn isSound vacant fresh openOf openProfileOf lentFits lentOf isOutBy isOut meetsOf meetsAt overlapsOf firstFree sourceOf sourceFits mergedAt filled blockersWith placedAt beginReadOf beginWriteOf beginZeroesOf beginDiscardOf beginOf nextOf isKeptBy blockersWithout copiedAt handed staysOf endsOf entersOf tellAt tellOf collectOf pieceOf partOf isKept changed window piecesFrom gathered landed carriedOut plainStep step fed
+unfolding computing-lists
 computed = record {
   waits = refl;
   first = refl;
@@ -122,7 +109,7 @@ abbrev pub whole-list : List Act
 whole-list = all-done ++ (collect 0 ∷ (collect 1 ∷ (collect 2 ∷ (collect 3 ∷ []))))
 
 pub all-lawful : allAllowed world whole-list ≡ true
-unfolding fits isMultiple roundDown roundUp sumOf upOf inBufferOf onStoreOf isAlignment alignmentsFit lengthAlign bounceFits settingsFit buffersFit openingOf profiles profileOf paddedStart roundedEnd paddedLength paddingFits spanOf paddedOf paddingOf isDirect transferOf readsOf isRead cutFits hasMiddle cutOf zeroCutOf discardCutOf chunkLength chunkOf anyBelow sizeOf liesIn allSegments anySegment segmentsFit vectorOf isValid changedTo pushOf insertOf appendOf headOf tailOf splitOf splitTailOf put bytesOf scatterOf fillOf copies owns ownedOf shares overlapOf selfOverlapOf allAligned isAlignedOf alignmentOf blockers-overlaps conflict notes notesOf noBlockers enteredOf forgetting leftOf waitsOf directStage paddedStage firstPhase readPlan writePlan zeroesPlan zeroPlan discardPlan chunkNext tailNext headNext toldOf requestOf stages-liesIn isSound vacant fresh openOf openProfileOf lentFits lentOf isOutBy isOut meetsOf meetsAt overlapsOf firstFree sourceOf sourceFits mergedAt filled blockersWith placedAt beginReadOf beginWriteOf beginZeroesOf beginDiscardOf beginOf nextOf isKeptBy blockersWithout copiedAt handed staysOf endsOf entersOf tellAt tellOf collectOf pieceOf partOf isKept changed window piecesFrom gathered landed carriedOut plainStep step fed
+unfolding computing-lists
 all-lawful = refl
 
 pub example : Lawful world (eventsOf world whole-list)

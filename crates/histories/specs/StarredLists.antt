@@ -5,32 +5,17 @@ use mathlib.Core.List.{List, [], _∷_, _++_}
 use Prim.Native.Nat.{ℕ, _*_, _-_, _^_}
 use lib.ListN.{length, replicate}
 use Rattle.vectors.specs.Vectors.{vectorOf}
-use Rattle.arithmetic.specs.Rounding.{fits, isMultiple, roundDown, roundUp, sumOf, upOf}
-use Rattle.arithmetic.specs.Offsets.{inBufferOf, onStoreOf}
-use Rattle.arithmetic.specs.Settings.{isAlignment, alignmentsFit, lengthAlign, bounceFits, settingsFit, buffersFit, openingOf, profiles, profileOf}
-use Rattle.arithmetic.specs.Padding.{paddedStart, roundedEnd, paddedLength, paddingFits, spanOf, paddedOf, paddingOf, isDirect, transferOf, readsOf, isRead}
-use Rattle.arithmetic.specs.Zeroes.{cutFits, hasMiddle, cutOf, zeroCutOf, discardCutOf, chunkLength, chunkOf}
-use Rattle.arithmetic.specs.Loops.{anyBelow}
-use Rattle.vectors.specs.Vectors.{sizeOf, liesIn, allSegments, anySegment, segmentsFit, isValid, changedTo, pushOf, insertOf, appendOf, headOf, tailOf, splitOf, splitTailOf, put, bytesOf, scatterOf, fillOf, copies, owns, ownedOf, shares, overlapOf, selfOverlapOf, allAligned, isAlignedOf, alignmentOf}
-use Rattle.blockers.specs.Blockers.{overlaps as blockers-overlaps, conflict, notes, notesOf, noBlockers, enteredOf, forgetting, leftOf, waitsOf}
-use Rattle.stages.specs.Stages.{directStage, paddedStage, firstPhase, readPlan, writePlan, zeroesPlan, zeroPlan, discardPlan, chunkNext, tailNext, headNext, toldOf, requestOf, liesIn as stages-liesIn, isSound}
-use Rattle.dock.specs.Dock.{vacant, fresh, openOf, lentFits, lentOf, isOutBy, isOut, meetsOf, meetsAt, overlapsOf, firstFree}
-use Rattle.dock.specs.Begin.{sourceOf, sourceFits, mergedAt, filled, blockersWith, placedAt, beginReadOf}
-use Rattle.dock.specs.Next.{nextOf, isKeptBy}
-use Rattle.dock.specs.Tell.{blockersWithout, copiedAt, handed, staysOf, endsOf, entersOf, tellAt, tellOf, collectOf}
-use Rattle.dock.specs.Dock.{openProfileOf}
-use Rattle.dock.specs.Begin.{beginWriteOf, beginZeroesOf, beginDiscardOf, beginOf, writeOf, zeroesOf, discardOf}
+use Rattle.dock.specs.Tell.{collectOf}
+use Rattle.dock.specs.Begin.{writeOf, zeroesOf, discardOf}
 use Rattle.arithmetic.specs.Offsets.{storeAt}
 use Rattle.arithmetic.specs.Settings.{alignments}
 use Rattle.arithmetic.specs.declared.settings.Settings.{Settings}
 use Rattle.vectors.specs.Vectors.{segment}
 use Rattle.dock.specs.declared.tell.Collected.the-variants.{Final}
-use Rattle.dock.specs.Next.{pieceOf, partOf, isKept}
-use Rattle.histories.specs.Store.{changed, window, piecesFrom, gathered, landed}
-use Rattle.histories.specs.PlainStore.{plainOpened, carriedOut, plainStep}
-use Rattle.histories.specs.Histories.{World, opened, step, fed}
+use Rattle.histories.specs.PlainStore.{plainOpened}
+use Rattle.histories.specs.Histories.{World, opened}
 use Rattle.histories.specs.Example.{healthy}
-use Rattle.histories.specs.Acts.{Act, begin, carry, tell, collect, run, allAllowed}
+use Rattle.histories.specs.Acts.{Act, begin, carry, tell, collect, run, allAllowed, computing-lists}
 use Rattle.vectors.specs.declared.vector.Segment.{Segment}
 
 -- data of 2048 bytes, at address 1
@@ -85,7 +70,7 @@ pub record StarredLists : Type 0 where
   pub discard-last : allAllowed row-1 (begin (discardOf (storeAt (2 ^ 64 - 512)) 0) ∷ []) ≡ true
 
 pub starred-lists : StarredLists
-unfolding fits isMultiple roundDown roundUp sumOf upOf inBufferOf onStoreOf isAlignment alignmentsFit lengthAlign bounceFits settingsFit buffersFit openingOf profiles profileOf paddedStart roundedEnd paddedLength paddingFits spanOf paddedOf paddingOf isDirect transferOf readsOf isRead cutFits hasMiddle cutOf zeroCutOf discardCutOf chunkLength chunkOf anyBelow sizeOf liesIn allSegments anySegment segmentsFit vectorOf isValid changedTo pushOf insertOf appendOf headOf tailOf splitOf splitTailOf put bytesOf scatterOf fillOf copies owns ownedOf shares overlapOf selfOverlapOf allAligned isAlignedOf alignmentOf blockers-overlaps conflict notes notesOf noBlockers enteredOf forgetting leftOf waitsOf directStage paddedStage firstPhase readPlan writePlan zeroesPlan zeroPlan discardPlan chunkNext tailNext headNext toldOf requestOf stages-liesIn isSound vacant fresh openOf openProfileOf lentFits lentOf isOutBy isOut meetsOf meetsAt overlapsOf firstFree sourceOf sourceFits mergedAt filled blockersWith placedAt beginReadOf beginWriteOf beginZeroesOf beginDiscardOf beginOf nextOf isKeptBy blockersWithout copiedAt handed staysOf endsOf entersOf tellAt tellOf collectOf pieceOf partOf isKept changed window piecesFrom gathered landed carriedOut plainStep step fed
+unfolding computing-lists
 starred-lists = record {
   ten = (refl, refl);
   to-the-end = (refl, refl);
