@@ -1,6 +1,7 @@
--- Lists of events in which every call is lent the buffers as they are: each such list is lawful where its tells hand in the codes of their carries. Assumes nothing.
-use mathlib.Core.Path.{_≡_, refl}
-use mathlib.Core.Bool.{Bool, true, false, _&&_, false≢true}
+-- Lists of events in which every call is lent the buffers as they are, or a begin buffers that do not fit: each such list is lawful where its tells
+-- hand in the codes of their carries. Assumes nothing.
+use mathlib.Core.Path.{_≡_, refl, sym, ap, _∙_}
+use mathlib.Core.Bool.{Bool, true, false, _&&_, not, false≢true}
 use mathlib.Core.List.{List, [], _∷_, _++_}
 use mathlib.Core.Option.{Option, none, some}
 use Prim.Native.Nat.{ℕ}
@@ -14,11 +15,12 @@ use Rattle.dock.specs.Tell.{tellOf}
 use Rattle.dock.specs.Computing.{computing}
 use Rattle.histories.specs.Store.{Choice, changed, window, piecesFrom, gathered, landed}
 use Rattle.histories.specs.PlainStore.{Plain, carriedOut, plainStep}
-use Rattle.histories.specs.Histories.{Lends, Event, begins, carries, tells, collects, World, step, fed, LentOf, CodeOf, HandsIn, Allowed, Lawful}
+use Rattle.histories.specs.Histories.{Lends, Event, begins, carries, tells, collects, World, fitsLent, step, fed, LentOf, CodeOf, HandsIn, Allowed, Lawful}
 
--- an event without its buffers
+-- an event without its buffers: they are lent as they are, but to a begin that names others
 pub data Act : Type 0 where
   begin : Asked → Act
+  begin-lent : Lends → Asked → Act
   carry : ℕ → ℕ → Choice → Act
   tell : ℕ → ℕ → Act
   collect : ℕ → Act
@@ -28,6 +30,7 @@ own w = record { memory = w .memory; scratch = w .scratch }
 
 abbrev pub eventOf : World → Act → Event
 eventOf w (begin q) = begins q (own w)
+eventOf w (begin-lent l q) = begins q l
 eventOf w (carry p code c) = carries p code c
 eventOf w (tell p code) = tells p code (own w)
 eventOf w (collect p) = collects p (own w)
@@ -62,6 +65,7 @@ matches false c = true
 
 abbrev pub isAllowed : World → Act → Bool
 isAllowed w (begin q) = true
+isAllowed w (begin-lent l q) = not (fitsLent w l)
 isAllowed w (carry p code c) = true
 isAllowed w (tell p code) = matches (isDone (tellOf (w .dock) p code (w .memory) (w .scratch) .outcome)) (isCode (w .carried p) code)
 isAllowed w (collect p) = true
@@ -77,12 +81,17 @@ code-of : (o : Option ℕ) (code : ℕ) → isCode o code ≡ true → CodeOf o 
 code-of none code e = absurd (false≢true e)
 code-of (some c) code e = eqb-true c code e
 
+-- other buffers may be lent where they do not fit: 205
+lent-other : (w : World) (l : Lends) → not (fitsLent w l) ≡ true → LentOf w l
+lent-other w l e f = absurd (false≢true (sym (ap not f) ∙ e))
+
 hands-in : (w : World) (p code : ℕ) → isAllowed w (tell p code) ≡ true → HandsIn w p code (own w)
 hands-in w p code e d = code-of (w .carried p) code (rw d at e)
 
 -- a lawful list extends by each kind of event: a tell that is accepted by the code of its carry, every other in any state
 pub allowed : (w : World) (a : Act) → isAllowed w a ≡ true → Allowed w (eventOf w a)
 allowed w (begin q) e = lent-own w
+allowed w (begin-lent l q) e = lent-other w l e
 allowed w (carry p code c) e = tt
 allowed w (tell p code) e = (lent-own w, hands-in w p code e)
 allowed w (collect p) e = lent-own w

@@ -14,8 +14,8 @@ use Rattle.vectors.specs.Vectors.{segment}
 use Rattle.dock.specs.declared.tell.Collected.the-variants.{Final}
 use Rattle.histories.specs.PlainStore.{plainOpened}
 use Rattle.histories.specs.Histories.{World, opened}
-use Rattle.histories.specs.Example.{healthy}
-use Rattle.histories.specs.Acts.{Act, begin, carry, tell, collect, run, allAllowed, computing-lists}
+use Rattle.histories.specs.Example.{served}
+use Rattle.histories.specs.Acts.{Act, begin, collect, run, allAllowed, computing-lists}
 use Rattle.vectors.specs.declared.vector.Segment.{Segment}
 
 -- data of 2048 bytes, at address 1
@@ -32,16 +32,11 @@ row-1 = worldOf 4096 (record { align = alignments 1 512 512 512; bounce = 4096 }
 abbrev pub row-4 : World
 row-4 = worldOf 12288 (record { align = alignments 4096 512 512 512; bounce = 12288 })
 
--- the codes told, each after its carry
-abbrev served : List ℕ → List Act
-served [] = []
-served (c ∷ cs) = carry 0 c healthy ∷ (tell 0 c ∷ served cs)
-
 abbrev writing : ℕ → List Segment → List ℕ → List Act
-writing o ps codes = begin (writeOf (storeAt o) (vectorOf ps)) ∷ served codes
+writing o ps codes = begin (writeOf (storeAt o) (vectorOf ps)) ∷ served 0 codes
 
 abbrev zeroing : ℕ → ℕ → List ℕ → List Act
-zeroing o n codes = begin (zeroesOf false (storeAt o) n) ∷ served codes
+zeroing o n codes = begin (zeroesOf false (storeAt o) n) ∷ served 0 codes
 
 -- n times code 0
 abbrev zeros : ℕ → List ℕ
