@@ -1,4 +1,6 @@
--- Document 01's plain byte store: one byte for each offset, and each place's job with the codes told. It knows no blocker, no scratch, no waiting.
+-- Document 01's plain byte store: one byte for each offset, and each place's job with the codes told. It knows no blocker, scratch or waiting of the dock.
+-- It steps a job by the rules of crate stages: a plan gives its first stage, toldOf what a code leads to, Stage.asked and Stage.request the ranges of what
+-- is out. The laws read-opens, write-opens, zero-opens and discard-opens there tie a plan to what was handed to begin: its kind, and its range.
 use mathlib.Core.Bool.{true}
 use mathlib.Core.List.{List, [], _∷_}
 use mathlib.Core.Option.{Option, none, some}
