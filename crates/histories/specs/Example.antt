@@ -162,5 +162,5 @@ pub all-lawful : allAllowed world whole-list ≡ true
 unfolding computing-lists
 all-lawful = refl
 
-pub example : Lawful world (eventsOf world whole-list)
-example = lawful world whole-list all-lawful
+pub example : Lawful world plain (eventsOf world whole-list)
+example = lawful world plain whole-list all-lawful
