@@ -222,7 +222,7 @@ impl<'buf> Runner<'buf> {
 
     /// Takes a request back that was carried out, tells its code, and sees what has changed by it.
     fn tell<J: Source + ?Sized>(&mut self, loan: Loan<'buf>, code: Code, jobs: &mut J) {
-        let (slot, request) = (loan.slot(), *loan.request());
+        let (slot, request) = (loan.slot(), loan.request());
         self.dock.take_back(loan, code.number()).expect("each code is an answer to the request that is out");
         let seat = self.seats.seat(slot);
         seat.tally.count(&request, code);
