@@ -294,14 +294,14 @@ impl Drop for Naming {
     }
 }
 
-/// Runs until there were so many jobs, every second run with threads.
-fn runs(jobs: u64, seed: u64) {
+/// Runs until there were so many jobs, every second run with threads, or all.
+fn runs(jobs: u64, seed: u64, all_with_threads: bool) {
     let mut all = Counts::default();
     for i in 0.. {
         if all.jobs >= jobs {
             break;
         }
-        let naming = Naming(seed.wrapping_mul(1_000_003).wrapping_add(i), i % 2 == 1);
+        let naming = Naming(seed.wrapping_mul(1_000_003).wrapping_add(i), all_with_threads || i % 2 == 1);
         let counts = run(naming.0, naming.1);
         all = Counts {
             jobs: all.jobs + counts.jobs,
@@ -315,17 +315,18 @@ fn runs(jobs: u64, seed: u64) {
     }
     println!("{all:?}");
     let Counts { done, failed, refused, waited, barriers, .. } = all;
-    assert!(done > jobs / 2 && failed > 0 && refused > 0 && waited > 0 && barriers > 0, "runs that try too little");
+    let enough = done > jobs / 2 && failed > 0 && refused > 0 && waited > 0 && barriers > 0;
+    assert!(enough || jobs < 1000, "runs that try too little");
 }
 
 #[test]
 fn random_runs_are_as_on_the_plain_byte_store() {
-    runs(20_000, 1);
+    runs(20_000, 1, false);
 }
 
 #[test]
-#[ignore = "takes longer: DOCK_JOBS jobs from DOCK_SEED on"]
+#[ignore = "takes longer: DOCK_JOBS jobs from DOCK_SEED on, all with threads where DOCK_THREADS is set"]
 fn long_random_runs_are_as_on_the_plain_byte_store() {
     let number = |name: &str, or: u64| env::var(name).map_or(or, |text| text.parse().expect("a number"));
-    runs(number("DOCK_JOBS", 100_000), number("DOCK_SEED", 2));
+    runs(number("DOCK_JOBS", 100_000), number("DOCK_SEED", 2), env::var_os("DOCK_THREADS").is_some());
 }

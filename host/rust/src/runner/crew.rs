@@ -110,14 +110,9 @@ pub(super) struct Workers<'run, 'buf> {
 }
 
 impl<'run, 'buf> Workers<'run, 'buf> {
-    /// A desk without workers.
-    pub fn new(desk: &'run Desk<'buf>) -> Workers<'run, 'buf> {
-        Workers { desk, count: 0, out: 0 }
-    }
-
-    /// Notes how many workers there are, each of whom has one request at a time.
-    pub fn set_count(&mut self, count: usize) {
-        self.count = count;
+    /// So many workers at a desk, each of whom has one request at a time.
+    pub fn new(desk: &'run Desk<'buf>, count: usize) -> Workers<'run, 'buf> {
+        Workers { desk, count, out: 0 }
     }
 }
 
