@@ -1,6 +1,6 @@
-//! The bytes of a request that a worker holds are its own: while it holds those of a read, nobody else touches them, and
-//! while it holds those of a write, nobody changes them. The store here has no lock, so that `races/run` finds whatever
-//! touches them at the same time.
+//! The bytes of a request that a worker holds are its own: while it holds those of a read, nobody else touches them,
+//! and while it holds those of a write, nobody changes them. The store here has no lock, so that `races/run` finds
+//! whatever touches them at the same time.
 
 use pitch_dock::{Answer, Code, Ended, Job, Kind, Next, Room, Runner, Settings, Source, Store, Tally, Told};
 use std::env;
@@ -17,8 +17,8 @@ fn filling(offset: u64) -> u8 {
     (offset / 512) as u8 ^ 0x5a
 }
 
-/// A store that holds the bytes for a while, and looks whether they have changed meanwhile. It touches them one by one: of
-/// memset and memcpy valgrind misses races.
+/// A store that holds the bytes for a while, and looks whether they have changed meanwhile. It touches them one by one:
+/// of memset and memcpy valgrind misses races.
 struct Holder;
 
 fn code(kept: bool) -> Code {

@@ -1,6 +1,6 @@
 //! Random runs on a store that fails, delays and tears, in place and with threads, against the plain byte store: each
-//! request is the one that document 01's rules give; after each request its range, and after each job all bytes, are the
-//! plain byte store's; a read shows what its step yielded. Settings, jobs and faults are drawn from a seed.
+//! request is the one that document 01's rules give; after each request its range, and after each job all bytes, are
+//! the plain byte store's; a read shows what its step yielded. Settings, jobs and faults are drawn from a seed.
 //!
 //!     DOCK_JOBS=100000 DOCK_SEED=1 cargo test --release --test random -- --ignored --nocapture
 

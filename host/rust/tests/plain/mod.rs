@@ -79,8 +79,8 @@ impl Plain {
         (flight.plan.answer.expect("the job has ended by the rules"), flight.bytes)
     }
 
-    /// A request was carried out: the step of the plain byte store. `store` has the real store's bytes after it, from which
-    /// its choices are taken: each byte of a failed request is old or new.
+    /// A request was carried out: the step of the plain byte store. `store` has the real store's bytes after it, from
+    /// which its choices are taken: each byte of a failed request is old or new.
     pub fn carry(&mut self, carried: &Carried, store: &[u8]) {
         let range = carried.offset..carried.offset + carried.length;
         match carried.kind {
