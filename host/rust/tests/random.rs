@@ -278,6 +278,7 @@ fn run(seed: u64, threads: bool) -> Counts {
     };
     let tally = if threads { runner.run_threads(workers, &mut jobs, &store) } else { runner.run(&mut jobs, &store) };
     assert_eq!((tally, jobs.in_flight), (jobs.told, 0));
+    assert_eq!(lock(&jobs.plain).untold, [], "each request is carried out once");
     let Counts { jobs: asked, done, failed, refused, .. } = jobs.counts;
     assert_eq!(asked, done + failed + refused);
     Counts { requests: tally.requests, ..jobs.counts }
