@@ -198,3 +198,6 @@ impl Store for FaultyStore {
         })
     }
 }
+
+#[cfg(test)]
+mod tests;
