@@ -101,6 +101,9 @@ impl<'buf> Runner<'buf> {
     /// many are out together. The threads end with the run; where the system gives fewer, these do, and where it gives
     /// none the run is in place. What all requests came to.
     ///
+    /// This is for stores that take their time: to hand a request to a thread and back costs some microseconds, so that
+    /// on a store that answers at once [`Runner::run`] is faster.
+    ///
     /// # Panics
     ///
     /// As [`Runner::run`], after the requests that workers are at.
