@@ -18,7 +18,7 @@ pub struct Job {
     pub length: u64,
 }
 
-/// What a source says when it is asked for a job.
+/// What a source says when it is asked for a job. One that never says [`Next::End`] is asked forever.
 #[derive(Clone, Copy, Debug, PartialEq, Eq)]
 pub enum Next {
     /// This one.
