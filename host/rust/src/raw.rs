@@ -1,10 +1,43 @@
-//! The calls of `libboundary.a`, as it has them, behind functions that are safe to call. All that is unsafe in this crate is here.
+//! The calls of `libboundary.a`, as it has them, behind functions that are safe to call, and the buffers that they work
+//! on. All that is unsafe in this crate is here and in `raw/loan.rs`.
 //!
-//! The library is proved to return for any words, and to touch nothing outside its arrays and the lent bytes. What its calls ask for in
-//! turn is the same for all, and a reference or a slice has it: pointers that are not null and aligned (an empty slice's too), to as many
-//! words or bytes as the call is told, which nobody else changes during the call, and which do not overlap where one is changed.
+//! The library is proved to return for any words, and to touch nothing outside its arrays and the lent bytes. What its
+//! calls ask for in turn: arrays of the declared lengths, and for data and scratch a pointer that is not null to as
+//! many bytes as the call is told. The arrays are fields of [`Words`]. Data and scratch are borrowed for `'buf` at
+//! opening and held as pointers from then on, so that pieces can be out with other threads while calls run: a reference
+//! to a whole buffer would claim those bytes too.
+//!
+//! **Who touches which bytes when.** A piece that is out ([`Loan`]) is its holder's: filled for a read, looked at for a
+//! write. Meanwhile calls for other slots run, and pieces of other slots are out. No two of these touch the same byte
+//! where one changes it:
+//!
+//! - Scratch: slot p has the bytes from p × share on, share many. A piece in the scratch lies in its own slot's, and
+//!   begin and tell touch no scratch but that of the slot they are for. A begin takes a free slot, and no piece of a
+//!   free slot is out.
+//! - Data: a piece in the data lies in a segment of its job. A begin reads its own vector's segments, a tell reads or
+//!   fills those of its own slot's job, and neither touches others. Segments of two jobs in flight share bytes only
+//!   where both write from them, and then nobody changes them: any other begin is refused with 203 before a byte is
+//!   touched.
+//! - A slot whose pieces are out is not told, and they are not handed out again, until they have come back: `lent` sees
+//!   to that.
+//! - Other data is handed out to be changed by [`Words::data_part`] alone, and only where no job in flight has a
+//!   segment.
+//!
+//! That a call leaves the bytes of other slots as they are is in its contract. That it does not even read them, or
+//! write their old values back, is how its code is: it copies and fills within its own slot's parts. `tests/lent.rs`
+//! and `races/run` try it.
 
-use crate::dock::Settings;
+use crate::answer::{Due, Kind, Piece, Request};
+use crate::dock::{DataError, Settings, SLOTS};
+use crate::refusal::Refusal;
+use crate::vector::Vector;
+use std::marker::PhantomData;
+use std::ops::Range;
+use std::slice;
+
+mod loan;
+
+pub(crate) use loan::Loan;
 
 /// The number of a reply that has values alone.
 pub(crate) const NO_NUMBER: u64 = 256;
@@ -18,163 +51,308 @@ pub(crate) struct Reply {
     pub value: [u64; 4],
 }
 
-/// A dock in words, each array of the length that the library declares for it.
-#[derive(Clone, PartialEq, Eq)]
-pub(crate) struct Words {
-    settings: [u64; 9],
-    blockers: [u64; 88],
-    states: [u64; 144],
-    vectors: [u64; 272],
-}
-
-/// The buffers of a begin.
-pub(crate) struct Lent<'a> {
-    pub data: &'a [u8],
-    pub scratch: &'a mut [u8],
-}
-
-/// The lengths of the buffers, for calls that touch none of their bytes.
+/// Address and length of a buffer that is borrowed for `'buf`.
 #[derive(Clone, Copy)]
-pub(crate) struct Lengths {
-    pub data: usize,
-    pub scratch: usize,
+struct Buffer<'buf> {
+    start: *mut u8,
+    length: usize,
+    borrowed: PhantomData<&'buf mut [u8]>,
 }
+
+/// A dock in words, each array of the length that the library declares for it, and its buffers.
+pub(crate) struct Words<'buf> {
+    settings: SettingsWords,
+    blockers: BlockerWords,
+    states: StateWords,
+    vectors: VectorWords,
+    data: Buffer<'buf>,
+    scratch: Buffer<'buf>,
+    /// The vectors of the jobs in flight, by slot; empty for jobs without one.
+    in_flight: [Option<Vector>; SLOTS],
+    /// The slots whose pieces are out as a loan.
+    lent: [bool; SLOTS],
+}
+
+// SAFETY: Words has the use of its buffers as two `&'buf mut [u8]` would, which may go to another thread.
+unsafe impl Send for Words<'_> {}
+// SAFETY: what takes `&self` changes nothing, and reads bytes only while no loan is out.
+unsafe impl Sync for Words<'_> {}
+
+type SettingsWords = [u64; 9];
+type BlockerWords = [u64; 88];
+type StateWords = [u64; 144];
+type VectorWords = [u64; 272];
 
 #[rustfmt::skip]
 extern "C" {
-    fn dock_words_open(settings: *mut u64, blockers: *mut u64, states: *mut u64, vectors: *mut u64, mem: u64, req: u64, zero: u64,
-        discard: u64, share: u64, data_address: u64, data_length: u64, scratch_address: u64, scratch_length: u64) -> u8;
-    fn dock_words_open_row(settings: *mut u64, blockers: *mut u64, states: *mut u64, vectors: *mut u64, row: usize, share: u64,
-        data_address: u64, data_length: u64, scratch_address: u64, scratch_length: u64) -> u8;
-    fn dock_words_begin_read(settings: *const u64, blockers: *mut u64, states: *mut u64, vectors: *mut u64, offset: u64,
-        vector: *const u64, data: *const u8, data_len: usize, scratch: *mut u8, scratch_len: usize) -> Reply;
-    fn dock_words_begin_write(settings: *const u64, blockers: *mut u64, states: *mut u64, vectors: *mut u64, offset: u64,
-        vector: *const u64, data: *const u8, data_len: usize, scratch: *mut u8, scratch_len: usize) -> Reply;
-    fn dock_words_begin_zeroes(settings: *const u64, blockers: *mut u64, states: *mut u64, vectors: *mut u64, allocate: u8,
-        offset: u64, length: u64, data: *const u8, data_len: usize, scratch: *mut u8, scratch_len: usize) -> Reply;
-    fn dock_words_begin_discard(settings: *const u64, blockers: *mut u64, states: *mut u64, vectors: *mut u64, offset: u64,
-        length: u64, data: *const u8, data_len: usize, scratch: *mut u8, scratch_len: usize) -> Reply;
-    fn dock_words_next(settings: *const u64, blockers: *const u64, states: *const u64, vectors: *const u64, slot: usize,
-        data_len: usize, scratch_len: usize) -> Reply;
-    fn dock_words_piece(settings: *const u64, blockers: *const u64, states: *const u64, vectors: *const u64, slot: usize, i: usize,
-        data_len: usize, scratch_len: usize) -> Reply;
-    fn dock_words_tell(settings: *const u64, blockers: *mut u64, states: *mut u64, vectors: *const u64, slot: usize, code: u8,
-        data: *mut u8, data_len: usize, scratch: *mut u8, scratch_len: usize) -> u8;
-    fn dock_words_collect(settings: *const u64, blockers: *const u64, states: *mut u64, vectors: *mut u64, slot: usize,
-        data_len: usize, scratch_len: usize) -> u8;
-    fn dock_words_chunks(settings: *const u64, offset: u64, length: u64) -> Reply;
-    fn dock_words_chunk(settings: *const u64, offset: u64, length: u64, i: u64) -> Reply;
+    fn dock_words_open(settings: &mut SettingsWords, blockers: &mut BlockerWords, states: &mut StateWords,
+        vectors: &mut VectorWords, mem: u64, req: u64, zero: u64, discard: u64, share: u64, data_address: u64,
+        data_length: u64, scratch_address: u64, scratch_length: u64) -> u8;
+    fn dock_words_open_row(settings: &mut SettingsWords, blockers: &mut BlockerWords, states: &mut StateWords,
+        vectors: &mut VectorWords, row: usize, share: u64, data_address: u64, data_length: u64, scratch_address: u64,
+        scratch_length: u64) -> u8;
+    fn dock_words_begin_read(settings: &SettingsWords, blockers: &mut BlockerWords, states: &mut StateWords,
+        vectors: &mut VectorWords, offset: u64, vector: &[u64; 34], data: *const u8, data_len: usize, scratch: *mut u8,
+        scratch_len: usize) -> Reply;
+    fn dock_words_begin_write(settings: &SettingsWords, blockers: &mut BlockerWords, states: &mut StateWords,
+        vectors: &mut VectorWords, offset: u64, vector: &[u64; 34], data: *const u8, data_len: usize, scratch: *mut u8,
+        scratch_len: usize) -> Reply;
+    fn dock_words_begin_zeroes(settings: &SettingsWords, blockers: &mut BlockerWords, states: &mut StateWords,
+        vectors: &mut VectorWords, allocate: u8, offset: u64, length: u64, data: *const u8, data_len: usize,
+        scratch: *mut u8, scratch_len: usize) -> Reply;
+    fn dock_words_begin_discard(settings: &SettingsWords, blockers: &mut BlockerWords, states: &mut StateWords,
+        vectors: &mut VectorWords, offset: u64, length: u64, data: *const u8, data_len: usize, scratch: *mut u8,
+        scratch_len: usize) -> Reply;
+    fn dock_words_next(settings: &SettingsWords, blockers: &BlockerWords, states: &StateWords, vectors: &VectorWords,
+        slot: usize, data_len: usize, scratch_len: usize) -> Reply;
+    fn dock_words_piece(settings: &SettingsWords, blockers: &BlockerWords, states: &StateWords, vectors: &VectorWords,
+        slot: usize, i: usize, data_len: usize, scratch_len: usize) -> Reply;
+    fn dock_words_tell(settings: &SettingsWords, blockers: &mut BlockerWords, states: &mut StateWords,
+        vectors: &VectorWords, slot: usize, code: u8, data: *mut u8, data_len: usize, scratch: *mut u8,
+        scratch_len: usize) -> u8;
+    fn dock_words_collect(settings: &SettingsWords, blockers: &BlockerWords, states: &mut StateWords,
+        vectors: &mut VectorWords, slot: usize, data_len: usize, scratch_len: usize) -> u8;
+    fn dock_words_chunks(settings: &SettingsWords, offset: u64, length: u64) -> Reply;
+    fn dock_words_chunk(settings: &SettingsWords, offset: u64, length: u64, i: u64) -> Reply;
 }
 
-/// Address and length of a buffer, as opening is told them.
-fn place(bytes: &[u8]) -> (u64, u64) {
-    (bytes.as_ptr() as usize as u64, bytes.len() as u64)
+impl<'buf> Buffer<'buf> {
+    fn of(bytes: &'buf mut [u8]) -> Buffer<'buf> {
+        Buffer { start: bytes.as_mut_ptr(), length: bytes.len(), borrowed: PhantomData }
+    }
+
+    fn address(&self) -> u64 {
+        self.start as usize as u64
+    }
+
+    /// The part of `length` bytes from `start` on, which lies in the buffer.
+    fn part(&self, start: u64, length: u64) -> (*mut u8, usize) {
+        let (start, length) = (start as usize, length as usize);
+        assert!(
+            start <= self.length && length <= self.length - start,
+            "the library answered a piece outside the buffers"
+        );
+        (self.start.wrapping_add(start), length)
+    }
 }
 
 #[rustfmt::skip]
-impl Words {
-    fn none() -> Words {
-        Words { settings: [0; 9], blockers: [0; 88], states: [0; 144], vectors: [0; 272] }
-    }
-
-    pub fn open(s: &Settings, data: &[u8], scratch: &[u8]) -> (Words, u8) {
-        let mut w = Words::none();
-        let ((data, data_len), (scratch, scratch_len)) = (place(data), place(scratch));
-        // SAFETY: the four arrays are this function's own, of the declared lengths; the rest are numbers.
-        let number = unsafe {
-            dock_words_open(w.settings.as_mut_ptr(), w.blockers.as_mut_ptr(), w.states.as_mut_ptr(), w.vectors.as_mut_ptr(),
-                s.mem, s.req, s.zero, s.discard, s.bounce, data, data_len, scratch, scratch_len)
-        };
-        (w, number)
-    }
-
-    pub fn open_row(row: usize, bounce: u64, data: &[u8], scratch: &[u8]) -> (Words, u8) {
-        let mut w = Words::none();
-        let ((data, data_len), (scratch, scratch_len)) = (place(data), place(scratch));
-        // SAFETY: the four arrays are this function's own, of the declared lengths; the rest are numbers.
-        let number = unsafe {
-            dock_words_open_row(w.settings.as_mut_ptr(), w.blockers.as_mut_ptr(), w.states.as_mut_ptr(), w.vectors.as_mut_ptr(),
-                row, bounce, data, data_len, scratch, scratch_len)
-        };
-        (w, number)
-    }
-
-    pub fn begin_read(&mut self, offset: u64, vector: &[u64; 34], lent: Lent<'_>) -> Reply {
-        // SAFETY: the arrays are separate fields of `self`, borrowed whole and alone; vector, data and scratch are borrowed beside
-        // them with their lengths, and scratch, which is changed, alone.
-        unsafe {
-            dock_words_begin_read(self.settings.as_ptr(), self.blockers.as_mut_ptr(), self.states.as_mut_ptr(),
-                self.vectors.as_mut_ptr(), offset, vector.as_ptr(), lent.data.as_ptr(), lent.data.len(),
-                lent.scratch.as_mut_ptr(), lent.scratch.len())
+impl<'buf> Words<'buf> {
+    fn over(data: &'buf mut [u8], scratch: &'buf mut [u8]) -> Words<'buf> {
+        Words {
+            settings: [0; 9], blockers: [0; 88], states: [0; 144], vectors: [0; 272],
+            data: Buffer::of(data), scratch: Buffer::of(scratch), in_flight: [None; SLOTS], lent: [false; SLOTS],
         }
     }
 
-    pub fn begin_write(&mut self, offset: u64, vector: &[u64; 34], lent: Lent<'_>) -> Reply {
+    pub fn open(s: &Settings, data: &'buf mut [u8], scratch: &'buf mut [u8]) -> (Words<'buf>, u8) {
+        let mut w = Words::over(data, scratch);
+        // SAFETY: the four arrays are this function's own; the rest are numbers.
+        let number = unsafe {
+            dock_words_open(&mut w.settings, &mut w.blockers, &mut w.states, &mut w.vectors, s.mem, s.req, s.zero,
+                s.discard, s.bounce, w.data.address(), w.data.length as u64, w.scratch.address(),
+                w.scratch.length as u64)
+        };
+        (w, number)
+    }
+
+    pub fn open_row(row: usize, bounce: u64, data: &'buf mut [u8], scratch: &'buf mut [u8]) -> (Words<'buf>, u8) {
+        let mut w = Words::over(data, scratch);
+        // SAFETY: as for open.
+        let number = unsafe {
+            dock_words_open_row(&mut w.settings, &mut w.blockers, &mut w.states, &mut w.vectors, row, bounce,
+                w.data.address(), w.data.length as u64, w.scratch.address(), w.scratch.length as u64)
+        };
+        (w, number)
+    }
+
+    pub fn begin_read(&mut self, offset: u64, vector: &Vector) -> Reply {
+        // SAFETY: arrays and vector are borrowed; data and scratch have their lengths, and the call touches no byte of
+        // them that is out, as the head of this file says.
+        let reply = unsafe {
+            dock_words_begin_read(&self.settings, &mut self.blockers, &mut self.states, &mut self.vectors, offset,
+                vector.words(), self.data.start, self.data.length, self.scratch.start, self.scratch.length)
+        };
+        self.note_begun(reply, vector)
+    }
+
+    pub fn begin_write(&mut self, offset: u64, vector: &Vector) -> Reply {
         // SAFETY: as for begin_read.
-        unsafe {
-            dock_words_begin_write(self.settings.as_ptr(), self.blockers.as_mut_ptr(), self.states.as_mut_ptr(),
-                self.vectors.as_mut_ptr(), offset, vector.as_ptr(), lent.data.as_ptr(), lent.data.len(),
-                lent.scratch.as_mut_ptr(), lent.scratch.len())
-        }
+        let reply = unsafe {
+            dock_words_begin_write(&self.settings, &mut self.blockers, &mut self.states, &mut self.vectors, offset,
+                vector.words(), self.data.start, self.data.length, self.scratch.start, self.scratch.length)
+        };
+        self.note_begun(reply, vector)
     }
 
-    pub fn begin_zeroes(&mut self, allocate: bool, offset: u64, length: u64, lent: Lent<'_>) -> Reply {
+    pub fn begin_zeroes(&mut self, allocate: bool, offset: u64, length: u64) -> Reply {
         // SAFETY: as for begin_read, without a vector.
-        unsafe {
-            dock_words_begin_zeroes(self.settings.as_ptr(), self.blockers.as_mut_ptr(), self.states.as_mut_ptr(),
-                self.vectors.as_mut_ptr(), u8::from(allocate), offset, length, lent.data.as_ptr(), lent.data.len(),
-                lent.scratch.as_mut_ptr(), lent.scratch.len())
-        }
+        let reply = unsafe {
+            dock_words_begin_zeroes(&self.settings, &mut self.blockers, &mut self.states, &mut self.vectors,
+                u8::from(allocate), offset, length, self.data.start, self.data.length, self.scratch.start,
+                self.scratch.length)
+        };
+        self.note_begun(reply, &Vector::new())
     }
 
-    pub fn begin_discard(&mut self, offset: u64, length: u64, lent: Lent<'_>) -> Reply {
+    pub fn begin_discard(&mut self, offset: u64, length: u64) -> Reply {
         // SAFETY: as for begin_read, without a vector.
+        let reply = unsafe {
+            dock_words_begin_discard(&self.settings, &mut self.blockers, &mut self.states, &mut self.vectors, offset,
+                length, self.data.start, self.data.length, self.scratch.start, self.scratch.length)
+        };
+        self.note_begun(reply, &Vector::new())
+    }
+
+    /// Notes the vector of a job that got a slot: its bytes are in flight from now on.
+    fn note_begun(&mut self, reply: Reply, vector: &Vector) -> Reply {
+        if reply.number == NO_NUMBER {
+            self.in_flight[reply.value[0] as usize] = Some(*vector);
+        }
+        reply
+    }
+
+    pub fn next(&self, slot: usize) -> Reply {
+        // SAFETY: the arrays are borrowed; the rest are numbers.
         unsafe {
-            dock_words_begin_discard(self.settings.as_ptr(), self.blockers.as_mut_ptr(), self.states.as_mut_ptr(),
-                self.vectors.as_mut_ptr(), offset, length, lent.data.as_ptr(), lent.data.len(),
-                lent.scratch.as_mut_ptr(), lent.scratch.len())
+            dock_words_next(&self.settings, &self.blockers, &self.states, &self.vectors, slot, self.data.length,
+                self.scratch.length)
         }
     }
 
-    pub fn next(&self, slot: usize, lengths: Lengths) -> Reply {
-        // SAFETY: the arrays are borrowed shared, and the call changes none; the rest are numbers.
-        unsafe {
-            dock_words_next(self.settings.as_ptr(), self.blockers.as_ptr(), self.states.as_ptr(), self.vectors.as_ptr(), slot,
-                lengths.data, lengths.scratch)
-        }
-    }
-
-    pub fn piece(&self, slot: usize, i: usize, lengths: Lengths) -> Reply {
+    /// Address and length of a piece of the request that is out, a part of the data or the scratch.
+    fn piece_part(&self, slot: usize, i: usize) -> Result<(*mut u8, usize), Refusal> {
         // SAFETY: as for next.
+        let reply = unsafe {
+            dock_words_piece(&self.settings, &self.blockers, &self.states, &self.vectors, slot, i, self.data.length,
+                self.scratch.length)
+        };
+        let [buffer, start, length, _] = reply.values()?;
+        Ok(if buffer == 0 { self.data.part(start, length) } else { self.scratch.part(start, length) })
+    }
+
+    fn tell_library(&mut self, slot: usize, code: u8) -> u8 {
+        // SAFETY: the arrays are borrowed; data and scratch have their lengths, and the call touches no byte of them
+        // that is out, as the head of this file says, since this slot's pieces are not.
         unsafe {
-            dock_words_piece(self.settings.as_ptr(), self.blockers.as_ptr(), self.states.as_ptr(), self.vectors.as_ptr(), slot, i,
-                lengths.data, lengths.scratch)
+            dock_words_tell(&self.settings, &mut self.blockers, &mut self.states, &self.vectors, slot, code,
+                self.data.start, self.data.length, self.scratch.start, self.scratch.length)
         }
     }
 
-    pub fn tell(&mut self, slot: usize, code: u8, data: &mut [u8], scratch: &mut [u8]) -> u8 {
-        // SAFETY: the arrays are separate fields of `self`, borrowed whole and alone; so are data and scratch, with their lengths.
-        unsafe {
-            dock_words_tell(self.settings.as_ptr(), self.blockers.as_mut_ptr(), self.states.as_mut_ptr(), self.vectors.as_ptr(), slot,
-                code, data.as_mut_ptr(), data.len(), scratch.as_mut_ptr(), scratch.len())
+    pub fn collect(&mut self, slot: usize) -> u8 {
+        // SAFETY: the arrays are borrowed; the rest are numbers.
+        let number = unsafe {
+            dock_words_collect(&self.settings, &self.blockers, &mut self.states, &mut self.vectors, slot,
+                self.data.length, self.scratch.length)
+        };
+        if Refusal::of(number).is_none_or(|refusal| refusal == Refusal::Overflow) {
+            self.in_flight[slot] = None;
         }
-    }
-
-    pub fn collect(&mut self, slot: usize, lengths: Lengths) -> u8 {
-        // SAFETY: the arrays are separate fields of `self`, borrowed whole and alone; the rest are numbers.
-        unsafe {
-            dock_words_collect(self.settings.as_ptr(), self.blockers.as_ptr(), self.states.as_mut_ptr(), self.vectors.as_mut_ptr(),
-                slot, lengths.data, lengths.scratch)
-        }
+        number
     }
 
     pub fn chunks(&self, offset: u64, length: u64) -> Reply {
-        // SAFETY: the settings are borrowed shared, and the call changes none; the rest are numbers.
-        unsafe { dock_words_chunks(self.settings.as_ptr(), offset, length) }
+        // SAFETY: the settings are borrowed; the rest are numbers.
+        unsafe { dock_words_chunks(&self.settings, offset, length) }
     }
 
     pub fn chunk(&self, offset: u64, length: u64, i: u64) -> Reply {
         // SAFETY: as for chunks.
-        unsafe { dock_words_chunk(self.settings.as_ptr(), offset, length, i) }
+        unsafe { dock_words_chunk(&self.settings, offset, length, i) }
+    }
+}
+
+/// Bytes handed out.
+impl<'buf> Words<'buf> {
+    /// A piece of the request that is out, lent for as long as `self` is.
+    pub fn piece(&mut self, slot: usize, i: usize) -> Result<Piece<'_>, Refusal> {
+        let (start, length) = self.piece_part(slot, i)?;
+        let request = self.request(slot)?;
+        self.must_be_here(slot);
+        Ok(match request.kind {
+            // SAFETY: the part lies in a buffer that is borrowed for 'buf; its slot's pieces are not out, those of
+            // others lie elsewhere, and `self` is borrowed alone for as long as the piece.
+            Kind::Read => Piece::Fill(unsafe { slice::from_raw_parts_mut(start, length) }),
+            // SAFETY: the same, and this one is only looked at, as are those of other writes that share bytes with it.
+            _ => Piece::Take(unsafe { slice::from_raw_parts(start, length) }),
+        })
+    }
+
+    /// Hands in a code.
+    pub fn tell(&mut self, slot: usize, code: u8) -> u8 {
+        self.must_be_here(slot);
+        self.tell_library(slot, code)
+    }
+
+    /// The request that is out for a slot.
+    fn request(&self, slot: usize) -> Result<Request, Refusal> {
+        match Due::answered(self.next(slot))? {
+            Due::Make(request) => Ok(request),
+            Due::Waiting | Due::Answer(_) => Err(Refusal::Slot),
+        }
+    }
+
+    fn must_be_here(&self, slot: usize) {
+        assert!(!self.lent.get(slot).is_some_and(|&lent| lent), "the pieces of slot {slot} are out");
+    }
+
+    fn all_must_be_here(&self) {
+        assert!(!self.lent.contains(&true), "pieces are out");
+    }
+
+    /// All data.
+    pub fn data(&self) -> &[u8] {
+        self.all_must_be_here();
+        // SAFETY: the data is borrowed for 'buf, no piece of it is out, and while `self` is borrowed none is handed out
+        // to be changed.
+        unsafe { slice::from_raw_parts(self.data.start, self.data.length) }
+    }
+
+    /// A range of the data, to be changed: none that has bytes of a job in flight.
+    pub fn data_part(&mut self, range: Range<usize>) -> Result<&mut [u8], DataError> {
+        if range.start > range.end || range.end > self.data.length {
+            return Err(DataError::Outside);
+        }
+        if self.in_flight.iter().flatten().any(|vector| vector.meets(&range)) {
+            return Err(DataError::InFlight);
+        }
+        // SAFETY: the range lies in the data, which is borrowed for 'buf; pieces that are out lie in segments of jobs
+        // in flight or in the scratch, and so not in it; `self` is borrowed alone for as long as the range.
+        Ok(unsafe { slice::from_raw_parts_mut(self.data.start.add(range.start), range.len()) })
+    }
+
+    /// Data and scratch, given back.
+    pub fn into_buffers(self) -> (&'buf mut [u8], &'buf mut [u8]) {
+        self.all_must_be_here();
+        // SAFETY: both are borrowed for 'buf and were opening's alone; no piece is out, and `self`, which has the only
+        // other pointers, ends.
+        unsafe {
+            (
+                slice::from_raw_parts_mut(self.data.start, self.data.length),
+                slice::from_raw_parts_mut(self.scratch.start, self.scratch.length),
+            )
+        }
+    }
+}
+
+impl Reply {
+    /// The values; or the refusal's number.
+    pub fn values(self) -> Result<[u64; 4], Refusal> {
+        match self.number {
+            NO_NUMBER => Ok(self.value),
+            refused => Err(Refusal::answered(refused)),
+        }
+    }
+}
+
+#[cfg(test)]
+impl Words<'_> {
+    /// Everything that a refused call must leave as it is.
+    pub fn copied(&self) -> (Vec<u64>, Vec<u8>, [Option<Vector>; SLOTS], [bool; SLOTS]) {
+        let words = [&self.settings[..], &self.blockers, &self.states, &self.vectors].concat();
+        // SAFETY: as for data.
+        let scratch = unsafe { slice::from_raw_parts(self.scratch.start, self.scratch.length) };
+        (words, [self.data(), scratch].concat(), self.in_flight, self.lent)
     }
 }

@@ -1,4 +1,5 @@
 use super::*;
+use crate::answer::{Kind, Request};
 
 const BOUNCE: u64 = 4096;
 const LAST_BLOCK: u64 = u64::MAX - 511;
@@ -52,9 +53,9 @@ fn run(dock: &mut Dock<'_>, slot: usize, store: &mut [u8]) -> (Vec<Due>, Answer)
 
 /// A call is refused, and neither words nor bytes have changed.
 fn refused<T: fmt::Debug>(dock: &mut Dock<'_>, why: Refusal, call: impl FnOnce(&mut Dock<'_>) -> Result<T, Refusal>) {
-    let before = (dock.words.clone(), dock.data.to_vec(), dock.scratch.to_vec(), dock.in_flight);
+    let before = dock.words.copied();
     assert_eq!(call(dock).unwrap_err(), why);
-    assert!(before == (dock.words.clone(), dock.data.to_vec(), dock.scratch.to_vec(), dock.in_flight));
+    assert!(before == dock.words.copied());
 }
 
 #[test]
@@ -178,6 +179,19 @@ fn opening_refuses_what_is_unfit() {
     assert_eq!(open(fits, &mut []), Some(Refusal::Buffer));
     assert_eq!(Dock::open_row(6, 4096, &mut data, &mut scratch).err(), Some(Refusal::Unfit));
     assert!(Dock::open(&fits, &mut [], &mut scratch).is_ok());
+}
+
+#[test]
+fn the_settings_of_a_row_are_the_library_s() {
+    let (mut room, mut data) = (vec![0; 8 * 65_536 + 4096], [0; 16]);
+    let scratch = aligned_part(&mut room, 4096);
+    for row in 0..Settings::ROWS.len() {
+        let by_row = Dock::open_row(row, 65_536, &mut data, scratch).unwrap().words.copied();
+        let settings = Settings::of_row(row, 65_536).unwrap();
+        assert!(by_row == Dock::open(&settings, &mut data, scratch).unwrap().words.copied(), "{row}");
+    }
+    assert_eq!(Settings::of_row(6, 65_536), None);
+    assert_eq!(Dock::open_row(6, 65_536, &mut data, scratch).err(), Some(Refusal::Unfit));
 }
 
 #[test]
