@@ -27,6 +27,24 @@ pub struct Settings {
     pub bounce: u64,
 }
 
+impl Settings {
+    /// Document 01's drive rows: alignments of memory, requests, zero requests and discards.
+    pub const ROWS: [[u64; 4]; 6] = [
+        [1, 1, 1, 1],
+        [1, 512, 512, 512],
+        [512, 512, 4096, 4096],
+        [4096, 4096, 4096, 65536],
+        [4096, 512, 512, 512],
+        [4096, 512, 4096, 65536],
+    ];
+
+    /// The settings of a drive row, with a bounce buffer of this length; None where there is no such row.
+    pub fn of_row(row: usize, bounce: u64) -> Option<Settings> {
+        let [mem, req, zero, discard] = *Settings::ROWS.get(row)?;
+        Some(Settings { mem, req, zero, discard, bounce })
+    }
+}
+
 /// Why bytes of the data were not handed out to be changed.
 #[derive(Clone, Copy, Debug, PartialEq, Eq)]
 pub enum DataError {

@@ -40,13 +40,23 @@
 #![warn(missing_docs)]
 
 mod answer;
+mod code;
 mod dock;
 #[allow(unsafe_code)]
 mod raw;
 mod refusal;
+mod room;
+mod runner;
+mod store;
+mod stores;
 mod vector;
 
 pub use answer::{Answer, Begun, Chunk, Due, Kind, Piece, Request};
+pub use code::Code;
 pub use dock::{aligned_part, DataError, Dock, Settings, SLOTS};
 pub use refusal::Refusal;
+pub use room::Room;
+pub use runner::{Ended, Job, JobList, Next, Order, Runner, Source, Tally, Told, Waiting};
+pub use store::Store;
+pub use stores::{Faults, FaultyStore, FileStore, MemoryStore};
 pub use vector::{Vector, LONGEST_VECTOR, SEGMENTS};
