@@ -1,5 +1,8 @@
 //! What calls on the dock answer.
 
+use crate::raw::Reply;
+use crate::refusal::Refusal;
+
 /// What a begin comes to.
 #[derive(Clone, Copy, Debug, PartialEq, Eq)]
 pub enum Begun {
@@ -99,6 +102,20 @@ impl Answer {
             207 => Some(Answer::Overflow),
             _ => None,
         }
+    }
+}
+
+impl Due {
+    /// What the library says of a slot: waiting, a request, or a final answer.
+    pub(crate) fn answered(reply: Reply) -> Result<Due, Refusal> {
+        if let Some(answer) = Answer::of(reply.number) {
+            return Ok(Due::Answer(answer));
+        }
+        let [kind, offset, length, pieces] = reply.values()?;
+        if reply.count == 0 {
+            return Ok(Due::Waiting);
+        }
+        Ok(Due::Make(Request { kind: Kind::answered(kind), offset, length, pieces: pieces as usize }))
     }
 }
 

@@ -1,7 +1,7 @@
 //! The dock and its calls.
 
-use crate::answer::{Answer, Begun, Chunk, Due, Kind, Piece, Request};
-use crate::raw::{Lengths, Lent, Reply, Words, NO_NUMBER};
+use crate::answer::{Answer, Begun, Chunk, Due, Piece};
+use crate::raw::{Loan, Reply, Words};
 use crate::refusal::Refusal;
 use crate::vector::Vector;
 use std::error::Error;
@@ -56,11 +56,7 @@ pub enum DataError {
 
 /// A dock over data and scratch, which it borrows for as long as it is used.
 pub struct Dock<'buf> {
-    words: Words,
-    data: &'buf mut [u8],
-    scratch: &'buf mut [u8],
-    /// The vectors of the jobs in flight, by slot; empty for jobs without one.
-    in_flight: [Option<Vector>; SLOTS],
+    words: Words<'buf>,
 }
 
 /// The part of a buffer that starts at the first multiple of `align` in it; empty where there is none.
@@ -78,11 +74,11 @@ fn done(number: u8) -> Result<(), Refusal> {
     }
 }
 
-/// A reply that has values, or the refusal's number.
-fn valued(reply: Reply) -> Result<[u64; 4], Refusal> {
+/// What a begin comes to.
+fn begun(reply: Reply) -> Result<Begun, Refusal> {
     match reply.number {
-        NO_NUMBER => Ok(reply.value),
-        refused => Err(Refusal::answered(refused)),
+        0 => Ok(Begun::Done),
+        _ => reply.values().map(|[slot, ..]| Begun::Slot(slot as usize)),
     }
 }
 
@@ -92,7 +88,7 @@ impl<'buf> Dock<'buf> {
     /// [`Refusal::Unfit`], [`Refusal::Buffer`].
     pub fn open(settings: &Settings, data: &'buf mut [u8], scratch: &'buf mut [u8]) -> Result<Dock<'buf>, Refusal> {
         let (words, number) = Words::open(settings, data, scratch);
-        done(number).map(|()| Dock { words, data, scratch, in_flight: [None; SLOTS] })
+        done(number).map(|()| Dock { words })
     }
 
     /// The same with the alignments of document 01's drive row 0 to 5.
@@ -103,81 +99,49 @@ impl<'buf> Dock<'buf> {
         scratch: &'buf mut [u8],
     ) -> Result<Dock<'buf>, Refusal> {
         let (words, number) = Words::open_row(row, bounce, data, scratch);
-        done(number).map(|()| Dock { words, data, scratch, in_flight: [None; SLOTS] })
+        done(number).map(|()| Dock { words })
     }
 
     /// Begins a read at `offset` of the store into the vector's segments.
     pub fn begin_read(&mut self, offset: u64, vector: &Vector) -> Result<Begun, Refusal> {
-        let lent = Lent { data: self.data, scratch: self.scratch };
-        let reply = self.words.begin_read(offset, vector.words(), lent);
-        self.begun(reply, vector)
+        begun(self.words.begin_read(offset, vector))
     }
 
     /// Begins a write of the vector's bytes at `offset` of the store.
     pub fn begin_write(&mut self, offset: u64, vector: &Vector) -> Result<Begun, Refusal> {
-        let lent = Lent { data: self.data, scratch: self.scratch };
-        let reply = self.words.begin_write(offset, vector.words(), lent);
-        self.begun(reply, vector)
+        begun(self.words.begin_write(offset, vector))
     }
 
     /// Begins zeroes over `length` bytes at `offset`, which the store is to keep allocated if `allocate`.
     pub fn begin_zeroes(&mut self, allocate: bool, offset: u64, length: u64) -> Result<Begun, Refusal> {
-        let lent = Lent { data: self.data, scratch: self.scratch };
-        let reply = self.words.begin_zeroes(allocate, offset, length, lent);
-        self.begun(reply, &Vector::new())
+        begun(self.words.begin_zeroes(allocate, offset, length))
     }
 
     /// Begins a discard of the whole discard blocks within `length` bytes at `offset`.
     pub fn begin_discard(&mut self, offset: u64, length: u64) -> Result<Begun, Refusal> {
-        let lent = Lent { data: self.data, scratch: self.scratch };
-        let reply = self.words.begin_discard(offset, length, lent);
-        self.begun(reply, &Vector::new())
-    }
-
-    /// What a begin comes to; its vector's bytes are in flight from now on.
-    fn begun(&mut self, reply: Reply, vector: &Vector) -> Result<Begun, Refusal> {
-        if reply.number == 0 {
-            return Ok(Begun::Done);
-        }
-        let slot = valued(reply)?[0] as usize;
-        self.in_flight[slot] = Some(*vector);
-        Ok(Begun::Slot(slot))
+        begun(self.words.begin_discard(offset, length))
     }
 
     /// What the job in `slot` needs now. Says the same until the next begin, tell or collect. [`Refusal::Slot`].
     pub fn next(&self, slot: usize) -> Result<Due, Refusal> {
-        let reply = self.words.next(slot, self.lengths());
-        if let Some(answer) = Answer::of(reply.number) {
-            return Ok(Due::Answer(answer));
-        }
-        let [kind, offset, length, pieces] = valued(reply)?;
-        if reply.count == 0 {
-            return Ok(Due::Waiting);
-        }
-        Ok(Due::Make(Request { kind: Kind::answered(kind), offset, length, pieces: pieces as usize }))
+        Due::answered(self.words.next(slot))
     }
 
     /// Piece `i` of the request that is out for `slot`, lent until the next call. [`Refusal::Slot`] where there is none.
     pub fn piece(&mut self, slot: usize, i: usize) -> Result<Piece<'_>, Refusal> {
-        let [buffer, start, length, _] = valued(self.words.piece(slot, i, self.lengths()))?;
-        let reads = matches!(self.next(slot)?, Due::Make(Request { kind: Kind::Read, .. }));
-        let bytes = if buffer == 0 { &mut *self.data } else { &mut *self.scratch };
-        let part = &mut bytes[start as usize..][..length as usize];
-        Ok(if reads { Piece::Fill(part) } else { Piece::Take(part) })
+        self.words.piece(slot, i)
     }
 
     /// Hands in the store's code for the request that is out: 0 done, 1 unsupported, 2 to 199 failed.
     /// [`Refusal::Slot`], [`Refusal::NoAnswer`].
     pub fn tell(&mut self, slot: usize, code: u8) -> Result<(), Refusal> {
-        done(self.words.tell(slot, code, self.data, self.scratch))
+        done(self.words.tell(slot, code))
     }
 
     /// Takes the final answer; the slot is free again, and the job's bytes of the data are the caller's. [`Refusal::Slot`].
     pub fn collect(&mut self, slot: usize) -> Result<Answer, Refusal> {
-        let number = self.words.collect(slot, self.lengths());
-        let answer = Answer::of(number.into()).ok_or_else(|| Refusal::answered(number.into()))?;
-        self.in_flight[slot] = None;
-        Ok(answer)
+        let number = self.words.collect(slot);
+        Answer::of(number.into()).ok_or_else(|| Refusal::answered(number.into()))
     }
 }
 
@@ -185,12 +149,12 @@ impl<'buf> Dock<'buf> {
 impl Dock<'_> {
     /// In how many chunks a range of whole request blocks is written, each of the bounce buffer's length but the last.
     pub fn chunks(&self, offset: u64, length: u64) -> Result<u64, Refusal> {
-        valued(self.words.chunks(offset, length)).map(|[count, ..]| count)
+        self.words.chunks(offset, length).values().map(|[count, ..]| count)
     }
 
     /// Chunk `i` of them; from the count on, length 0 at the range's end.
     pub fn chunk(&self, offset: u64, length: u64, i: u64) -> Result<Chunk, Refusal> {
-        valued(self.words.chunk(offset, length, i)).map(|[offset, length, ..]| Chunk { offset, length })
+        self.words.chunk(offset, length, i).values().map(|[offset, length, ..]| Chunk { offset, length })
     }
 }
 
@@ -198,18 +162,12 @@ impl Dock<'_> {
 impl<'buf> Dock<'buf> {
     /// All data. The bytes of a read are there once it is answered 0.
     pub fn data(&self) -> &[u8] {
-        self.data
+        self.words.data()
     }
 
     /// A range of the data to be changed: none that has bytes of a job in flight.
     pub fn data_mut(&mut self, range: Range<usize>) -> Result<&mut [u8], DataError> {
-        if range.start > range.end || range.end > self.data.len() {
-            return Err(DataError::Outside);
-        }
-        if self.in_flight.iter().flatten().any(|vector| vector.meets(&range)) {
-            return Err(DataError::InFlight);
-        }
-        Ok(&mut self.data[range])
+        self.words.data_part(range)
     }
 
     /// Puts `bytes` into the data from `start` on, where no job in flight has a segment.
@@ -221,11 +179,20 @@ impl<'buf> Dock<'buf> {
 
     /// Gives data and scratch back, and the dock up with the jobs in flight.
     pub fn into_buffers(self) -> (&'buf mut [u8], &'buf mut [u8]) {
-        (self.data, self.scratch)
+        self.words.into_buffers()
+    }
+}
+
+/// Requests that are carried out elsewhere.
+impl<'buf> Dock<'buf> {
+    /// The request that is out for `slot`, with its pieces, to be carried out by whoever holds it. [`Refusal::Slot`].
+    pub(crate) fn lend(&mut self, slot: usize) -> Result<Loan<'buf>, Refusal> {
+        self.words.lend(slot)
     }
 
-    fn lengths(&self) -> Lengths {
-        Lengths { data: self.data.len(), scratch: self.scratch.len() }
+    /// Takes the pieces back and hands in the store's code. [`Refusal::NoAnswer`].
+    pub(crate) fn take_back(&mut self, loan: Loan<'buf>, code: u8) -> Result<(), Refusal> {
+        done(self.words.take_back(loan, code))
     }
 }
 

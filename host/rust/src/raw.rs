@@ -1,10 +1,36 @@
-//! The calls of `libboundary.a`, as it has them, behind functions that are safe to call. All that is unsafe in this crate is here.
+//! The calls of `libboundary.a`, as it has them, behind functions that are safe to call, and the buffers that they work on. All that is
+//! unsafe in this crate is here and in `raw/loan.rs`.
 //!
 //! The library is proved to return for any words, and to touch nothing outside its arrays and the lent bytes. What its calls ask for in
-//! turn is the same for all, and a reference or a slice has it: pointers that are not null and aligned (an empty slice's too), to as many
-//! words or bytes as the call is told, which nobody else changes during the call, and which do not overlap where one is changed.
+//! turn is the same for all: pointers that are not null and aligned (an empty buffer's too), to as many words or bytes as the call is
+//! told. The words are fields of [`Words`]. Data and scratch are borrowed for `'buf` at opening and held as pointers from then on, so that
+//! pieces can be out with other threads while calls run: a reference to a whole buffer would claim those bytes too.
+//!
+//! **Who touches which bytes when.** A piece that is out ([`Loan`]) is touched by its holder alone: filled for a read, looked at for a
+//! write. Meanwhile calls for other slots run, and pieces of other slots are out. None of these touch the same byte where one changes it:
+//!
+//! - Scratch: slot p has the bytes from p × share on, share many. A piece in the scratch lies in its own slot's, and begin and tell touch
+//!   no scratch but that of the slot they are for. A begin takes a free slot, and no piece of a free slot is out.
+//! - Data: a piece in the data lies in a segment of its job. A begin reads its own vector's segments, a tell those of its own slot's job or
+//!   fills them, and no others. Segments of two jobs in flight share bytes only where both write from them, and then nobody changes
+//!   them: other begins are refused with 203 before a byte is touched.
+//! - A slot whose piece is out is not told, and its pieces are not handed out again, until the loan comes back: `lent` sees to that.
+//! - Other data is handed out to be changed by [`Words::data_part`] alone, and only where no job in flight has a segment.
+//!
+//! That a call leaves the bytes of other slots as they are is in its contract; that it does not even write their old values back is how
+//! its code is (it stores byte by byte into its own slot's parts), and is tried with `valgrind --tool=helgrind` and `--tool=drd`.
 
-use crate::dock::Settings;
+use crate::answer::{Due, Kind, Piece, Request};
+use crate::dock::{DataError, Settings, SLOTS};
+use crate::refusal::Refusal;
+use crate::vector::Vector;
+use std::marker::PhantomData;
+use std::ops::Range;
+use std::slice;
+
+mod loan;
+
+pub(crate) use loan::Loan;
 
 /// The number of a reply that has values alone.
 pub(crate) const NO_NUMBER: u64 = 256;
@@ -18,27 +44,32 @@ pub(crate) struct Reply {
     pub value: [u64; 4],
 }
 
-/// A dock in words, each array of the length that the library declares for it.
-#[derive(Clone, PartialEq, Eq)]
-pub(crate) struct Words {
+/// Address and length of a buffer that is borrowed for `'buf`.
+#[derive(Clone, Copy)]
+struct Buffer<'buf> {
+    start: *mut u8,
+    length: usize,
+    borrowed: PhantomData<&'buf mut [u8]>,
+}
+
+/// A dock in words, each array of the length that the library declares for it, and its buffers.
+pub(crate) struct Words<'buf> {
     settings: [u64; 9],
     blockers: [u64; 88],
     states: [u64; 144],
     vectors: [u64; 272],
+    data: Buffer<'buf>,
+    scratch: Buffer<'buf>,
+    /// The vectors of the jobs in flight, by slot; empty for jobs without one.
+    in_flight: [Option<Vector>; SLOTS],
+    /// The slots whose pieces are out as a loan.
+    lent: [bool; SLOTS],
 }
 
-/// The buffers of a begin.
-pub(crate) struct Lent<'a> {
-    pub data: &'a [u8],
-    pub scratch: &'a mut [u8],
-}
-
-/// The lengths of the buffers, for calls that touch none of their bytes.
-#[derive(Clone, Copy)]
-pub(crate) struct Lengths {
-    pub data: usize,
-    pub scratch: usize,
-}
+// SAFETY: Words has the use of its buffers as two `&'buf mut [u8]` would, which may go to another thread.
+unsafe impl Send for Words<'_> {}
+// SAFETY: what takes `&self` changes nothing, and reads bytes only while no loan is out.
+unsafe impl Sync for Words<'_> {}
 
 #[rustfmt::skip]
 extern "C" {
@@ -66,106 +97,139 @@ extern "C" {
     fn dock_words_chunk(settings: *const u64, offset: u64, length: u64, i: u64) -> Reply;
 }
 
-/// Address and length of a buffer, as opening is told them.
-fn place(bytes: &[u8]) -> (u64, u64) {
-    (bytes.as_ptr() as usize as u64, bytes.len() as u64)
+impl<'buf> Buffer<'buf> {
+    fn of(bytes: &'buf mut [u8]) -> Buffer<'buf> {
+        Buffer { start: bytes.as_mut_ptr(), length: bytes.len(), borrowed: PhantomData }
+    }
+
+    fn address(&self) -> u64 {
+        self.start as usize as u64
+    }
+
+    /// The part of `length` bytes from `start` on, which lies in the buffer.
+    fn part(&self, start: u64, length: u64) -> (*mut u8, usize) {
+        let (start, length) = (start as usize, length as usize);
+        assert!(start <= self.length && length <= self.length - start, "the library answered a piece outside the buffers");
+        (self.start.wrapping_add(start), length)
+    }
 }
 
 #[rustfmt::skip]
-impl Words {
-    fn none() -> Words {
-        Words { settings: [0; 9], blockers: [0; 88], states: [0; 144], vectors: [0; 272] }
+impl<'buf> Words<'buf> {
+    fn over(data: &'buf mut [u8], scratch: &'buf mut [u8]) -> Words<'buf> {
+        Words {
+            settings: [0; 9], blockers: [0; 88], states: [0; 144], vectors: [0; 272],
+            data: Buffer::of(data), scratch: Buffer::of(scratch), in_flight: [None; SLOTS], lent: [false; SLOTS],
+        }
     }
 
-    pub fn open(s: &Settings, data: &[u8], scratch: &[u8]) -> (Words, u8) {
-        let mut w = Words::none();
-        let ((data, data_len), (scratch, scratch_len)) = (place(data), place(scratch));
+    pub fn open(s: &Settings, data: &'buf mut [u8], scratch: &'buf mut [u8]) -> (Words<'buf>, u8) {
+        let mut w = Words::over(data, scratch);
         // SAFETY: the four arrays are this function's own, of the declared lengths; the rest are numbers.
         let number = unsafe {
             dock_words_open(w.settings.as_mut_ptr(), w.blockers.as_mut_ptr(), w.states.as_mut_ptr(), w.vectors.as_mut_ptr(),
-                s.mem, s.req, s.zero, s.discard, s.bounce, data, data_len, scratch, scratch_len)
+                s.mem, s.req, s.zero, s.discard, s.bounce, w.data.address(), w.data.length as u64, w.scratch.address(),
+                w.scratch.length as u64)
         };
         (w, number)
     }
 
-    pub fn open_row(row: usize, bounce: u64, data: &[u8], scratch: &[u8]) -> (Words, u8) {
-        let mut w = Words::none();
-        let ((data, data_len), (scratch, scratch_len)) = (place(data), place(scratch));
-        // SAFETY: the four arrays are this function's own, of the declared lengths; the rest are numbers.
+    pub fn open_row(row: usize, bounce: u64, data: &'buf mut [u8], scratch: &'buf mut [u8]) -> (Words<'buf>, u8) {
+        let mut w = Words::over(data, scratch);
+        // SAFETY: as for open.
         let number = unsafe {
             dock_words_open_row(w.settings.as_mut_ptr(), w.blockers.as_mut_ptr(), w.states.as_mut_ptr(), w.vectors.as_mut_ptr(),
-                row, bounce, data, data_len, scratch, scratch_len)
+                row, bounce, w.data.address(), w.data.length as u64, w.scratch.address(), w.scratch.length as u64)
         };
         (w, number)
     }
 
-    pub fn begin_read(&mut self, offset: u64, vector: &[u64; 34], lent: Lent<'_>) -> Reply {
-        // SAFETY: the arrays are separate fields of `self`, borrowed whole and alone; vector, data and scratch are borrowed beside
-        // them with their lengths, and scratch, which is changed, alone.
-        unsafe {
+    pub fn begin_read(&mut self, offset: u64, vector: &Vector) -> Reply {
+        // SAFETY: the arrays are separate fields of `self`, borrowed whole and alone, and the vector is borrowed beside them; data and
+        // scratch have their lengths, and the call touches no byte of them that is out, as the head of this file says.
+        let reply = unsafe {
             dock_words_begin_read(self.settings.as_ptr(), self.blockers.as_mut_ptr(), self.states.as_mut_ptr(),
-                self.vectors.as_mut_ptr(), offset, vector.as_ptr(), lent.data.as_ptr(), lent.data.len(),
-                lent.scratch.as_mut_ptr(), lent.scratch.len())
-        }
+                self.vectors.as_mut_ptr(), offset, vector.words().as_ptr(), self.data.start, self.data.length, self.scratch.start,
+                self.scratch.length)
+        };
+        self.note_begun(reply, vector)
     }
 
-    pub fn begin_write(&mut self, offset: u64, vector: &[u64; 34], lent: Lent<'_>) -> Reply {
+    pub fn begin_write(&mut self, offset: u64, vector: &Vector) -> Reply {
         // SAFETY: as for begin_read.
-        unsafe {
+        let reply = unsafe {
             dock_words_begin_write(self.settings.as_ptr(), self.blockers.as_mut_ptr(), self.states.as_mut_ptr(),
-                self.vectors.as_mut_ptr(), offset, vector.as_ptr(), lent.data.as_ptr(), lent.data.len(),
-                lent.scratch.as_mut_ptr(), lent.scratch.len())
-        }
+                self.vectors.as_mut_ptr(), offset, vector.words().as_ptr(), self.data.start, self.data.length, self.scratch.start,
+                self.scratch.length)
+        };
+        self.note_begun(reply, vector)
     }
 
-    pub fn begin_zeroes(&mut self, allocate: bool, offset: u64, length: u64, lent: Lent<'_>) -> Reply {
+    pub fn begin_zeroes(&mut self, allocate: bool, offset: u64, length: u64) -> Reply {
         // SAFETY: as for begin_read, without a vector.
-        unsafe {
+        let reply = unsafe {
             dock_words_begin_zeroes(self.settings.as_ptr(), self.blockers.as_mut_ptr(), self.states.as_mut_ptr(),
-                self.vectors.as_mut_ptr(), u8::from(allocate), offset, length, lent.data.as_ptr(), lent.data.len(),
-                lent.scratch.as_mut_ptr(), lent.scratch.len())
-        }
+                self.vectors.as_mut_ptr(), u8::from(allocate), offset, length, self.data.start, self.data.length, self.scratch.start,
+                self.scratch.length)
+        };
+        self.note_begun(reply, &Vector::new())
     }
 
-    pub fn begin_discard(&mut self, offset: u64, length: u64, lent: Lent<'_>) -> Reply {
+    pub fn begin_discard(&mut self, offset: u64, length: u64) -> Reply {
         // SAFETY: as for begin_read, without a vector.
-        unsafe {
+        let reply = unsafe {
             dock_words_begin_discard(self.settings.as_ptr(), self.blockers.as_mut_ptr(), self.states.as_mut_ptr(),
-                self.vectors.as_mut_ptr(), offset, length, lent.data.as_ptr(), lent.data.len(),
-                lent.scratch.as_mut_ptr(), lent.scratch.len())
-        }
+                self.vectors.as_mut_ptr(), offset, length, self.data.start, self.data.length, self.scratch.start, self.scratch.length)
+        };
+        self.note_begun(reply, &Vector::new())
     }
 
-    pub fn next(&self, slot: usize, lengths: Lengths) -> Reply {
+    /// Notes the vector of a job that got a slot: its bytes are in flight from now on.
+    fn note_begun(&mut self, reply: Reply, vector: &Vector) -> Reply {
+        if reply.number == NO_NUMBER {
+            self.in_flight[reply.value[0] as usize] = Some(*vector);
+        }
+        reply
+    }
+
+    pub fn next(&self, slot: usize) -> Reply {
         // SAFETY: the arrays are borrowed shared, and the call changes none; the rest are numbers.
         unsafe {
             dock_words_next(self.settings.as_ptr(), self.blockers.as_ptr(), self.states.as_ptr(), self.vectors.as_ptr(), slot,
-                lengths.data, lengths.scratch)
+                self.data.length, self.scratch.length)
         }
     }
 
-    pub fn piece(&self, slot: usize, i: usize, lengths: Lengths) -> Reply {
+    /// Address and length of a piece of the request that is out, a part of the data or the scratch.
+    fn piece_part(&self, slot: usize, i: usize) -> Result<(*mut u8, usize), Refusal> {
         // SAFETY: as for next.
-        unsafe {
+        let reply = unsafe {
             dock_words_piece(self.settings.as_ptr(), self.blockers.as_ptr(), self.states.as_ptr(), self.vectors.as_ptr(), slot, i,
-                lengths.data, lengths.scratch)
-        }
+                self.data.length, self.scratch.length)
+        };
+        let [buffer, start, length, _] = reply.values()?;
+        Ok(if buffer == 0 { self.data.part(start, length) } else { self.scratch.part(start, length) })
     }
 
-    pub fn tell(&mut self, slot: usize, code: u8, data: &mut [u8], scratch: &mut [u8]) -> u8 {
-        // SAFETY: the arrays are separate fields of `self`, borrowed whole and alone; so are data and scratch, with their lengths.
+    fn tell_library(&mut self, slot: usize, code: u8) -> u8 {
+        // SAFETY: the arrays are separate fields of `self`, borrowed whole and alone; data and scratch have their lengths, and the call
+        // touches no byte of them that is out, as the head of this file says, since this slot's pieces are not.
         unsafe {
             dock_words_tell(self.settings.as_ptr(), self.blockers.as_mut_ptr(), self.states.as_mut_ptr(), self.vectors.as_ptr(), slot,
-                code, data.as_mut_ptr(), data.len(), scratch.as_mut_ptr(), scratch.len())
+                code, self.data.start, self.data.length, self.scratch.start, self.scratch.length)
         }
     }
 
-    pub fn collect(&mut self, slot: usize, lengths: Lengths) -> u8 {
+    pub fn collect(&mut self, slot: usize) -> u8 {
         // SAFETY: the arrays are separate fields of `self`, borrowed whole and alone; the rest are numbers.
-        unsafe {
+        let number = unsafe {
             dock_words_collect(self.settings.as_ptr(), self.blockers.as_ptr(), self.states.as_mut_ptr(), self.vectors.as_mut_ptr(),
-                slot, lengths.data, lengths.scratch)
+                slot, self.data.length, self.scratch.length)
+        };
+        if Refusal::of(number).is_none_or(|refusal| refusal == Refusal::Overflow) {
+            self.in_flight[slot] = None;
         }
+        number
     }
 
     pub fn chunks(&self, offset: u64, length: u64) -> Reply {
@@ -176,5 +240,97 @@ impl Words {
     pub fn chunk(&self, offset: u64, length: u64, i: u64) -> Reply {
         // SAFETY: as for chunks.
         unsafe { dock_words_chunk(self.settings.as_ptr(), offset, length, i) }
+    }
+}
+
+/// Bytes handed out.
+impl<'buf> Words<'buf> {
+    /// A piece of the request that is out, lent for as long as `self` is.
+    pub fn piece(&mut self, slot: usize, i: usize) -> Result<Piece<'_>, Refusal> {
+        let (start, length) = self.piece_part(slot, i)?;
+        let request = self.request(slot)?;
+        self.must_be_here(slot);
+        Ok(match request.kind {
+            // SAFETY: the part lies in a buffer that is borrowed for 'buf; its slot's pieces are not out, those of others lie elsewhere,
+            // and `self` is borrowed alone for as long as the piece.
+            Kind::Read => Piece::Fill(unsafe { slice::from_raw_parts_mut(start, length) }),
+            // SAFETY: the same, and this one is only looked at, as are those of other writes that share bytes with it.
+            _ => Piece::Take(unsafe { slice::from_raw_parts(start, length) }),
+        })
+    }
+
+    /// Hands in a code.
+    pub fn tell(&mut self, slot: usize, code: u8) -> u8 {
+        self.must_be_here(slot);
+        self.tell_library(slot, code)
+    }
+
+    /// The request that is out for a slot.
+    fn request(&self, slot: usize) -> Result<Request, Refusal> {
+        match Due::answered(self.next(slot))? {
+            Due::Make(request) => Ok(request),
+            Due::Waiting | Due::Answer(_) => Err(Refusal::Slot),
+        }
+    }
+
+    fn must_be_here(&self, slot: usize) {
+        assert!(!self.lent.get(slot).is_some_and(|&lent| lent), "the pieces of slot {slot} are out");
+    }
+
+    fn all_must_be_here(&self) {
+        assert!(!self.lent.contains(&true), "pieces are out");
+    }
+
+    /// All data.
+    pub fn data(&self) -> &[u8] {
+        self.all_must_be_here();
+        // SAFETY: the data is borrowed for 'buf, no piece of it is out, and while `self` is borrowed none is handed out to be changed.
+        unsafe { slice::from_raw_parts(self.data.start, self.data.length) }
+    }
+
+    /// A range of the data, to be changed: none that has bytes of a job in flight.
+    pub fn data_part(&mut self, range: Range<usize>) -> Result<&mut [u8], DataError> {
+        if range.start > range.end || range.end > self.data.length {
+            return Err(DataError::Outside);
+        }
+        if self.in_flight.iter().flatten().any(|vector| vector.meets(&range)) {
+            return Err(DataError::InFlight);
+        }
+        // SAFETY: the range lies in the data, which is borrowed for 'buf; pieces that are out lie in segments of jobs in flight or in the
+        // scratch, and so not in it; `self` is borrowed alone for as long as the range.
+        Ok(unsafe { slice::from_raw_parts_mut(self.data.start.add(range.start), range.len()) })
+    }
+
+    /// Data and scratch, given back.
+    pub fn into_buffers(self) -> (&'buf mut [u8], &'buf mut [u8]) {
+        self.all_must_be_here();
+        // SAFETY: both are borrowed for 'buf and were opening's alone; no piece is out, and `self`, which has the only other pointers, ends.
+        unsafe {
+            (
+                slice::from_raw_parts_mut(self.data.start, self.data.length),
+                slice::from_raw_parts_mut(self.scratch.start, self.scratch.length),
+            )
+        }
+    }
+}
+
+impl Reply {
+    /// The values; or the refusal's number.
+    pub fn values(self) -> Result<[u64; 4], Refusal> {
+        match self.number {
+            NO_NUMBER => Ok(self.value),
+            refused => Err(Refusal::answered(refused)),
+        }
+    }
+}
+
+#[cfg(test)]
+impl Words<'_> {
+    /// Everything that a refused call must leave as it is.
+    pub fn copied(&self) -> (Vec<u64>, Vec<u8>, [Option<Vector>; SLOTS], [bool; SLOTS]) {
+        let words = [&self.settings[..], &self.blockers, &self.states, &self.vectors].concat();
+        // SAFETY: as for data.
+        let scratch = unsafe { slice::from_raw_parts(self.scratch.start, self.scratch.length) };
+        (words, [self.data(), scratch].concat(), self.in_flight, self.lent)
     }
 }

@@ -1,13 +1,23 @@
 //! The runner: serves jobs until they are done.
 
-use crate::dock::{Dock, Settings};
+use crate::answer::{Answer, Begun, Due, Kind};
+use crate::code::Code;
+use crate::dock::{Dock, Settings, SLOTS};
+use crate::raw::Loan;
 use crate::refusal::Refusal;
 use crate::store::Store;
+use crate::vector::Vector;
+use std::ops::Range;
+use std::thread;
 
+mod crew;
 mod list;
+mod seats;
 mod source;
 
+use crew::{Crew, Desk, InPlace, Workers};
 pub use list::JobList;
+use seats::{Seats, State};
 pub use source::{Ended, Job, Next, Source, Tally, Told, Waiting};
 
 /// Which of the requests that are due is carried out next.
@@ -16,48 +26,242 @@ pub enum Order {
     /// The one that has been due longest.
     #[default]
     First,
-    /// That of the next slot after the last one served.
+    /// That of the next slot after the one taken last.
     RoundRobin,
     /// As this seed draws it.
     Seed(u64),
 }
 
-/// Serves jobs of a source on a store: begins them as slots get free, up to eight at once, has their requests carried out, tells the
-/// codes, and hands the answers to the source. Data and scratch are borrowed; the data is cut into eight parts, one for each slot, and a
-/// job's bytes lie in its slot's.
+/// Serves jobs of a source on a store: begins them as slots get free, up to eight at once, has their requests carried
+/// out, tells the codes, and hands the answers to the source.
+///
+/// The data is cut into eight parts, one for each slot, and a job's bytes lie in its slot's part. Where two jobs in flight
+/// change the same byte of the store, either may come last; a barrier between them decides it.
 pub struct Runner<'buf> {
     dock: Dock<'buf>,
-    longest: usize,
+    /// The length of a slot's part of the data.
+    part: usize,
     order: Order,
+    seats: Seats,
+    gate: Gate,
+    /// How many jobs the source has given in this run.
+    asked: u64,
+    /// What the requests of jobs that have ended came to.
+    tally: Tally,
+}
+
+/// Whether the source is asked for jobs.
+#[derive(Clone, Copy, PartialEq, Eq)]
+enum Gate {
+    Open,
+    /// When no job is in flight.
+    Barrier,
+    /// When a job has ended.
+    Later,
+    /// No more.
+    Over,
 }
 
 impl<'buf> Runner<'buf> {
-    /// Opens a runner. Scratch has at least 8 bounce buffers and starts at a multiple of `mem`; see [`crate::Room`].
-    /// [`Refusal::Unfit`], [`Refusal::Buffer`].
+    /// Opens a runner. Scratch has at least 8 bounce buffers and starts at a multiple of `mem`: [`crate::Room`] has both
+    /// buffers. [`Refusal::Unfit`], [`Refusal::Buffer`].
     pub fn open(settings: &Settings, data: &'buf mut [u8], scratch: &'buf mut [u8]) -> Result<Runner<'buf>, Refusal> {
-        todo!()
+        let eighth = data.len() / SLOTS;
+        let dock = Dock::open(settings, data, scratch)?;
+        let past = eighth % settings.mem as usize;
+        let part = if past < eighth { eighth - past } else { eighth };
+        let order = Order::default();
+        let tally = Tally::default();
+        Ok(Runner { dock, part, order, seats: Seats::new(order), gate: Gate::Open, asked: 0, tally })
     }
 
-    /// How many bytes a read or a write may have: an eighth of the data, rounded down to the memory alignment where it has that many.
-    /// A longer one is refused with [`Refusal::Segment`].
+    /// How many bytes a read or a write may have: an eighth of the data, rounded down to the memory alignment where that
+    /// leaves any. A longer one is refused with [`Refusal::Segment`].
     pub fn longest(&self) -> u64 {
-        todo!()
+        self.part as u64
     }
 
-    /// Sets the order in which due requests are carried out; [`Order::First`] where it is not called.
+    /// Sets in which order due requests are carried out; [`Order::First`] where it is not called. With worker threads it
+    /// is the order in which they take them.
     pub fn set_order(&mut self, order: Order) {
         self.order = order;
     }
 
-    /// Runs the source's jobs in place: requests are carried out one after the other by this thread, and nothing is allocated. What all
-    /// requests came to.
+    /// Runs the source's jobs in place, until all have ended: this thread carries out the requests, one after the other,
+    /// and nothing is allocated. What all requests came to.
+    ///
+    /// # Panics
+    ///
+    /// Where source or store panic. The runner is of no use then, and panics when it is run again; its buffers are.
     pub fn run<J: Source + ?Sized, S: Store + ?Sized>(&mut self, jobs: &mut J, store: &S) -> Tally {
-        todo!()
+        self.serve(jobs, &mut InPlace { store, done: None })
     }
 
-    /// Runs the source's jobs with requests carried out by 1 to 8 worker threads, so that as many are out together. They end with the run.
-    /// A panic of the store goes on in the caller, after the requests that are out.
-    pub fn run_threads<J: Source + ?Sized, S: Store + ?Sized>(&mut self, workers: usize, jobs: &mut J, store: &S) -> Tally {
-        todo!()
+    /// Runs the source's jobs, until all have ended, with requests carried out by 1 to 8 worker threads, so that as many are
+    /// out together. The threads end with the run; where the system gives fewer, these do, and where it gives none the run
+    /// is in place. What all requests came to.
+    ///
+    /// # Panics
+    ///
+    /// As [`Runner::run`], after the requests that workers are at.
+    pub fn run_threads<J: Source + ?Sized, S: Store + ?Sized>(
+        &mut self,
+        workers: usize,
+        jobs: &mut J,
+        store: &S,
+    ) -> Tally {
+        let workers = workers.clamp(1, SLOTS);
+        let desk = Desk::new();
+        thread::scope(|scope| {
+            let mut crew = Workers::new(&desk);
+            let hire = |_: &usize| {
+                let worker = thread::Builder::new().name("store".into());
+                worker.spawn_scoped(scope, || desk.work(store)).is_ok()
+            };
+            crew.set_count((0..workers).take_while(hire).count());
+            if crew.is_free() {
+                self.serve(jobs, &mut crew)
+            } else {
+                self.run(jobs, store)
+            }
+        })
+    }
+
+    /// Begins jobs, hands out their requests and takes them back until the source has no more and all have ended.
+    fn serve<J: Source + ?Sized>(&mut self, jobs: &mut J, crew: &mut impl Crew<'buf>) -> Tally {
+        assert!(self.seats.is_empty(), "an earlier run of this runner panicked: open another");
+        self.seats = Seats::new(self.order);
+        (self.gate, self.asked, self.tally) = (Gate::Open, 0, Tally::default());
+        loop {
+            self.begin_jobs(jobs);
+            while crew.is_free() {
+                let Some(slot) = self.seats.take_due(self.order) else { break };
+                crew.hand_out(self.dock.lend(slot).expect("a request that is due is out"));
+            }
+            let Some((loan, code)) = crew.take_back() else { break };
+            self.tell(loan, code, jobs);
+        }
+        assert!(self.seats.is_empty(), "by document 01's waiting rule not all jobs wait");
+        self.tally
+    }
+
+    /// Asks the source for jobs and begins them while there is a free slot and the gate is open.
+    fn begin_jobs<J: Source + ?Sized>(&mut self, jobs: &mut J) {
+        loop {
+            if self.gate != Gate::Over && self.seats.is_empty() {
+                self.gate = Gate::Open;
+            }
+            let Some(slot) = self.seats.free().filter(|_| self.gate == Gate::Open) else { return };
+            match jobs.next() {
+                Next::Job(job) => self.begin(slot, job, jobs),
+                Next::Barrier => self.gate = Gate::Barrier,
+                Next::Later => self.gate = Gate::Later,
+                Next::End => self.gate = Gate::Over,
+            }
+        }
+    }
+
+    /// Begins a job in `slot`, the lowest free one.
+    fn begin<J: Source + ?Sized>(&mut self, slot: usize, job: Job, jobs: &mut J) {
+        let number = self.asked;
+        self.asked += 1;
+        let outcome = match self.try_begin(slot, number, &job, jobs) {
+            Ok(Begun::Slot(begun)) => {
+                assert_eq!(begun, slot, "begin takes the lowest free slot");
+                self.seats.put(slot, number, job);
+                jobs.begun(slot, number, &job);
+                self.look_at(slot);
+                return;
+            }
+            Ok(Begun::Done) => Ok(Answer::Done),
+            Err(refusal) => Err(refusal),
+        };
+        jobs.ended(&Ended { number, job, outcome, tally: Tally::default() }, &[]);
+    }
+
+    fn try_begin<J: Source + ?Sized>(
+        &mut self,
+        slot: usize,
+        number: u64,
+        job: &Job,
+        jobs: &mut J,
+    ) -> Result<Begun, Refusal> {
+        match job.kind {
+            Kind::Read => self.dock.begin_read(job.offset, &self.vector(slot, job)?),
+            Kind::Write => {
+                let vector = self.vector(slot, job)?;
+                jobs.fill(number, job, self.bytes(slot, job));
+                self.dock.begin_write(job.offset, &vector)
+            }
+            Kind::Zero => self.dock.begin_zeroes(false, job.offset, job.length),
+            Kind::AllocatedZero => self.dock.begin_zeroes(true, job.offset, job.length),
+            Kind::Discard => self.dock.begin_discard(job.offset, job.length),
+        }
+    }
+
+    /// Where in the data the bytes of a job in a slot lie. The job is not longer than the slot's part.
+    fn range(&self, slot: usize, job: &Job) -> Range<usize> {
+        let start = slot * self.part;
+        start..start + job.length as usize
+    }
+
+    /// The vector of a job in a slot: its bytes as one segment, which is never empty.
+    fn vector(&self, slot: usize, job: &Job) -> Result<Vector, Refusal> {
+        match job.length {
+            0 => Ok(Vector::new()),
+            length if length > self.longest() => Err(Refusal::Segment),
+            length => Ok(Vector::of(slot * self.part, length as usize)),
+        }
+    }
+
+    /// The bytes of a job in a slot that is not in flight.
+    fn bytes(&mut self, slot: usize, job: &Job) -> &mut [u8] {
+        let range = self.range(slot, job);
+        self.dock.data_mut(range).expect("a slot's part is used by its job alone")
+    }
+
+    /// Takes a request back that was carried out, tells its code, and sees what has changed by it.
+    fn tell<J: Source + ?Sized>(&mut self, loan: Loan<'buf>, code: Code, jobs: &mut J) {
+        let (slot, request) = (loan.slot(), *loan.request());
+        self.dock.take_back(loan, code.number()).expect("each code is an answer to the request that is out");
+        let seat = self.seats.seat(slot);
+        seat.tally.count(&request, code);
+        let number = seat.number;
+        let answer = self.look_at(slot);
+        for waiting in 0..SLOTS {
+            if self.seats.waits(waiting) {
+                self.look_at(waiting);
+            }
+        }
+        jobs.told(&Told { slot, number, request, code, waiting: Waiting { seats: &self.seats } });
+        if let Some(answer) = answer {
+            self.end(slot, answer, jobs);
+        }
+    }
+
+    /// Sees what the job in a slot in flight needs now; its answer where it has ended.
+    fn look_at(&mut self, slot: usize) -> Option<Answer> {
+        match self.dock.next(slot).expect("the slot is in flight") {
+            Due::Waiting => self.seats.seat(slot).state = State::Waiting,
+            Due::Make(_) => self.seats.mark_due(slot),
+            Due::Answer(answer) => return Some(answer),
+        }
+        None
+    }
+
+    /// Collects a job that has ended, and shows its bytes to the source.
+    fn end<J: Source + ?Sized>(&mut self, slot: usize, answer: Answer, jobs: &mut J) {
+        self.dock.collect(slot).expect("the job has ended");
+        let seat = self.seats.leave(slot);
+        self.tally.add(&seat.tally);
+        if self.gate == Gate::Later {
+            self.gate = Gate::Open;
+        }
+        let ended = Ended { number: seat.number, job: seat.job, outcome: Ok(answer), tally: seat.tally };
+        let shown = seat.job.kind == Kind::Read && answer == Answer::Done;
+        jobs.ended(&ended, if shown { self.bytes(slot, &seat.job) } else { &[] });
     }
 }
+
+#[cfg(test)]
+mod tests;

@@ -4,6 +4,6 @@ mod faulty;
 mod file;
 mod memory;
 
-pub use faulty::{Faults, FaultyStore};
+pub use faulty::{Carried, Faults, FaultyStore, Watcher};
 pub use file::FileStore;
 pub use memory::MemoryStore;

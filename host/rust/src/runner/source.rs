@@ -1,8 +1,10 @@
 //! Where jobs come from, and what their source is told.
 
+use super::seats::Seats;
 use crate::answer::{Answer, Kind, Request};
 use crate::code::Code;
 use crate::refusal::Refusal;
+use std::fmt;
 
 /// A job: what to do with a byte range of the store. A job of kind [`Kind::Zero`] or [`Kind::AllocatedZero`] makes the whole range zeroes,
 /// one of kind [`Kind::Discard`] forgets the whole discard blocks within it.
@@ -87,14 +89,39 @@ pub trait Source {
 }
 
 /// The jobs that wait for others.
-#[derive(Clone, Copy, Debug)]
+#[derive(Clone, Copy)]
 pub struct Waiting<'a> {
-    pub(super) seats: &'a [(); 0],
+    pub(super) seats: &'a Seats,
 }
 
 impl Waiting<'_> {
     /// Slot and number of each, in the order of slots.
     pub fn iter(&self) -> impl Iterator<Item = (usize, u64)> + '_ {
-        self.seats.iter().map(|()| (0, 0))
+        self.seats.waiting()
+    }
+}
+
+impl fmt::Debug for Waiting<'_> {
+    fn fmt(&self, f: &mut fmt::Formatter<'_>) -> fmt::Result {
+        f.debug_list().entries(self.iter()).finish()
+    }
+}
+
+impl Tally {
+    /// Counts a request that came to this code.
+    pub(super) fn count(&mut self, request: &Request, code: Code) {
+        self.requests += 1;
+        match request.kind {
+            Kind::Read if code == Code::DONE => self.read += request.length,
+            Kind::Write if code == Code::DONE => self.written += request.length,
+            _ => {}
+        }
+    }
+
+    /// Adds what another has counted.
+    pub(super) fn add(&mut self, other: &Tally) {
+        self.requests += other.requests;
+        self.read += other.read;
+        self.written += other.written;
     }
 }
