@@ -245,7 +245,9 @@ mod tests {
     fn zeroes_and_discards_keep_length_and_neighbours() {
         let file = sample("zero", &[7; 20000]);
         let drive = Drive::new(&file, Kind::File, 20000);
-        for (carry, name) in [(Drive::zero as fn(&_, _, _) -> _, "zero"), (Drive::allocated_zero, "alloc"), (Drive::discard, "discard")] {
+        for (carry, name) in
+            [(Drive::zero as fn(&_, _, _) -> _, "zero"), (Drive::allocated_zero, "alloc"), (Drive::discard, "discard")]
+        {
             file.write_all_at(&[7; 20000], 0).unwrap();
             let code = carry(&drive, 4096, 8192);
             if code == Code::UNSUPPORTED {

@@ -134,9 +134,13 @@ fn unopened_with(name: &str, kind: Kind, access: Access, error: &std::io::Error)
 fn lock(file: &File, name: &str, change: bool) -> Outcome<()> {
     match system::take_lock(file, change) {
         Ok(true) => Ok(()),
-        Ok(false) if change => refused(format!("IMAGE {name}: another process has it open under a lock (--no-lock goes on without)")),
+        Ok(false) if change => {
+            refused(format!("IMAGE {name}: another process has it open under a lock (--no-lock goes on without)"))
+        }
         Ok(false) => refused(format!("IMAGE {name}: another process is changing it (--no-lock goes on without)")),
-        Err(error) => refused(format!("IMAGE {name}: no lock can be taken: {} (--no-lock goes on without)", reason(&error))),
+        Err(error) => {
+            refused(format!("IMAGE {name}: no lock can be taken: {} (--no-lock goes on without)", reason(&error)))
+        }
     }
 }
 
@@ -183,7 +187,8 @@ fn found_alignments(file: &File, kind: Kind, metadata: &Metadata, direct: bool) 
 fn granularity(metadata: &Metadata) -> Option<u64> {
     let (major, minor) = system::device_numbers(metadata.rdev());
     let read = |queue: &str| {
-        let text = std::fs::read_to_string(format!("/sys/dev/block/{major}:{minor}/{queue}/discard_granularity")).ok()?;
+        let text =
+            std::fs::read_to_string(format!("/sys/dev/block/{major}:{minor}/{queue}/discard_granularity")).ok()?;
         text.trim().parse().ok()
     };
     read("queue").or_else(|| read("../queue")).filter(|&d: &u64| d != 0)

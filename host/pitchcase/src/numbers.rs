@@ -188,7 +188,18 @@ mod tests {
 
     #[test]
     fn words_that_are_no_number_and_where() {
-        let bad = [("", 1), ("x", 1), ("-1", 1), ("1.5K", 2), ("0x", 3), ("0x1g", 4), ("12z4", 3), ("K", 1), ("1 ", 2), ("0x1K", 4)];
+        let bad = [
+            ("", 1),
+            ("x", 1),
+            ("-1", 1),
+            ("1.5K", 2),
+            ("0x", 3),
+            ("0x1g", 4),
+            ("12z4", 3),
+            ("K", 1),
+            ("1 ", 2),
+            ("0x1K", 4),
+        ];
         for (word, byte) in bad {
             assert_eq!(number(word.as_bytes()), Err(Flaw { byte, what: NOT_A_NUMBER }), "{word}");
         }

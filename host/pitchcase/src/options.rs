@@ -258,7 +258,9 @@ fn row_alignments(word: &OsStr) -> Outcome<[u64; 4]> {
     let row = number("--drive", word)?;
     match usize::try_from(row).ok().and_then(|row| Settings::ROWS.get(row)) {
         Some(row) => Ok(*row),
-        None => refused(format!("--drive '{}': no such drive row (0 to {})", shown_word(word), Settings::ROWS.len() - 1)),
+        None => {
+            refused(format!("--drive '{}': no such drive row (0 to {})", shown_word(word), Settings::ROWS.len() - 1))
+        }
     }
 }
 
@@ -280,7 +282,9 @@ fn order(word: &OsStr) -> Outcome<Order> {
         b"round" => Ok(Order::RoundRobin),
         seed => match numbers::number(seed) {
             Ok(seed) => Ok(Order::Seed(seed)),
-            Err(_) => refused(format!("--order '{}': takes first, round or a seed, a number below 2^64", shown_word(word))),
+            Err(_) => {
+                refused(format!("--order '{}': takes first, round or a seed, a number below 2^64", shown_word(word)))
+            }
         },
     }
 }
@@ -404,14 +408,18 @@ mod tests {
         assert_eq!(means("--share 16K --out 4").unwrap(), Means { share: Some(16384), out: Some(4), ..none });
         assert_eq!(means("--order round").unwrap().order, Some(Order::RoundRobin));
         assert_eq!(means("--order 7 --out 1").unwrap().order, Some(Order::Seed(7)));
-        for bad in ["--drive 6", "--drive -1", "--align 1,2,3", "--order last", "--out 0", "--out 9", "--order 7 --out 2"] {
+        for bad in
+            ["--drive 6", "--drive -1", "--align 1,2,3", "--order last", "--out 0", "--out 9", "--order 7 --out 2"]
+        {
             assert_eq!(means(bad).unwrap_err().status(), 2, "{bad}");
         }
     }
 
     #[test]
     fn text_may_start_with_a_minus() {
-        let Ok(Said::Command(Command::Edit { bytes, .. })) = parsed("edit a 0 --text -02.75deg") else { panic!("refused") };
+        let Ok(Said::Command(Command::Edit { bytes, .. })) = parsed("edit a 0 --text -02.75deg") else {
+            panic!("refused")
+        };
         assert_eq!(bytes.text, Some("-02.75deg".into()));
     }
 }

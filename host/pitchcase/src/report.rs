@@ -55,6 +55,11 @@ impl Report {
         }
     }
 
+    /// Whether requests are printed.
+    pub fn is_tracing(&self) -> bool {
+        self.trace
+    }
+
     /// A heading of what follows.
     pub fn heading(&mut self, when: &str) {
         match self.json {
@@ -65,9 +70,6 @@ impl Report {
 
     /// A request that was made, or that a plan would make, with the lines that wait after it.
     pub fn request(&mut self, line: u64, request: &Request, code: Code, waiting: &[u64]) {
-        if !self.trace {
-            return;
-        }
         let range = Range { offset: request.offset, length: request.length };
         if self.json {
             let mut fields = ranged(line, "kind", kind_word(request.kind), range);
@@ -168,7 +170,8 @@ impl Report {
         if self.json {
             let partly: Vec<_> = lines.partly.iter().map(|(line, done, of)| json!([line, done, of])).collect();
             let (done, failed, unbegun) = (runs(&lines.done), runs(&lines.failed), runs(&lines.unbegun));
-            return self.object("lines", json!({ "done": done, "failed": failed, "partly": partly, "not_begun": unbegun }));
+            return self
+                .object("lines", json!({ "done": done, "failed": failed, "partly": partly, "not_begun": unbegun }));
         }
         for (what, numbers) in [("done", &lines.done), ("failed", &lines.failed), ("not begun", &lines.unbegun)] {
             if !numbers.is_empty() {
@@ -196,7 +199,7 @@ impl Report {
         }
     }
 
-    /// An object on a line, with what it is first.
+    /// An object on a line; the field `event` says what it is.
     pub fn object(&mut self, event: &str, fields: Value) {
         let mut all = Map::new();
         all.insert("event".into(), event.into());

@@ -207,7 +207,8 @@ mod tests {
         ];
         for (text, wanted) in bad {
             let line = text.find('\n').map_or(1, |_| 2);
-            let wanted = format!("{start} {wanted}").replace("line 2", if text.starts_with('x') { "line 1" } else { "line 2" });
+            let wanted =
+                format!("{start} {wanted}").replace("line 2", if text.starts_with('x') { "line 1" } else { "line 2" });
             assert_eq!(refusal(text), wanted, "{line}");
         }
         assert!(refusal("read 1x 1").starts_with("refused: line 1, byte 7: OFFSET '1x': no number"));

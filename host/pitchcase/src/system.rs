@@ -108,7 +108,13 @@ pub fn direct_alignments(file: &File) -> Option<(u64, u64)> {
     let empty: &CStr = c"";
     // SAFETY: the path is a string that ends; the buffer has the 256 bytes of a struct statx, aligned as one, and is borrowed alone.
     let told = unsafe {
-        libc::statx(file.as_raw_fd(), empty.as_ptr(), libc::AT_EMPTY_PATH, DIOALIGN, (&mut bytes as *mut StatxBytes).cast())
+        libc::statx(
+            file.as_raw_fd(),
+            empty.as_ptr(),
+            libc::AT_EMPTY_PATH,
+            DIOALIGN,
+            (&mut bytes as *mut StatxBytes).cast(),
+        )
     };
     let (memory, offset) = (bytes.word(0x98), bytes.word(0x9c));
     (told == 0 && bytes.word(0) & DIOALIGN != 0 && memory != 0 && offset != 0).then_some((memory.into(), offset.into()))

@@ -69,7 +69,9 @@ pub fn reason_of(number: i32) -> String {
 /// What the dock refuses a job for, as the technician would say it.
 pub fn refusal_text(refusal: Refusal) -> String {
     let why = match refusal {
-        Refusal::Unfit => "no such drive row, alignments that are no powers of two up to 65536, or a share that does not fit them",
+        Refusal::Unfit => {
+            "no such drive row, alignments that are no powers of two up to 65536, or a share that does not fit them"
+        }
         Refusal::TooLong => "with the blocks around it, the range is longer than the share",
         Refusal::Overflow => "the range, or the blocks around it, ends past 2^64 - 1",
         _ => return refusal.to_string(),
