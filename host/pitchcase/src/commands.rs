@@ -139,12 +139,12 @@ impl Session {
         self.image.file.set_len(self.end).or_else(|error| failed(format!("--grow: {}", reason(&error))))
     }
 
-    /// Runs entries to their end.
-    fn run(&self, runner: &mut Runner<'_>, mut work: Work<'_>) -> (End, Tally) {
+    /// Runs entries to their end, on an image that has `size` bytes now.
+    fn run(&self, runner: &mut Runner<'_>, mut work: Work<'_>, size: u64) -> (End, Tally) {
         let tally = if self.plan {
             runner.run(&mut work, &Planned)
         } else {
-            let drive = Drive::new(&self.image.file, self.image.kind, self.end);
+            let drive = Drive::new(&self.image.file, self.image.kind, size);
             match self.out {
                 1 => runner.run(&mut work, &drive),
                 out => runner.run_threads(out, &mut work, &drive),
@@ -156,6 +156,7 @@ impl Session {
     /// Shows a range, before or after an edit: of a long one the first bytes and the last.
     fn show(&self, runner: &mut Runner<'_>, report: &mut Report, when: &str, range: Range) -> Outcome<()> {
         report.heading(when);
+        let size = if when == "before" { self.image.size } else { self.end };
         let last = Range { offset: range.offset + range.length.saturating_sub(SHOWN_ENDS), length: SHOWN_ENDS };
         let ranges = match range.length {
             0..=SHOWN_WHOLE => vec![range],
@@ -164,7 +165,7 @@ impl Session {
         for range in ranges {
             let entries = [single(Verb::Read, range)];
             let longest = runner.longest();
-            let (end, _) = self.run(runner, Work::new(&entries, &Bytes::None, report, Print::Rows, longest));
+            let (end, _) = self.run(runner, Work::new(&entries, &Bytes::None, report, Print::Rows, longest), size);
             if let Some(why) = end.failure {
                 return failed(why);
             }
@@ -254,12 +255,11 @@ fn carry_out(asked: Asked) -> Outcome<()> {
     let print = if session.plan { Print::Nothing } else { asked.print };
     let longest = runner.longest();
     let work = Work::new(&asked.entries, &asked.bytes, &mut report, print, longest);
-    let (end, tally) = session.run(&mut runner, work);
+    let (end, tally) = session.run(&mut runner, work, session.end);
     let synced = sync(&asked, &session);
-    let shown = match edited {
-        Some(range) if end.is_whole => session.show(&mut runner, &mut report, "after", range),
-        _ => Ok(()),
-    };
+    // After an edit that failed too, where each byte is old or new; that it cannot be shown then is no news.
+    let edited = edited.filter(|_| !system::is_interrupted());
+    let shown = edited.map_or(Ok(()), |range| session.show(&mut runner, &mut report, "after", range));
     conclude(&asked, &mut report, end, tally, synced.and(shown))
 }
 

@@ -209,7 +209,8 @@ pub fn is_interrupted() -> bool {
     ASKED.load(Ordering::Relaxed) > 0
 }
 
-/// SIGINT, SIGTERM and SIGHUP are noted from now on, unless they were ignored at the start; SIGPIPE is ignored, so that a write says EPIPE.
+/// SIGINT, SIGTERM and SIGHUP are noted from now on, unless they were ignored at the start; SIGPIPE and SIGXFSZ are
+/// ignored, so that a write says EPIPE or EFBIG.
 pub fn note_signals() {
     // SAFETY: sigaction is a struct of numbers and a set, for which zeroes are values (no flags: a call that waits returns with EINTR); the
     // handler does only what a handler may: an atomic addition, _exit.
@@ -224,6 +225,7 @@ pub fn note_signals() {
             }
         }
         libc::signal(libc::SIGPIPE, libc::SIG_IGN);
+        libc::signal(libc::SIGXFSZ, libc::SIG_IGN);
     }
 }
 
