@@ -109,7 +109,10 @@ impl<'buf> Buffer<'buf> {
     /// The part of `length` bytes from `start` on, which lies in the buffer.
     fn part(&self, start: u64, length: u64) -> (*mut u8, usize) {
         let (start, length) = (start as usize, length as usize);
-        assert!(start <= self.length && length <= self.length - start, "the library answered a piece outside the buffers");
+        assert!(
+            start <= self.length && length <= self.length - start,
+            "the library answered a piece outside the buffers"
+        );
         (self.start.wrapping_add(start), length)
     }
 }

@@ -110,20 +110,16 @@ impl<'buf> Runner<'buf> {
         jobs: &mut J,
         store: &S,
     ) -> Tally {
-        let workers = workers.clamp(1, SLOTS);
         let desk = Desk::new();
         thread::scope(|scope| {
-            let mut crew = Workers::new(&desk);
-            let hire = |_: &usize| {
-                let worker = thread::Builder::new().name("store".into());
-                worker.spawn_scoped(scope, || desk.work(store)).is_ok()
-            };
-            crew.set_count((0..workers).take_while(hire).count());
-            if crew.is_free() {
-                self.serve(jobs, &mut crew)
-            } else {
-                self.run(jobs, store)
-            }
+            let hire = |_| thread::Builder::new().name("store".into()).spawn_scoped(scope, || desk.work(store)).ok();
+            let hired: Vec<_> = (0..workers.clamp(1, SLOTS)).map_while(hire).collect();
+            let mut crew = Workers::new(&desk, hired.len());
+            let tally = if hired.is_empty() { self.run(jobs, store) } else { self.serve(jobs, &mut crew) };
+            drop(crew);
+            // The scope would wait for them too; a join is what tools see that follow threads.
+            hired.into_iter().for_each(|worker| worker.join().expect("a worker hands on panics of the store"));
+            tally
         })
     }
 
@@ -222,7 +218,7 @@ impl<'buf> Runner<'buf> {
 
     /// Takes a request back that was carried out, tells its code, and sees what has changed by it.
     fn tell<J: Source + ?Sized>(&mut self, loan: Loan<'buf>, code: Code, jobs: &mut J) {
-        let (slot, request) = (loan.slot(), *loan.request());
+        let (slot, request) = (loan.slot(), loan.request());
         self.dock.take_back(loan, code.number()).expect("each code is an answer to the request that is out");
         let seat = self.seats.seat(slot);
         seat.tally.count(&request, code);

@@ -5,6 +5,7 @@ use crate::code::Code;
 use crate::raw::Loan;
 use crate::store::Store;
 use std::collections::VecDeque;
+use std::io::{IoSlice, IoSliceMut};
 use std::panic::{self, AssertUnwindSafe};
 use std::sync::{Condvar, Mutex, MutexGuard, PoisonError};
 use std::thread;
@@ -23,10 +24,10 @@ pub(super) trait Crew<'buf> {
 
 /// Carries out a request.
 pub(super) fn carry<S: Store + ?Sized>(loan: &mut Loan<'_>, store: &S) -> Code {
-    let request = *loan.request();
+    let request = loan.request();
     match request.kind {
-        Kind::Read => store.read(request.offset, &mut loan.to_fill()[..request.pieces]),
-        Kind::Write => store.write(request.offset, &loan.to_take()[..request.pieces]),
+        Kind::Read => store.read(request.offset, &mut [IoSliceMut::new(loan.to_fill())]),
+        Kind::Write => store.write(request.offset, &[IoSlice::new(loan.to_take())]),
         Kind::Zero => store.zero(request.offset, request.length),
         Kind::AllocatedZero => store.allocated_zero(request.offset, request.length),
         Kind::Discard => store.discard(request.offset, request.length),
@@ -109,14 +110,9 @@ pub(super) struct Workers<'run, 'buf> {
 }
 
 impl<'run, 'buf> Workers<'run, 'buf> {
-    /// A desk without workers.
-    pub fn new(desk: &'run Desk<'buf>) -> Workers<'run, 'buf> {
-        Workers { desk, count: 0, out: 0 }
-    }
-
-    /// Notes how many workers there are, each of whom has one request at a time.
-    pub fn set_count(&mut self, count: usize) {
-        self.count = count;
+    /// So many workers at a desk, each of whom has one request at a time.
+    pub fn new(desk: &'run Desk<'buf>, count: usize) -> Workers<'run, 'buf> {
+        Workers { desk, count, out: 0 }
     }
 }
 

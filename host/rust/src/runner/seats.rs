@@ -28,6 +28,8 @@ pub(super) struct Seat {
 /// The jobs in flight, by slot.
 pub(super) struct Seats {
     seats: [Option<Seat>; SLOTS],
+    /// How many there are.
+    count: usize,
     /// Counts requests that became due.
     clock: u64,
     /// The slot whose request was taken last.
@@ -38,7 +40,7 @@ pub(super) struct Seats {
 impl Seats {
     pub fn new(order: Order) -> Seats {
         let seed = if let Order::Seed(seed) = order { seed } else { 0 };
-        Seats { seats: [None; SLOTS], clock: 0, last: SLOTS - 1, draw: Draw::new(seed) }
+        Seats { seats: [None; SLOTS], count: 0, clock: 0, last: SLOTS - 1, draw: Draw::new(seed) }
     }
 
     /// The lowest free slot.
@@ -47,10 +49,12 @@ impl Seats {
     }
 
     pub fn is_empty(&self) -> bool {
-        self.seats.iter().all(Option::is_none)
+        self.count == 0
     }
 
+    /// Puts a job into a free slot.
     pub fn put(&mut self, slot: usize, number: u64, job: Job) {
+        self.count += 1;
         self.seats[slot] = Some(Seat { state: State::Waiting, number, job, tally: Tally::default() });
     }
 
@@ -61,6 +65,7 @@ impl Seats {
 
     /// Frees a slot in flight.
     pub fn leave(&mut self, slot: usize) -> Seat {
+        self.count -= 1;
         self.seats[slot].take().expect("only slots in flight are left")
     }
 

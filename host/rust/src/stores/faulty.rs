@@ -58,9 +58,9 @@ struct Inner {
     draw: Draw,
 }
 
-/// The store's choice for the byte at an offset.
-fn chosen(choice: u64, offset: u64) -> u8 {
-    mixed(choice.wrapping_add(offset)) as u8
+/// The store's choice for byte `i` of a request.
+fn chosen(choice: u64, i: u64) -> u8 {
+    mixed(choice.wrapping_add(i)) as u8
 }
 
 impl FaultyStore {
@@ -116,13 +116,32 @@ impl FaultyStore {
 
     fn zero_range(&self, kind: Kind, offset: u64, length: u64) -> Code {
         self.carry(Carried { kind, offset, length, code: Code::DONE, address: 0 }, |bytes, code, choice| {
-            for (at, byte) in (offset..).zip(part_mut(bytes, offset, length)) {
-                if code == Code::DONE || chosen(choice, at) & 1 == 0 {
-                    *byte = 0;
-                }
+            let old = part_mut(bytes, offset, length);
+            if code == Code::DONE {
+                old.fill(0);
+            } else {
+                tear(old, std::iter::repeat(&0), choice);
             }
             code
         })
+    }
+}
+
+/// Makes each byte new or leaves it old, as the store chooses.
+fn tear<'a>(old: &mut [u8], new: impl Iterator<Item = &'a u8>, choice: u64) {
+    for ((at, byte), new) in (0..).zip(old).zip(new) {
+        if chosen(choice, at) & 1 == 0 {
+            *byte = *new;
+        }
+    }
+}
+
+/// Puts pieces one after the other.
+fn put(bytes: &mut [u8], pieces: &[IoSlice<'_>]) {
+    let mut at = 0;
+    for piece in pieces {
+        bytes[at..at + piece.len()].copy_from_slice(piece);
+        at += piece.len();
     }
 }
 
@@ -135,8 +154,8 @@ impl Store for FaultyStore {
             if code == Code::DONE {
                 read_bytes(bytes, offset, pieces);
             } else {
-                let places = pieces.iter_mut().flat_map(|piece| piece.iter_mut());
-                (offset..).zip(places).for_each(|(at, byte)| *byte = chosen(choice, at));
+                let left = pieces.iter_mut().flat_map(|piece| piece.iter_mut());
+                (0..).zip(left).for_each(|(at, byte)| *byte = chosen(choice, at));
             }
             code
         })
@@ -151,11 +170,11 @@ impl Store for FaultyStore {
             if room != Code::DONE {
                 return room;
             }
-            let taken = pieces.iter().flat_map(|piece| piece.iter());
-            for ((at, byte), new) in (offset..).zip(part_mut(bytes, offset, length as u64)).zip(taken) {
-                if code == Code::DONE || chosen(choice, at) & 1 == 0 {
-                    *byte = *new;
-                }
+            let old = part_mut(bytes, offset, length as u64);
+            if code == Code::DONE {
+                put(old, pieces);
+            } else {
+                tear(old, pieces.iter().flat_map(|piece| piece.iter()), choice);
             }
             code
         })
@@ -172,9 +191,8 @@ impl Store for FaultyStore {
     fn discard(&self, offset: u64, length: u64) -> Code {
         let carried = Carried { kind: Kind::Discard, offset, length, code: Code::DONE, address: 0 };
         self.carry(carried, |bytes, code, choice| {
-            for (at, byte) in (offset..).zip(part_mut(bytes, offset, length)) {
-                *byte = chosen(choice, at);
-            }
+            let left = part_mut(bytes, offset, length);
+            (0..).zip(left).for_each(|(at, byte)| *byte = chosen(choice, at));
             code
         })
     }
