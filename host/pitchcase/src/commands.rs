@@ -202,7 +202,8 @@ fn end_after(entries: &[Entry], image: &Image, grow: bool) -> Outcome<u64> {
 /// Alignments as they were typed or found, and a share that fits them.
 fn settings_of(means: &Means, found: &[u64; 4]) -> Settings {
     let [mem, req, zero, discard] = means.align.unwrap_or(*found);
-    let least = zero.saturating_add(mem.max(req)).saturating_mul(2);
+    let block = mem.max(req);
+    let least = zero.saturating_add(block).saturating_mul(2).checked_next_multiple_of(block).unwrap_or(0);
     let bounce = means.share.unwrap_or(USUAL_SHARE.max(least));
     Settings { mem, req, zero, discard, bounce }
 }

@@ -99,8 +99,10 @@ impl<'a> Drive<'a> {
         retried(|| system::fallocate(self.file, Change::Allocate, offset, length))
     }
 
+    /// Forgets a range. What lies past the end has no content.
     fn forget(&self, offset: u64, length: u64) -> io::Result<()> {
         match self.kind {
+            _ if length == 0 => Ok(()),
             Kind::Device => retried(|| system::discard(self.file, offset, length)),
             Kind::File => retried(|| system::fallocate(self.file, Change::Punch, offset, length)),
         }
@@ -256,6 +258,7 @@ mod tests {
             assert_eq!(code, Code::DONE, "{name}");
             assert_eq!(content(&file), [vec![7; 4096], vec![0; 8192], vec![7; 20000 - 12288]].concat(), "{name}");
         }
+        assert_eq!(drive.discard(20480, 512), Code::DONE);
         assert_eq!(file.metadata().unwrap().size(), 20000);
     }
 
