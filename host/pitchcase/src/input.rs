@@ -41,14 +41,16 @@ fn open(name: &str, path: &Path, is_stdin_closed: bool) -> Outcome<File> {
 
 /// Reads a file to its end.
 fn read_whole(name: &str, path: &Path, mut file: File) -> Outcome<Vec<u8>> {
+    let too_long = || refused(format!("{name} {}: {MOST_TEXT}", path.display()));
+    if file.metadata().is_ok_and(|metadata| metadata.is_file() && metadata.len() > MOST) {
+        return too_long();
+    }
     let mut bytes = Vec::new();
     let mut chunk = vec![0; 1 << 16];
     loop {
         match file.read(&mut chunk) {
             Ok(0) => return Ok(bytes),
-            Ok(n) if (bytes.len() + n) as u64 > MOST => {
-                return refused(format!("{name} {}: {MOST_TEXT}", path.display()));
-            }
+            Ok(n) if (bytes.len() + n) as u64 > MOST => return too_long(),
             Ok(n) => bytes.extend_from_slice(&chunk[..n]),
             Err(error) if error.kind() == io::ErrorKind::Interrupted => {
                 if system::is_interrupted() {
