@@ -293,7 +293,7 @@ def long_zeroing():
     size = 200 << 20
     with open("long", "wb") as f:
         f.truncate(size)
-    process = subprocess.Popen([PROGRAM, "zero", "long", "0", str(size), "--share", "4K"], stdout=subprocess.PIPE, stderr=subprocess.PIPE,
+    process = subprocess.Popen([PROGRAM, "zero", "long", "0", str(size), "--alloc", "--share", "4K"], stdout=subprocess.PIPE, stderr=subprocess.PIPE,
                                env=dict(os.environ, LD_PRELOAD=FAULTS, FAULT_FALLOCATE="0,95", FAULT_DELAY_US="1"))
     time.sleep(1)
     process.send_signal(signal.SIGINT)
@@ -600,7 +600,7 @@ def progress():
     size = 64 << 20
     with open("long", "wb") as f:
         f.truncate(size)
-    words = ("zero", "long", 0, size, "--share", "4K")
+    words = ("zero", "long", 0, size, "--alloc", "--share", "4K")
     faults = {"FAULT_FALLOCATE": "0,95", "FAULT_DELAY_US": "120"}
     ran = pitchcase(*words, faults=faults)
     check(b"%), " in ran.stderr and b" MiB/s\n" in ran.stderr and b" of %d bytes (" % size in ran.stderr, ran.stderr)

@@ -5,6 +5,7 @@ use crate::system::{self, Change};
 use pitch_dock::{Code, Store};
 use std::fs::File;
 use std::io::{self, IoSlice, IoSliceMut};
+use std::sync::atomic::{AtomicBool, Ordering};
 
 /// An image as a store.
 ///
@@ -16,12 +17,14 @@ pub struct Drive<'a> {
     kind: Kind,
     /// How many bytes the image has.
     end: u64,
+    /// Whether its file system has said that it makes no zeroes, only holes: to be asked once, for tmpfs finds holes slowly.
+    only_holes: AtomicBool,
 }
 
 impl<'a> Drive<'a> {
     /// The store of an image that has `end` bytes.
     pub fn new(file: &'a File, kind: Kind, end: u64) -> Drive<'a> {
-        Drive { file, kind, end }
+        Drive { file, kind, end, only_holes: AtomicBool::new(false) }
     }
 
     /// Reads until all pieces are full or the file ends; how many bytes.
@@ -75,22 +78,40 @@ impl<'a> Drive<'a> {
         length.min(self.end.saturating_sub(offset))
     }
 
-    /// Zeroes without writing them: a hole where that may be, which is the quickest.
-    fn make_zeroes(&self, offset: u64, length: u64, allocate: bool) -> io::Result<()> {
-        if !allocate {
-            match retried(|| system::fallocate(self.file, Change::Punch, offset, length)) {
-                Err(error) if is_unsupported(&error) => {}
+    /// Zeroes without writing them. Of a file holes stay as they are, so that one with holes takes up no more space than before, and
+    /// the rest stays allocated, which is the quickest; of a device blocks are given back where it can do that.
+    fn make_zeroes(&self, offset: u64, length: u64) -> io::Result<()> {
+        if self.kind == Kind::File && !self.only_holes.load(Ordering::Relaxed) {
+            match self.zero_data(offset, length) {
+                Err(error) if is_unsupported(&error) => self.only_holes.store(true, Ordering::Relaxed),
                 result => return result,
             }
         }
-        match self.kind {
-            Kind::Device => retried(|| system::zero_out(self.file, offset, length)),
-            Kind::File => self.allocated_zeroes(offset, length),
+        match retried(|| system::fallocate(self.file, Change::Punch, offset, length)) {
+            Err(error) if is_unsupported(&error) && self.kind == Kind::Device => {
+                retried(|| system::zero_out(self.file, offset, length))
+            }
+            result => result,
         }
     }
 
-    /// Zeroes of a file that take up space: by one call, or where the file system has it not, a hole that is then allocated.
-    fn allocated_zeroes(&self, offset: u64, length: u64) -> io::Result<()> {
+    /// Zeroes in the parts of a range that are in no hole.
+    fn zero_data(&self, offset: u64, length: u64) -> io::Result<()> {
+        let end = offset + length;
+        let mut at = offset;
+        while let Some(start) = system::next_data(self.file, at).filter(|&start| start < end) {
+            let stop = system::next_hole(self.file, start).min(end);
+            retried(|| system::fallocate(self.file, Change::Zero, start, stop - start))?;
+            at = stop;
+        }
+        Ok(())
+    }
+
+    /// Zeroes that take up space: by one call, or where the file system has it not, a hole that is then allocated.
+    fn make_allocated_zeroes(&self, offset: u64, length: u64) -> io::Result<()> {
+        if self.kind == Kind::Device {
+            return retried(|| system::zero_out(self.file, offset, length));
+        }
         match retried(|| system::fallocate(self.file, Change::Zero, offset, length)) {
             Err(error) if is_unsupported(&error) => {}
             result => return result,
@@ -150,11 +171,11 @@ impl Store for Drive<'_> {
     }
 
     fn zero(&self, offset: u64, length: u64) -> Code {
-        optional(self.make_zeroes(offset, self.inside(offset, length), false))
+        optional(self.make_zeroes(offset, self.inside(offset, length)))
     }
 
     fn allocated_zero(&self, offset: u64, length: u64) -> Code {
-        optional(self.make_zeroes(offset, self.inside(offset, length), true))
+        optional(self.make_allocated_zeroes(offset, self.inside(offset, length)))
     }
 
     fn discard(&self, offset: u64, length: u64) -> Code {
@@ -260,6 +281,20 @@ mod tests {
         }
         assert_eq!(drive.discard(20480, 512), Code::DONE);
         assert_eq!(file.metadata().unwrap().size(), 20000);
+    }
+
+    #[test]
+    fn zeroes_leave_holes_and_reach_every_byte_between() {
+        let file = sample("holes", b"");
+        file.set_len(1 << 20).unwrap();
+        for at in [0, 65536, 300_000, (1 << 20) - 10] {
+            file.write_all_at(&[7; 10], at).unwrap();
+        }
+        let before = file.metadata().unwrap().blocks();
+        assert_eq!(Drive::new(&file, Kind::File, 1 << 20).zero(512, (1 << 20) - 512), Code::DONE);
+        let wanted = [vec![7; 10], vec![0; (1 << 20) - 10]].concat();
+        assert!(content(&file) == wanted);
+        assert!(file.metadata().unwrap().blocks() <= before);
     }
 
     #[test]

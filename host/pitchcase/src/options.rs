@@ -32,7 +32,7 @@ Examples:
 
 const ZERO_END: &str = "\
 Examples:
-  pitchcase zero drive.img 1M 64M               a hole where the file system has holes
+  pitchcase zero drive.img 1M 64M               holes in the file stay holes
   pitchcase zero drive.img 1M 64M --alloc       zeroes that take up space";
 
 const DISCARD_END: &str = "\

@@ -74,6 +74,29 @@ pub fn fallocate(file: &File, change: Change, offset: u64, length: u64) -> io::R
     checked(unsafe { libc::fallocate(file.as_raw_fd(), mode, offset, length) }).map(drop)
 }
 
+/// The next byte from `offset` on that is in no hole of a file; None where only holes are left. A file system that tells nothing of holes
+/// has none.
+pub fn next_data(file: &File, offset: u64) -> Option<u64> {
+    match seek(file, offset, libc::SEEK_DATA) {
+        Ok(found) => Some(found),
+        Err(error) if error.raw_os_error() == Some(libc::ENXIO) => None,
+        Err(_) => Some(offset),
+    }
+}
+
+/// The next hole from `offset` on; the file's end, or further, where there is none.
+pub fn next_hole(file: &File, offset: u64) -> u64 {
+    seek(file, offset, libc::SEEK_HOLE).unwrap_or(u64::MAX)
+}
+
+/// lseek. Nobody reads or writes where the file stands.
+fn seek(file: &File, offset: u64, whence: c_int) -> io::Result<u64> {
+    let offset = place(offset)?;
+    // SAFETY: the call takes numbers alone.
+    let found = unsafe { libc::lseek(file.as_raw_fd(), offset, whence) };
+    u64::try_from(found).map_err(|_| io::Error::last_os_error())
+}
+
 fn range_request(file: &File, request: c_ulong, offset: u64, length: u64) -> io::Result<()> {
     let range = [offset, length];
     // SAFETY: both requests read two 64-bit numbers, which live during the call.
