@@ -141,7 +141,8 @@ class Round:
         self.fleet = rng.random() < 0.5
         self.edits = drawn_fleet(rng, SIZE) if self.fleet else [Edit(drawn_kind(rng), *drawn_range(rng, SIZE), rng)]
         self.by_script = self.fleet or rng.random() < 0.3
-        turns = rng.choice((("--order", "first"), ("--order", "round"), ("--order", str(rng.getrandbits(64))), ("--out", str(rng.randint(1, 8)))))
+        orders = ("--order", "first"), ("--order", "round"), ("--order", str(rng.getrandbits(64)))
+        turns = rng.choice((*orders, ("--out", str(rng.randint(1, 8)))))
         self.options = ["--drive", str(self.row), "--share", str(drawn_share(rng, self.row)), *turns]
 
 

@@ -50,39 +50,39 @@ static size_t allowed(size_t length)
 
 #define REAL(name) ((__typeof__(&name))dlsym(RTLD_NEXT, #name))
 
-#define TRANSFER(name, buffer, fault, count)                                                                                                 \
-    ssize_t name(int fd, buffer bytes, size_t length, off64_t offset)                                                                         \
-    {                                                                                                                                        \
-        if (fd > 2) {                                                                                                                        \
-            if (is_failing(fault, &count))                                                                                                   \
-                return -1;                                                                                                                   \
-            if (length && !(length = allowed(length))) {                                                                                     \
-                errno = EINTR;                                                                                                               \
-                return -1;                                                                                                                   \
-            }                                                                                                                                \
-        }                                                                                                                                    \
-        return REAL(name)(fd, bytes, length, offset);                                                                                        \
+#define TRANSFER(name, buffer, fault, count)                                                                \
+    ssize_t name(int fd, buffer bytes, size_t length, off64_t offset)                                       \
+    {                                                                                                       \
+        if (fd > 2) {                                                                                       \
+            if (is_failing(fault, &count))                                                                  \
+                return -1;                                                                                  \
+            if (length && !(length = allowed(length))) {                                                    \
+                errno = EINTR;                                                                              \
+                return -1;                                                                                  \
+            }                                                                                               \
+        }                                                                                                   \
+        return REAL(name)(fd, bytes, length, offset);                                                       \
     }
 
 TRANSFER(pread64, void *, "FAULT_READ", reads)
 TRANSFER(pwrite64, const void *, "FAULT_WRITE", writes)
 
 /* Of a vector the first part alone is moved where a transfer is short. */
-#define VECTORED(name, fault, count)                                                                                                         \
-    ssize_t name(int fd, const struct iovec *parts, int n, off64_t offset)                                                                    \
-    {                                                                                                                                        \
-        size_t let;                                                                                                                          \
-        if (fd > 2) {                                                                                                                        \
-            if (is_failing(fault, &count))                                                                                                   \
-                return -1;                                                                                                                   \
-            if (!(let = allowed((size_t)n + 1))) {                                                                                           \
-                errno = EINTR;                                                                                                               \
-                return -1;                                                                                                                   \
-            }                                                                                                                                \
-            if (let <= (size_t)n)                                                                                                            \
-                n = 1;                                                                                                                       \
-        }                                                                                                                                    \
-        return REAL(name)(fd, parts, n, offset);                                                                                             \
+#define VECTORED(name, fault, count)                                                                        \
+    ssize_t name(int fd, const struct iovec *parts, int n, off64_t offset)                                  \
+    {                                                                                                       \
+        size_t let;                                                                                         \
+        if (fd > 2) {                                                                                       \
+            if (is_failing(fault, &count))                                                                  \
+                return -1;                                                                                  \
+            if (!(let = allowed((size_t)n + 1))) {                                                          \
+                errno = EINTR;                                                                              \
+                return -1;                                                                                  \
+            }                                                                                               \
+            if (let <= (size_t)n)                                                                           \
+                n = 1;                                                                                      \
+        }                                                                                                   \
+        return REAL(name)(fd, parts, n, offset);                                                            \
     }
 
 VECTORED(preadv, "FAULT_READ", reads)

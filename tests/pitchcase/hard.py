@@ -265,7 +265,8 @@ def interrupted():
         check(done and unbegun and not done & unbegun and len(done | unbegun) == 400, "lines listed:", said[-500:])
         after = read("image")
         old_or_new(before, after, edits, {line - 1 for line in done})
-        check(all(after[at:at + 10] == before[at:at + 10] for at, _ in (edits[line - 1] for line in unbegun)), "a job not begun is there")
+        left = [edits[line - 1][0] for line in unbegun]
+        check(all(after[at:at + 10] == before[at:at + 10] for at in left), "a job not begun is there")
 
 
 def interrupted_twice():
@@ -437,7 +438,8 @@ def sizes():
     os.unlink("image")
 
 
-ROWS = ((1, 1, 1, 1), (1, 512, 512, 512), (512, 512, 4096, 4096), (4096, 4096, 4096, 65536), (4096, 512, 512, 512), (4096, 512, 4096, 65536))
+ROWS = ((1, 1, 1, 1), (1, 512, 512, 512), (512, 512, 4096, 4096), (4096, 4096, 4096, 65536), (4096, 512, 512, 512),
+        (4096, 512, 4096, 65536))
 
 
 def drawn_share(rng, row):
@@ -622,14 +624,27 @@ def progress():
     os.unlink("long")
 
 
+# Name, test, whether it needs faults.
 TESTS = (
-    ("closed descriptors", closed_descriptors, False), ("a full or broken standard output", full_output, False),
-    ("a reader who goes away", output_that_ends, False), ("two processes on one image", two_processes, False), ("locks", locks, True),
-    ("kill -9 in the middle of a fleet", killed, False), ("interrupted fleets", interrupted, True), ("interrupted twice", interrupted_twice, True),
-    ("an interrupted zeroing", long_zeroing, True), ("short and interrupted transfers", short_and_interrupted, True),
-    ("failing requests", failures, True), ("a fleet that fails", fleet_that_fails, True), ("requests out together", out_together, True),
-    ("a full disk", full_disk, False), ("images of 0, 1 and 2^32 + 1 bytes", sizes, False), ("random fleets", random_fleets, False),
-    ("loop devices", devices, False), ("JSON", json_lines, False), ("progress", progress, True),
+    ("closed descriptors", closed_descriptors, False),
+    ("a full or broken standard output", full_output, False),
+    ("a reader who goes away", output_that_ends, False),
+    ("two processes on one image", two_processes, False),
+    ("locks", locks, True),
+    ("kill -9 in the middle of a fleet", killed, False),
+    ("interrupted fleets", interrupted, True),
+    ("interrupted twice", interrupted_twice, True),
+    ("an interrupted zeroing", long_zeroing, True),
+    ("short and interrupted transfers", short_and_interrupted, True),
+    ("failing requests", failures, True),
+    ("a fleet that fails", fleet_that_fails, True),
+    ("requests out together", out_together, True),
+    ("a full disk", full_disk, False),
+    ("images of 0, 1 and 2^32 + 1 bytes", sizes, False),
+    ("random fleets", random_fleets, False),
+    ("loop devices", devices, False),
+    ("JSON", json_lines, False),
+    ("progress", progress, True),
 )
 
 

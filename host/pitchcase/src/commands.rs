@@ -13,6 +13,7 @@ use crate::trouble::{failed, reason, refusal_text, refused, Outcome, Trouble};
 use crate::work::{Bytes, End, Print, Work};
 use pitch_dock::{Room, Runner, Settings, Tally, SLOTS};
 use serde_json::json;
+use std::os::unix::fs::MetadataExt;
 use std::path::{Path, PathBuf};
 
 /// The share where it was not typed and fits.
@@ -118,9 +119,7 @@ impl Session {
         let is_change = jobs(&asked.entries).any(|job| job.verb.is_change()) && !manner.plan;
         let lock = !manner.no_lock && !manner.plan;
         let image = image::open(&asked.image, Access { change: is_change, direct: manner.direct, lock })?;
-        if asked.from == Some(image.identity) {
-            return refused("--from: names the image itself");
-        }
+        check_apart(asked, &image)?;
         let end = end_after(&asked.entries, &image, manner.grow)?;
         let settings = settings_of(&means, &image.found);
         if manner.direct {
@@ -174,7 +173,22 @@ impl Session {
     }
 }
 
-/// The image's size after the jobs, each of which ends inside it unless it may grow. Reads and discards lengthen nothing.
+/// What is read and printed beside the image is another file than it.
+fn check_apart(asked: &Asked, image: &Image) -> Outcome<()> {
+    if asked.from == Some(image.identity) {
+        return refused("--from: names the image itself");
+    }
+    for (descriptor, name) in [(1, "standard output"), (2, "standard error")] {
+        let metadata = system::standing(descriptor).metadata();
+        if metadata.is_ok_and(|metadata| (metadata.dev(), metadata.ino()) == image.identity) {
+            return refused(format!("{name} goes to the image itself"));
+        }
+    }
+    Ok(())
+}
+
+/// The image's size after the jobs, each of which ends inside it unless it may grow. Reads and discards lengthen
+/// nothing.
 fn end_after(entries: &[Entry], image: &Image, grow: bool) -> Outcome<u64> {
     let mut end = image.size;
     for job in jobs(entries) {
@@ -220,7 +234,7 @@ fn check_direct(image: &Image, settings: &Settings, end: u64) -> Outcome<()> {
     Ok(())
 }
 
-/// Opens the image, runs the jobs, and says what they came to.
+/// Opens the image and a runner for it, and runs the jobs. Nothing is refused after that.
 fn carry_out(asked: Asked) -> Outcome<()> {
     let session = Session::open(&asked)?;
     let settings = &session.settings;
@@ -238,14 +252,19 @@ fn carry_out(asked: Asked) -> Outcome<()> {
     if asked.manner.no_lock && !session.plan {
         say("--no-lock: another process may change the image meanwhile, and either's edits may be lost");
     }
+    run_jobs(&asked, &session, &mut runner)
+}
+
+/// Runs the jobs, and says what they came to. An edit shows its bytes before and after.
+fn run_jobs(asked: &Asked, session: &Session, runner: &mut Runner<'_>) -> Outcome<()> {
     let mut report = Report::new(asked.manner.json, asked.manner.trace, session.plan);
-    announce(&asked, &session, &mut report);
+    announce(asked, session, &mut report);
     let edited = match asked.command {
         "edit" if !session.plan => jobs(&asked.entries).next().map(|job| job.range),
         _ => None,
     };
     if let Some(range) = edited {
-        session.show(&mut runner, &mut report, "before", range)?;
+        session.show(runner, &mut report, "before", range)?;
     }
     // From here on the image is changed: who would not hear of it is told now.
     report.out.settle("nothing was begun")?;
@@ -254,14 +273,13 @@ fn carry_out(asked: Asked) -> Outcome<()> {
     }
     session.grow()?;
     let print = if session.plan { Print::Nothing } else { asked.print };
-    let longest = runner.longest();
-    let work = Work::new(&asked.entries, &asked.bytes, &mut report, print, longest);
-    let (end, tally) = session.run(&mut runner, work, session.end);
-    let synced = sync(&asked, &session);
+    let work = Work::new(&asked.entries, &asked.bytes, &mut report, print, runner.longest());
+    let (end, tally) = session.run(runner, work, session.end);
+    let synced = sync(asked, session);
     // After an edit that failed too, where each byte is old or new; that it cannot be shown then is no news.
     let edited = edited.filter(|_| !system::is_interrupted());
-    let shown = edited.map_or(Ok(()), |range| session.show(&mut runner, &mut report, "after", range));
-    conclude(&asked, &mut report, end, tally, synced.and(shown))
+    let shown = edited.map_or(Ok(()), |range| session.show(runner, &mut report, "after", range));
+    conclude(asked, &mut report, end, tally, synced.and(shown))
 }
 
 /// The first line or object.

@@ -9,15 +9,17 @@ use std::sync::atomic::{AtomicBool, Ordering};
 
 /// An image as a store.
 ///
-/// Padding reaches past the image's end where that is no multiple of the block. So that an edit does not lengthen a file, a read gives
-/// zeroes past the end, and of a write the bytes past the end are dropped: they are the zeroes that a read there gave.
+/// Padding reaches past the image's end where that is no multiple of the block. So that an edit does not lengthen a
+/// file, a read gives zeroes past the end, and of a write the bytes past the end are dropped: they are the zeroes that
+/// a read there gave.
 #[derive(Debug)]
 pub struct Drive<'a> {
     file: &'a File,
     kind: Kind,
     /// How many bytes the image has.
     end: u64,
-    /// Whether its file system has said that it makes no zeroes, only holes: to be asked once, for tmpfs finds holes slowly.
+    /// Whether its file system has said that it makes no zeroes, only holes: to be asked once, for tmpfs finds holes
+    /// slowly.
     only_holes: AtomicBool,
 }
 
@@ -78,8 +80,9 @@ impl<'a> Drive<'a> {
         length.min(self.end.saturating_sub(offset))
     }
 
-    /// Zeroes without writing them. Of a file holes stay as they are, so that one with holes takes up no more space than before, and
-    /// the rest stays allocated, which is the quickest; of a device blocks are given back where it can do that.
+    /// Zeroes without writing them. Of a file holes stay as they are, so that one with holes takes up no more space
+    /// than before, and the rest stays allocated, which is the quickest; of a device blocks are given back where it can
+    /// do that.
     fn make_zeroes(&self, offset: u64, length: u64) -> io::Result<()> {
         if self.kind == Kind::File && !self.only_holes.load(Ordering::Relaxed) {
             match self.zero_data(offset, length) {
@@ -101,7 +104,10 @@ impl<'a> Drive<'a> {
         let mut at = offset;
         while let Some(start) = system::next_data(self.file, at).filter(|&start| start < end) {
             let stop = system::next_hole(self.file, start).min(end);
-            retried(|| system::fallocate(self.file, Change::Zero, start, stop - start))?;
+            // A discard that is out together with this may have made a hole of it meanwhile.
+            if start < stop {
+                retried(|| system::fallocate(self.file, Change::Zero, start, stop - start))?;
+            }
             at = stop;
         }
         Ok(())

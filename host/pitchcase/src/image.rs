@@ -101,8 +101,8 @@ pub fn open(path: &Path, access: Access) -> Outcome<Image> {
     Ok(Image { file, kind, size, allocated: 512 * metadata.blocks(), found, identity })
 }
 
-/// O_EXCL on a block device is refused by the system where it is mounted or part of another device: it goes with the lock, for those
-/// who change it.
+/// O_EXCL on a block device is refused by the system where it is mounted or part of another device: it goes with the
+/// lock, for those who change it.
 fn options(kind: Kind, access: Access) -> OpenOptions {
     let claim = kind == Kind::Device && access.change && access.lock;
     let mut flags = libc::O_NOCTTY;
@@ -128,9 +128,9 @@ fn unopened_with(name: &str, kind: Kind, access: Access, error: &std::io::Error)
 
 /// Takes the lock: shared to read, exclusive to change.
 ///
-/// It is an open file description lock (fcntl) over the whole file, not flock's: qemu locks single bytes of an image the same way, so an
-/// image that a machine runs on is seen to be in use, and it works on block devices and over NFS too. It ends with the descriptor, by
-/// kill -9 as well, and leaves nothing behind.
+/// It is an open file description lock (fcntl) over the whole file, not flock's: qemu locks single bytes of an image
+/// the same way, so an image that a machine runs on is seen to be in use, and it works on block devices and over NFS
+/// too. It ends with the descriptor, by kill -9 as well, and leaves nothing behind.
 fn lock(file: &File, name: &str, change: bool) -> Outcome<()> {
     match system::take_lock(file, change) {
         Ok(true) => Ok(()),
@@ -162,8 +162,8 @@ fn fit_or(value: u64, other: u64) -> u64 {
     other
 }
 
-/// Alignments by what the system tells. Requests: of a device its logical block, of a file what direct transfers need, or 512. Memory:
-/// only direct transfers need one. Zeroes: as requests. Discards: of a device its granularity.
+/// Alignments by what the system tells. Requests: of a device its logical block, of a file what direct transfers need,
+/// or 512. Memory: only direct transfers need one. Zeroes: as requests. Discards: of a device its granularity.
 fn found_alignments(file: &File, kind: Kind, metadata: &Metadata, direct: bool) -> [u64; 4] {
     let told = system::direct_alignments(file);
     let offset = match kind {

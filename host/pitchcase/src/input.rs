@@ -83,7 +83,8 @@ pub fn edit_bytes(words: &BytesWords, is_stdin_closed: bool) -> Outcome<EditByte
     Ok(bytes)
 }
 
-/// The bytes of a file. A regular one is read while they are written, from where standard input stands in it; others are read now.
+/// The bytes of a file. A regular one is read while they are written, from where standard input stands in it; others
+/// are read now.
 fn file_bytes(path: &Path, is_stdin_closed: bool) -> Outcome<EditBytes> {
     let mut file = open("--from", path, is_stdin_closed)?;
     let unread = |error: io::Error| refused(format!("--from {}: {}", path.display(), reason(&error)));

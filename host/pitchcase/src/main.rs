@@ -1,7 +1,7 @@
 //! pitchcase: looks at and edits byte ranges of a drive or its image, in whole aligned blocks.
 //!
-//! The blocks, who waits for whom, and that no byte outside a range changes, are the proved library's (`pitch_dock`). This program is the
-//! thin shell around it: what is typed, the image, the system's calls, what is printed.
+//! The blocks, who waits for whom, and that no byte outside a range changes, are the proved library's (`pitch_dock`).
+//! This program is the thin shell around it: what is typed, the image, the system's calls, what is printed.
 //!
 //! Exit status: 0 done, 1 failed on the drive or standard output, 2 refused and nothing begun, 130 interrupted.
 

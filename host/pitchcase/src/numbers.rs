@@ -1,7 +1,8 @@
 //! Numbers and bytes as they are typed, and offsets as they are printed.
 //!
-//! A number is decimal, or hex after `0x`, or decimal with one of the suffixes B, K, M, G, T, P, E (powers of 1024), small or large, as
-//! qemu-io takes them. It is below 2^64. A hex number takes no suffix: B and E are digits there. Fractions are refused.
+//! A number is decimal, or hex after `0x`, or decimal with one of the suffixes B, K, M, G, T, P, E (powers of 1024),
+//! small or large, as qemu-io takes them. It is below 2^64. A hex number takes no suffix: B and E are digits there.
+//! Fractions are refused.
 //!
 //! What is printed can be typed again: an offset is printed in decimal and in hex.
 
@@ -96,8 +97,8 @@ fn digits_value(digits: &[u8], base: u32) -> Result<u64, Flaw> {
     digits.iter().try_fold(0, add).ok_or(Flaw { byte: 0, what: TOO_LARGE })
 }
 
-/// The bytes that hex digits say, two to each. Blanks between bytes are skipped where `blanks`, so that a row of a dump can be typed
-/// again; never inside a byte.
+/// The bytes that hex digits say, two to each. Blanks between bytes are skipped where `blanks`, so that a row of a dump
+/// can be typed again; never inside a byte.
 pub fn hex_bytes(digits: &[u8], blanks: bool) -> Result<Vec<u8>, Flaw> {
     let mut bytes = Vec::with_capacity(digits.len() / 2);
     let mut at = 0;

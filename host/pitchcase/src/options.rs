@@ -174,13 +174,15 @@ pub struct Manner {
     /// Alignments of memory, requests, zero requests and discards
     #[arg(long, value_name = "M,R,Z,D")]
     align: Option<OsString>,
-    /// Bytes of a job at most, and of its scratch: a multiple of L, the greater of M and R, at least 2Z + 2L; 64K where it fits
+    /// Bytes of a job at most, and of its scratch: a multiple of L, the greater of M and R, at least 2Z + 2L; 64K where
+    /// it fits
     #[arg(long, value_name = "BYTES", allow_negative_numbers = true)]
     share: Option<OsString>,
     /// Which request that is due comes next: first (due longest), round, or a seed
     #[arg(long, value_name = "ORDER")]
     order: Option<OsString>,
-    /// How many requests are out together at most, 1 to 8; 1 for a file in the system's cache, 8 for a device or --direct
+    /// How many requests are out together at most, 1 to 8; 1 for a file in the system's cache, 8 for a device or
+    /// --direct
     #[arg(long, value_name = "COUNT", allow_negative_numbers = true)]
     out: Option<OsString>,
     /// Prints every request with its answer and who waits after it, and every job

@@ -280,7 +280,8 @@ fn hex(bytes: &[u8]) -> String {
     text
 }
 
-/// A row of a dump: the offset in hex and in decimal, bytes as hex, bytes as text. Built by hand: long looks print millions of them.
+/// A row of a dump: the offset in hex and in decimal, bytes as hex, bytes as text. Built by hand: long looks print
+/// millions of them.
 fn row_text(offset: u64, row: &[u8]) -> String {
     const DIGITS: &[u8; 16] = b"0123456789abcdef";
     let mut text = format!("{offset:#010x} {offset:>10}  ");

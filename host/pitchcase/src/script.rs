@@ -102,46 +102,55 @@ fn parse_line(line: &[u8], start: usize, number: u64) -> Outcome<Option<Entry>> 
         Some((_, [b'#', ..])) => return Ok(None),
         Some(word) => word,
     };
-    let wrong = |(at, word): Word<'_>, what: &str| {
-        refused(format!("line {number}, byte {}: '{}': {what}", at + 1, shown(word)))
-    };
     let operands = [words.next(), words.next()];
-    let extra = words.next();
     if verb.1 == b"barrier" {
         return match operands[0] {
             None => Ok(Some(Entry::Barrier)),
-            Some(word) => wrong(word, "a word too many: a barrier stands alone"),
+            Some(word) => wrong(number, word, "a word too many: a barrier stands alone"),
         };
     }
     let Some(job) = Verb::of(verb.1) else {
-        return wrong(verb, "no job has this name (read, write, zero, alloc, discard, barrier)");
+        return wrong(number, verb, "no job has this name (read, write, zero, alloc, discard, barrier)");
     };
-    let takes = if job == Verb::Write { "OFFSET and HEXBYTES" } else { "OFFSET and LENGTH" };
-    if let Some(word) = extra {
-        return wrong(word, &format!("a word too many: {} takes {takes}", job.word()));
+    let takes = || format!("{} takes OFFSET and {}", job.word(), last_name(job));
+    if let Some(word) = words.next() {
+        return wrong(number, word, &format!("a word too many: {}", takes()));
     }
     let [Some(offset), Some(last)] = operands else {
-        return wrong(verb, &format!("a word is missing: {} takes {takes}", job.word()));
+        return wrong(number, verb, &format!("a word is missing: {}", takes()));
     };
+    let range = parse_range(job, offset, last, number)?;
+    Ok(Some(Entry::Job { verb: job, range, line: number, digits: start + last.0 }))
+}
+
+/// What the last word of a job is called.
+fn last_name(verb: Verb) -> &'static str {
+    match verb {
+        Verb::Write => "HEXBYTES",
+        _ => "LENGTH",
+    }
+}
+
+/// The range that a job's two words say.
+fn parse_range(verb: Verb, offset: Word<'_>, last: Word<'_>, number: u64) -> Outcome<Range> {
     let flawed = |name: &str, (at, word): Word<'_>, flaw: Flaw| {
         let byte = at + flaw.byte.max(1);
         refused(format!("line {number}, byte {byte}: {name} '{}': {}", shown(word), flaw.what))
     };
-    let offset = match numbers::number(offset.1) {
-        Ok(value) => value,
-        Err(flaw) => return flawed("OFFSET", offset, flaw),
+    let length = match verb {
+        Verb::Write => numbers::hex_count(last.1),
+        _ => numbers::number(last.1),
     };
-    let (name, length) = match job {
-        Verb::Write => ("HEXBYTES", numbers::hex_count(last.1)),
-        _ => ("LENGTH", numbers::number(last.1)),
-    };
-    match length {
-        Ok(length) => {
-            let range = Range { offset, length };
-            Ok(Some(Entry::Job { verb: job, range, line: number, digits: start + last.0 }))
-        }
-        Err(flaw) => flawed(name, last, flaw),
+    match (numbers::number(offset.1), length) {
+        (Ok(offset), Ok(length)) => Ok(Range { offset, length }),
+        (Err(flaw), _) => flawed("OFFSET", offset, flaw),
+        (_, Err(flaw)) => flawed(last_name(verb), last, flaw),
     }
+}
+
+/// A word of a line is refused.
+fn wrong<T>(number: u64, (at, word): Word<'_>, what: &str) -> Outcome<T> {
+    refused(format!("line {number}, byte {}: '{}': {what}", at + 1, shown(word)))
 }
 
 /// A word as it is shown in a refusal: on one line, and not all of a long one.
@@ -193,23 +202,19 @@ mod tests {
 
     #[test]
     fn a_refusal_names_line_byte_and_word() {
-        let start = "refused: line 2, byte";
         let bad = [
-            ("x\nwipe 0 512", "1: 'x': no job has this name (read, write, zero, alloc, discard, barrier)"),
-            ("\n wipe 0 512", "2: 'wipe': no job has this name (read, write, zero, alloc, discard, barrier)"),
-            ("\nzero 5", "1: 'zero': a word is missing: zero takes OFFSET and LENGTH"),
-            ("\nread 0 1 2", "10: '2': a word too many: read takes OFFSET and LENGTH"),
-            ("\nwrite 0 aa bb", "12: 'bb': a word too many: write takes OFFSET and HEXBYTES"),
-            ("\nbarrier 0", "9: '0': a word too many: a barrier stands alone"),
-            ("\nwrite 0 aag0", "11: HEXBYTES 'aag0': no hex digit"),
-            ("\nwrite 0 0", "9: HEXBYTES '0': an odd number of hex digits"),
-            ("\nalloc 0 18446744073709551616", "9: LENGTH '18446744073709551616': 2^64 or more"),
+            ("x", "1, byte 1: 'x': no job has this name (read, write, zero, alloc, discard, barrier)"),
+            ("\n wipe 0 1", "2, byte 2: 'wipe': no job has this name (read, write, zero, alloc, discard, barrier)"),
+            ("\nzero 5", "2, byte 1: 'zero': a word is missing: zero takes OFFSET and LENGTH"),
+            ("\nread 0 1 2", "2, byte 10: '2': a word too many: read takes OFFSET and LENGTH"),
+            ("\nwrite 0 aa bb", "2, byte 12: 'bb': a word too many: write takes OFFSET and HEXBYTES"),
+            ("\nbarrier 0", "2, byte 9: '0': a word too many: a barrier stands alone"),
+            ("\nwrite 0 aag0", "2, byte 11: HEXBYTES 'aag0': no hex digit"),
+            ("\nwrite 0 0", "2, byte 9: HEXBYTES '0': an odd number of hex digits"),
+            ("\nalloc 0 18446744073709551616", "2, byte 9: LENGTH '18446744073709551616': 2^64 or more"),
         ];
         for (text, wanted) in bad {
-            let line = text.find('\n').map_or(1, |_| 2);
-            let wanted =
-                format!("{start} {wanted}").replace("line 2", if text.starts_with('x') { "line 1" } else { "line 2" });
-            assert_eq!(refusal(text), wanted, "{line}");
+            assert_eq!(refusal(text), format!("refused: line {wanted}"));
         }
         assert!(refusal("read 1x 1").starts_with("refused: line 1, byte 7: OFFSET '1x': no number"));
     }

@@ -1,4 +1,5 @@
-//! The system's calls that std has not, behind functions that are safe to call. All that is unsafe in this program is here.
+//! The system's calls that std has not, behind functions that are safe to call. All that is unsafe in this program is
+//! here.
 
 use std::ffi::{c_int, CStr};
 use std::fs::File;
@@ -7,6 +8,7 @@ use std::os::fd::{AsRawFd, FromRawFd, RawFd};
 use std::os::raw::c_ulong;
 use std::os::unix::fs::FileExt;
 use std::sync::atomic::{AtomicU32, Ordering};
+use std::sync::OnceLock;
 
 // From linux/fs.h, which the crate libc has not.
 const BLKDISCARD: c_ulong = 0x1277;
@@ -74,8 +76,8 @@ pub fn fallocate(file: &File, change: Change, offset: u64, length: u64) -> io::R
     checked(unsafe { libc::fallocate(file.as_raw_fd(), mode, offset, length) }).map(drop)
 }
 
-/// The next byte from `offset` on that is in no hole of a file; None where only holes are left. A file system that tells nothing of holes
-/// has none.
+/// The next byte from `offset` on that is in no hole of a file; None where only holes are left. A file system that
+/// tells nothing of holes has none.
 pub fn next_data(file: &File, offset: u64) -> Option<u64> {
     match seek(file, offset, libc::SEEK_DATA) {
         Ok(found) => Some(found),
@@ -136,7 +138,8 @@ pub fn direct_alignments(file: &File) -> Option<(u64, u64)> {
     const DIOALIGN: u32 = 0x2000;
     let mut bytes = StatxBytes([0; 256]);
     let empty: &CStr = c"";
-    // SAFETY: the path is a string that ends; the buffer has the 256 bytes of a struct statx, aligned as one, and is borrowed alone.
+    // SAFETY: the path is a string that ends; the buffer has the 256 bytes of a struct statx, aligned as one, and is
+    // borrowed alone.
     let told = unsafe {
         libc::statx(
             file.as_raw_fd(),
@@ -193,13 +196,14 @@ pub fn held_lock(file: &File) -> io::Result<Held> {
     })
 }
 
-/// Which of the descriptors 0, 1 and 2 were closed at the start; each has /dev/null now, so that no file that is opened gets its number.
+/// Which of the descriptors 0, 1 and 2 were closed at the start; each has /dev/null now, so that no file that is opened
+/// gets its number.
 pub fn fill_descriptors() -> io::Result<[bool; 3]> {
     let mut closed = [false; 3];
     for descriptor in 0..3 {
         // SAFETY: the call takes numbers alone.
-        closed[descriptor as usize] = unsafe { libc::fcntl(descriptor, libc::F_GETFD) } < 0;
-        if closed[descriptor as usize] {
+        closed[descriptor] = unsafe { libc::fcntl(descriptor as RawFd, libc::F_GETFD) } < 0;
+        if closed[descriptor] {
             // SAFETY: the path is a string that ends. Open gives the lowest number that is free, which is this one.
             checked(unsafe { libc::open(c"/dev/null".as_ptr(), libc::O_RDWR) })?;
         }
@@ -208,9 +212,10 @@ pub fn fill_descriptors() -> io::Result<[bool; 3]> {
 }
 
 /// Descriptor 0, 1 or 2 as a file, which is open for as long as the program runs.
-pub fn standing(descriptor: RawFd) -> &'static File {
-    // SAFETY: the three are open since `fill_descriptors`, and nobody closes them: this file is never dropped.
-    Box::leak(Box::new(unsafe { File::from_raw_fd(descriptor) }))
+pub fn standing(descriptor: usize) -> &'static File {
+    static FILES: [OnceLock<File>; 3] = [const { OnceLock::new() }; 3];
+    // SAFETY: the three are open since `fill_descriptors`, and nobody closes them: a static is never dropped.
+    FILES[descriptor].get_or_init(|| unsafe { File::from_raw_fd(descriptor as RawFd) })
 }
 
 /// How often the program was asked to end.
@@ -235,8 +240,8 @@ pub fn is_interrupted() -> bool {
 /// SIGINT, SIGTERM and SIGHUP are noted from now on, unless they were ignored at the start; SIGPIPE and SIGXFSZ are
 /// ignored, so that a write says EPIPE or EFBIG.
 pub fn note_signals() {
-    // SAFETY: sigaction is a struct of numbers and a set, for which zeroes are values (no flags: a call that waits returns with EINTR); the
-    // handler does only what a handler may: an atomic addition, _exit.
+    // SAFETY: sigaction is a struct of numbers and a set, for which zeroes are values (no flags: a call that waits
+    // returns with EINTR); the handler does only what a handler may: an atomic addition, _exit.
     unsafe {
         let mut action: libc::sigaction = std::mem::zeroed();
         action.sa_sigaction = note_signal as extern "C" fn(c_int) as usize;
@@ -258,7 +263,8 @@ pub fn device_numbers(device: u64) -> (u32, u32) {
     unsafe { (libc::major(device), libc::minor(device)) }
 }
 
-/// The program's start. std's own would put /dev/null in the place of closed descriptors before anybody could see that they were closed.
+/// The program's start. std's own would put /dev/null in the place of closed descriptors before anybody could see that
+/// they were closed.
 #[cfg(not(test))]
 #[no_mangle]
 extern "C" fn main() -> c_int {

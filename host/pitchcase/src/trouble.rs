@@ -49,7 +49,8 @@ pub fn failed<T>(why: impl Into<String>) -> Outcome<T> {
     Err(Trouble::Failed(why.into()))
 }
 
-/// What the system says of an error, in small letters and with its number where it has one: `no space left on device (28)`.
+/// What the system says of an error, in small letters and with its number where it has one: `no space left on device
+/// (28)`.
 pub fn reason(error: &io::Error) -> String {
     match error.raw_os_error() {
         Some(number) => reason_of(number),
