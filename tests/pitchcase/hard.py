@@ -294,7 +294,8 @@ def long_zeroing():
     size = 200 << 20
     with open("long", "wb") as f:
         f.truncate(size)
-    process = subprocess.Popen([PROGRAM, "zero", "long", "0", str(size), "--alloc", "--share", "4K"], stdout=subprocess.PIPE, stderr=subprocess.PIPE,
+    process = subprocess.Popen([PROGRAM, "zero", "long", "0", str(size), "--alloc", "--share", "4K"],
+                               stdout=subprocess.PIPE, stderr=subprocess.PIPE,
                                env=dict(os.environ, LD_PRELOAD=FAULTS, FAULT_FALLOCATE="0,95", FAULT_DELAY_US="1"))
     time.sleep(1)
     process.send_signal(signal.SIGINT)
