@@ -1,29 +1,31 @@
 /*
  * The dock: byte ranges over an aligned drive, for C99 and C++. Link with libboundary.a (`rt staticlib boundary`).
  *
- * A job is begun (read, write, zeroes, discard) over any byte range of the store. dock_next says which aligned request the store
- * must carry out for it, dock_piece where that request's bytes lie, dock_tell hands in the store's code, dock_collect takes the final
- * answer. The dock does no input or output itself. "Document 01" is the agreed scope; its numbers are the constants below.
+ * A job is begun (read, write, zeroes, discard) over any byte range of the store. dock_next says which aligned request
+ * the store must carry out for it, dock_piece where that request's bytes lie, dock_tell hands in the store's code,
+ * dock_collect takes the final answer. The dock does no input or output itself. "Document 01" is the agreed scope; its
+ * numbers are the constants below. dock_serve.h has that loop ready, over a store of callbacks.
  *
  * Who owns what, and when bytes may change:
  *
- * - Data and scratch are the caller's memory, lent at opening. They must not overlap, and must stay at their address with their length
- *   until the dock is no longer used: whether a request is direct depends on the address. Lengths are tested in every call (205),
- *   addresses only at opening.
- * - Between begin and collect the segments of a job, read or write, belong to the dock: nobody else changes them. All other data
- *   may change at any time.
+ * - Data and scratch are the caller's memory, lent at opening. They must not overlap, and must stay at their address
+ *   with their length until the dock is no longer used: whether a request is direct depends on the address. Lengths are
+ *   tested in every call (205), addresses only at opening.
+ * - Between begin and collect the segments of a job, read or write, belong to the dock: nobody else changes them. All
+ *   other data may change at any time.
  * - The scratch belongs to the dock from opening on, with jobs in flight or without.
- * - A piece belongs to the store from the call after which dock_next shows its request until the tell of that request. The store changes
- *   bytes only in the pieces of a read; it reads the pieces of a write and leaves them as they are.
+ * - A piece belongs to the store from the call after which dock_next shows its request until the tell of that request.
+ *   The store changes bytes only in the pieces of a read; it reads the pieces of a write and leaves them as they are.
  * - A request is carried out once, and its tell hands in the code of that.
- * - `struct dock` is the caller's. It holds no pointer into itself, so it may be moved or copied as bytes between calls; from then on
- *   only the copy that the newest call was made with counts. Two threads must not be in calls on one dock at once.
+ * - `struct dock` is the caller's. It holds no pointer into itself, so it may be moved or copied as bytes between
+ *   calls; from then on only the copy that the newest call was made with counts. Two threads must not be in calls on
+ *   one dock at once.
  *
- * A call that refuses changes nothing: not the dock, not the vector, not the lent bytes. Only a refused opening writes the dock, which
- * then refuses every begin with the same number.
+ * A call that refuses changes nothing: not the dock, not the vector, not the lent bytes. Only a refused opening writes
+ * the dock, which then refuses every begin with the same number.
  *
- * Null pointers: a buffer of length 0 may be null. One that is null and has a length is refused with 205; at opening 201 comes before it,
- * in other calls nothing does. The dock, the vector and the lent buffers' struct must not be null.
+ * Null pointers: a buffer of length 0 may be null. One that is null and has a length is refused with 205; at opening
+ * 201 comes before it, in other calls nothing does. The dock, the vector and the lent buffers' struct must not be null.
  */
 #ifndef DOCK_H
 #define DOCK_H
@@ -34,6 +36,13 @@
 #ifdef __cplusplus
 extern "C" {
 #endif
+
+/* ---- The version: of the headers, and of the libboundary.a that they are delivered with ---- */
+
+#define DOCK_VERSION_MAJOR 0
+#define DOCK_VERSION_MINOR 2
+#define DOCK_VERSION_PATCH 0
+#define DOCK_VERSION "0.2.0"
 
 /* ---- Numbers of document 01 ---- */
 
@@ -79,7 +88,8 @@ enum dock_limit {
 
 /* ---- The dock and what is lent to it ---- */
 
-/* Opaque: only the calls below read or write it. Whatever stands in it, they return, and stay inside it and the lent bytes. */
+/* Opaque: only the calls below read or write it. Whatever stands in it, they return, and stay inside it and the lent
+ * bytes. */
 struct dock {
     uint64_t settings[9];
     uint64_t blockers[88];
@@ -87,8 +97,8 @@ struct dock {
     uint64_t vectors[272];
 };
 
-/* Alignments of the drive, powers of two from 1 to 65,536, and the length of one job's bounce buffer (document 01: share): a multiple
- * of the greater of mem and req (L), at least 2 zero + 2 L, at most 1,048,576. */
+/* Alignments of the drive, powers of two from 1 to 65,536, and the length of one job's bounce buffer (document 01:
+ * share): a multiple of the greater of mem and req (L), at least 2 zero + 2 L, at most 1,048,576. */
 struct dock_settings {
     uint64_t mem;
     uint64_t req;
@@ -176,31 +186,38 @@ struct dock_words_reply {
     uint64_t value[4];
 };
 
-uint8_t dock_words_open(uint64_t *settings, uint64_t *blockers, uint64_t *states, uint64_t *vectors, uint64_t mem, uint64_t req,
-                        uint64_t zero, uint64_t discard, uint64_t share, uint64_t data_address, uint64_t data_length,
-                        uint64_t scratch_address, uint64_t scratch_length);
-uint8_t dock_words_open_row(uint64_t *settings, uint64_t *blockers, uint64_t *states, uint64_t *vectors, size_t row, uint64_t share,
-                            uint64_t data_address, uint64_t data_length, uint64_t scratch_address, uint64_t scratch_length);
-struct dock_words_reply dock_words_begin_read(const uint64_t *settings, uint64_t *blockers, uint64_t *states, uint64_t *vectors,
-                                              uint64_t offset, const uint64_t *vector, const uint8_t *data, size_t data_len,
-                                              uint8_t *scratch, size_t scratch_len);
-struct dock_words_reply dock_words_begin_write(const uint64_t *settings, uint64_t *blockers, uint64_t *states, uint64_t *vectors,
-                                               uint64_t offset, const uint64_t *vector, const uint8_t *data, size_t data_len,
-                                               uint8_t *scratch, size_t scratch_len);
-struct dock_words_reply dock_words_begin_zeroes(const uint64_t *settings, uint64_t *blockers, uint64_t *states, uint64_t *vectors,
-                                                uint8_t allocate, uint64_t offset, uint64_t length, const uint8_t *data,
-                                                size_t data_len, uint8_t *scratch, size_t scratch_len);
-struct dock_words_reply dock_words_begin_discard(const uint64_t *settings, uint64_t *blockers, uint64_t *states, uint64_t *vectors,
-                                                 uint64_t offset, uint64_t length, const uint8_t *data, size_t data_len,
-                                                 uint8_t *scratch, size_t scratch_len);
+uint8_t dock_words_open(uint64_t *settings, uint64_t *blockers, uint64_t *states, uint64_t *vectors, uint64_t mem,
+                        uint64_t req, uint64_t zero, uint64_t discard, uint64_t share, uint64_t data_address,
+                        uint64_t data_length, uint64_t scratch_address, uint64_t scratch_length);
+uint8_t dock_words_open_row(uint64_t *settings, uint64_t *blockers, uint64_t *states, uint64_t *vectors, size_t row,
+                            uint64_t share, uint64_t data_address, uint64_t data_length, uint64_t scratch_address,
+                            uint64_t scratch_length);
+struct dock_words_reply dock_words_begin_read(const uint64_t *settings, uint64_t *blockers, uint64_t *states,
+                                              uint64_t *vectors, uint64_t offset, const uint64_t *vector,
+                                              const uint8_t *data, size_t data_len, uint8_t *scratch,
+                                              size_t scratch_len);
+struct dock_words_reply dock_words_begin_write(const uint64_t *settings, uint64_t *blockers, uint64_t *states,
+                                               uint64_t *vectors, uint64_t offset, const uint64_t *vector,
+                                               const uint8_t *data, size_t data_len, uint8_t *scratch,
+                                               size_t scratch_len);
+struct dock_words_reply dock_words_begin_zeroes(const uint64_t *settings, uint64_t *blockers, uint64_t *states,
+                                                uint64_t *vectors, uint8_t allocate, uint64_t offset, uint64_t length,
+                                                const uint8_t *data, size_t data_len, uint8_t *scratch,
+                                                size_t scratch_len);
+struct dock_words_reply dock_words_begin_discard(const uint64_t *settings, uint64_t *blockers, uint64_t *states,
+                                                 uint64_t *vectors, uint64_t offset, uint64_t length,
+                                                 const uint8_t *data, size_t data_len, uint8_t *scratch,
+                                                 size_t scratch_len);
 struct dock_words_reply dock_words_next(const uint64_t *settings, const uint64_t *blockers, const uint64_t *states,
                                         const uint64_t *vectors, size_t slot, size_t data_len, size_t scratch_len);
 struct dock_words_reply dock_words_piece(const uint64_t *settings, const uint64_t *blockers, const uint64_t *states,
-                                         const uint64_t *vectors, size_t slot, size_t i, size_t data_len, size_t scratch_len);
-uint8_t dock_words_tell(const uint64_t *settings, uint64_t *blockers, uint64_t *states, const uint64_t *vectors, size_t slot,
-                        uint8_t code, uint8_t *data, size_t data_len, uint8_t *scratch, size_t scratch_len);
-uint8_t dock_words_collect(const uint64_t *settings, const uint64_t *blockers, uint64_t *states, uint64_t *vectors, size_t slot,
-                           size_t data_len, size_t scratch_len);
+                                         const uint64_t *vectors, size_t slot, size_t i, size_t data_len,
+                                         size_t scratch_len);
+uint8_t dock_words_tell(const uint64_t *settings, uint64_t *blockers, uint64_t *states, const uint64_t *vectors,
+                        size_t slot, uint8_t code, uint8_t *data, size_t data_len, uint8_t *scratch,
+                        size_t scratch_len);
+uint8_t dock_words_collect(const uint64_t *settings, const uint64_t *blockers, uint64_t *states, uint64_t *vectors,
+                           size_t slot, size_t data_len, size_t scratch_len);
 struct dock_words_reply dock_words_chunks(const uint64_t *settings, uint64_t offset, uint64_t length);
 struct dock_words_reply dock_words_chunk(const uint64_t *settings, uint64_t offset, uint64_t length, uint64_t i);
 
@@ -212,14 +229,16 @@ static inline int dock_lent_lacks(const struct dock_lent *lent)
     return (lent->data == NULL && lent->data_len != 0) || (lent->scratch == NULL && lent->scratch_len != 0);
 }
 
-/* The pointer itself, or for null one that is not: the raw calls take none that is null, and touch no byte where the length is 0. */
+/* The pointer itself, or for null one that is not: the raw calls take none that is null, and touch no byte where the
+ * length is 0. */
 static inline uint8_t *dock_not_null(uint8_t *bytes)
 {
     static uint8_t none;
     return bytes != NULL ? bytes : &none;
 }
 
-/* The address that opening is told. Null with a length is told as one past which no length fits: 205, in document 01's order. */
+/* The address that opening is told. Null with a length is told as one past which no length fits: 205, in document 01's
+ * order. */
 static inline uint64_t dock_address(const uint8_t *bytes, size_t length)
 {
     return bytes == NULL && length != 0 ? UINT64_MAX : (uint64_t)(uintptr_t)bytes;
@@ -230,8 +249,9 @@ static inline uint64_t dock_address(const uint8_t *bytes, size_t length)
 /* Opens a dock with no job in flight. 0, 201 or 205; refused, the dock refuses every begin likewise. */
 static inline uint8_t dock_open(struct dock *dock, const struct dock_settings *settings, const struct dock_lent *lent)
 {
-    return dock_words_open(dock->settings, dock->blockers, dock->states, dock->vectors, settings->mem, settings->req, settings->zero,
-                           settings->discard, settings->bounce, dock_address(lent->data, lent->data_len), lent->data_len,
+    return dock_words_open(dock->settings, dock->blockers, dock->states, dock->vectors, settings->mem, settings->req,
+                           settings->zero, settings->discard, settings->bounce,
+                           dock_address(lent->data, lent->data_len), lent->data_len,
                            dock_address(lent->scratch, lent->scratch_len), lent->scratch_len);
 }
 
@@ -245,8 +265,8 @@ static inline uint8_t dock_open_row(struct dock *dock, size_t row, uint64_t boun
 
 /* ---- Vectors ---- */
 
-/* Appends a segment: `length` bytes of the data from `start` on. A 17th is not kept, but the vector is one with too many from then on,
- * and begin refuses it (202). */
+/* Appends a segment: `length` bytes of the data from `start` on. A 17th is not kept, but the vector is one with too
+ * many from then on, and begin refuses it (202). */
 static inline void dock_vector_push(struct dock_vector *vector, uint64_t start, uint64_t length)
 {
     uint64_t count = vector->words[0];
@@ -290,9 +310,9 @@ static inline struct dock_begun dock_begin_read(struct dock *dock, uint64_t offs
 {
     if (dock_lent_lacks(lent))
         return dock_begun_null();
-    return dock_begun_of(dock_words_begin_read(dock->settings, dock->blockers, dock->states, dock->vectors, offset, vector->words,
-                                               dock_not_null(lent->data), lent->data_len, dock_not_null(lent->scratch),
-                                               lent->scratch_len));
+    return dock_begun_of(dock_words_begin_read(dock->settings, dock->blockers, dock->states, dock->vectors, offset,
+                                               vector->words, dock_not_null(lent->data), lent->data_len,
+                                               dock_not_null(lent->scratch), lent->scratch_len));
 }
 
 /* Begins a write of the vector's bytes at `offset` of the store. */
@@ -301,9 +321,9 @@ static inline struct dock_begun dock_begin_write(struct dock *dock, uint64_t off
 {
     if (dock_lent_lacks(lent))
         return dock_begun_null();
-    return dock_begun_of(dock_words_begin_write(dock->settings, dock->blockers, dock->states, dock->vectors, offset, vector->words,
-                                                dock_not_null(lent->data), lent->data_len, dock_not_null(lent->scratch),
-                                                lent->scratch_len));
+    return dock_begun_of(dock_words_begin_write(dock->settings, dock->blockers, dock->states, dock->vectors, offset,
+                                                vector->words, dock_not_null(lent->data), lent->data_len,
+                                                dock_not_null(lent->scratch), lent->scratch_len));
 }
 
 /* Begins zeroes over `length` bytes at `offset`; `allocate` not 0 asks that the store keep them allocated. */
@@ -312,19 +332,20 @@ static inline struct dock_begun dock_begin_zeroes(struct dock *dock, int allocat
 {
     if (dock_lent_lacks(lent))
         return dock_begun_null();
-    return dock_begun_of(dock_words_begin_zeroes(dock->settings, dock->blockers, dock->states, dock->vectors, allocate != 0, offset,
-                                                 length, dock_not_null(lent->data), lent->data_len, dock_not_null(lent->scratch),
-                                                 lent->scratch_len));
+    return dock_begun_of(dock_words_begin_zeroes(dock->settings, dock->blockers, dock->states, dock->vectors,
+                                                 allocate != 0, offset, length, dock_not_null(lent->data),
+                                                 lent->data_len, dock_not_null(lent->scratch), lent->scratch_len));
 }
 
 /* Begins a discard of the whole discard blocks within `length` bytes at `offset`. */
-static inline struct dock_begun dock_begin_discard(struct dock *dock, uint64_t offset, uint64_t length, const struct dock_lent *lent)
+static inline struct dock_begun dock_begin_discard(struct dock *dock, uint64_t offset, uint64_t length,
+                                                   const struct dock_lent *lent)
 {
     if (dock_lent_lacks(lent))
         return dock_begun_null();
-    return dock_begun_of(dock_words_begin_discard(dock->settings, dock->blockers, dock->states, dock->vectors, offset, length,
-                                                  dock_not_null(lent->data), lent->data_len, dock_not_null(lent->scratch),
-                                                  lent->scratch_len));
+    return dock_begun_of(dock_words_begin_discard(dock->settings, dock->blockers, dock->states, dock->vectors, offset,
+                                                  length, dock_not_null(lent->data), lent->data_len,
+                                                  dock_not_null(lent->scratch), lent->scratch_len));
 }
 
 /* ---- A job in flight: refused with 205, 208; tell also 209 ---- */
@@ -354,8 +375,8 @@ static inline struct dock_due dock_next(const struct dock *dock, size_t slot, co
     struct dock_words_reply null = { DOCK_BUFFER, 0, { 0, 0, 0, 0 } };
     if (dock_lent_lacks(lent))
         return dock_due_of(null);
-    return dock_due_of(dock_words_next(dock->settings, dock->blockers, dock->states, dock->vectors, slot, lent->data_len,
-                                       lent->scratch_len));
+    return dock_due_of(dock_words_next(dock->settings, dock->blockers, dock->states, dock->vectors, slot,
+                                       lent->data_len, lent->scratch_len));
 }
 
 /* Piece i of the request that is out for `slot`: where the store puts a read's bytes, or takes a write's. */
@@ -365,7 +386,8 @@ static inline struct dock_part dock_piece(const struct dock *dock, size_t slot, 
     struct dock_words_reply reply;
     if (dock_lent_lacks(lent))
         return part;
-    reply = dock_words_piece(dock->settings, dock->blockers, dock->states, dock->vectors, slot, i, lent->data_len, lent->scratch_len);
+    reply = dock_words_piece(dock->settings, dock->blockers, dock->states, dock->vectors, slot, i, lent->data_len,
+                             lent->scratch_len);
     if (reply.number != DOCK_WORDS_NO_NUMBER) {
         part.refusal = (uint8_t)reply.number;
         return part;
@@ -381,8 +403,8 @@ static inline uint8_t dock_tell(struct dock *dock, size_t slot, uint8_t code, co
 {
     if (dock_lent_lacks(lent))
         return DOCK_BUFFER;
-    return dock_words_tell(dock->settings, dock->blockers, dock->states, dock->vectors, slot, code, dock_not_null(lent->data),
-                           lent->data_len, dock_not_null(lent->scratch), lent->scratch_len);
+    return dock_words_tell(dock->settings, dock->blockers, dock->states, dock->vectors, slot, code,
+                           dock_not_null(lent->data), lent->data_len, dock_not_null(lent->scratch), lent->scratch_len);
 }
 
 /* Takes the final answer (0, 1 to 199, 207) of the job in `slot`, which is free again; or refused: 205, 208. */
@@ -390,7 +412,8 @@ static inline uint8_t dock_collect(struct dock *dock, size_t slot, const struct 
 {
     if (dock_lent_lacks(lent))
         return DOCK_BUFFER;
-    return dock_words_collect(dock->settings, dock->blockers, dock->states, dock->vectors, slot, lent->data_len, lent->scratch_len);
+    return dock_words_collect(dock->settings, dock->blockers, dock->states, dock->vectors, slot, lent->data_len,
+                              lent->scratch_len);
 }
 
 /* ---- The planner, by the dock's settings: refused with 201, 207, 210 ---- */

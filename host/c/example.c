@@ -1,7 +1,18 @@
-/* The service case: two edits of ten bytes in one block of 512, begun together, on a drive in memory. The last line is `ok`. */
+/* The service case: two edits of ten bytes in one block of 512, begun together, on a drive in memory. The last line is
+ * `ok`. */
 #include "bench.h"
 
-enum edit { BLOCK = 512, BOUNCE = 4096, ROW = 1, FIRST_AT = 100, SECOND_AT = 300, EDIT = 10, OLD = 0x11, FIRST = 0xaa, SECOND = 0xbb };
+enum edit {
+    BLOCK = 512,
+    BOUNCE = 4096,
+    ROW = 1,
+    FIRST_AT = 100,
+    SECOND_AT = 300,
+    EDIT = 10,
+    OLD = 0x11,
+    FIRST = 0xaa,
+    SECOND = 0xbb
+};
 
 static const char *const kinds[] = { "read", "write", "zero", "allocated zero", "discard" };
 
@@ -40,7 +51,8 @@ static int finish(struct dock *dock, size_t slot, const struct dock_lent *lent)
 }
 
 /* Begins an edit of ten bytes of the block from the data. */
-static struct dock_begun edit(struct dock *dock, uint64_t at, uint64_t start, uint8_t byte, const struct dock_lent *lent)
+static struct dock_begun edit(struct dock *dock, uint64_t at, uint64_t start, uint8_t byte,
+                              const struct dock_lent *lent)
 {
     struct dock_vector vector = one_segment(start, EDIT);
     memset(lent->data + start, byte, EDIT);

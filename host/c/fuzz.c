@@ -1,8 +1,9 @@
 /*
- * Random words, arguments and buffers against the raw calls of libboundary.a: fuzz [SECONDS [SEED [EPISODE]]], 60 seconds and seed 1 unless
- * said. Each array and buffer lies between two pages that nobody may touch, its end (or its start) right at one of them. After each
- * call: it has returned; where it refuses, no word and no byte has changed; where it does not, only what is the call's to change; its
- * number is one of document 01's for the call. An episode depends on seed and number alone: a failure names both.
+ * Random words, arguments and buffers against the raw calls of libboundary.a: fuzz [SECONDS [SEED [EPISODE]]], 60
+ * seconds and seed 1 unless said. Each array and buffer lies between two pages that nobody may touch, its end (or its
+ * start) right at one of them. After each call: it has returned; where it refuses, no word and no byte has changed;
+ * where it does not, only what is the call's to change; its number is one of document 01's for the call. An episode
+ * depends on seed and number alone: a failure names both.
  */
 #define _DEFAULT_SOURCE
 #include "../dock.h"
@@ -41,15 +42,30 @@ static int one_in(uint64_t n)
 
 /* ---- Failures ---- */
 
-enum call { OPEN, OPEN_ROW, BEGIN_READ, BEGIN_WRITE, BEGIN_ZEROES, BEGIN_DISCARD, NEXT, PIECE, TELL, COLLECT, CHUNKS, CHUNK, CALLS };
+enum call {
+    OPEN,
+    OPEN_ROW,
+    BEGIN_READ,
+    BEGIN_WRITE,
+    BEGIN_ZEROES,
+    BEGIN_DISCARD,
+    NEXT,
+    PIECE,
+    TELL,
+    COLLECT,
+    CHUNKS,
+    CHUNK,
+    CALLS
+};
 
-static const char *const names[] = { "open", "open_row", "begin_read", "begin_write", "begin_zeroes", "begin_discard", "next", "piece",
-                                     "tell", "collect", "chunks", "chunk" };
+static const char *const names[] = { "open", "open_row", "begin_read", "begin_write", "begin_zeroes", "begin_discard",
+                                     "next", "piece",    "tell",       "collect",     "chunks",       "chunk" };
 static volatile sig_atomic_t at_call;
 
 static void fail(const char *what)
 {
-    printf("fuzz: %s: %s (seed %llu, episode %llu)\n", names[at_call], what, (unsigned long long)seed, (unsigned long long)episode);
+    printf("fuzz: %s: %s (seed %llu, episode %llu)\n", names[at_call], what, (unsigned long long)seed,
+           (unsigned long long)episode);
     exit(EXIT_FAILURE);
 }
 
@@ -295,17 +311,18 @@ static void open_twice(int by_row, const uint64_t *args, uint64_t data_len, uint
     at_call = by_row ? OPEN_ROW : OPEN;
     keep();
     number = by_row ? dock_words_open_row(s, b, x, v, (size_t)args[0], args[4], data, data_len, scratch, scratch_len)
-                    : dock_words_open(s, b, x, v, args[0], args[1], args[2], args[3], args[4], data, data_len, scratch, scratch_len);
-    again = by_row ? dock_words_open_row(other.settings, other.blockers, other.states, other.vectors, (size_t)args[0], args[4], data,
-                                         data_len, scratch, scratch_len)
-                   : dock_words_open(other.settings, other.blockers, other.states, other.vectors, args[0], args[1], args[2], args[3],
-                                     args[4], data, data_len, scratch, scratch_len);
+                    : dock_words_open(s, b, x, v, args[0], args[1], args[2], args[3], args[4], data, data_len, scratch,
+                                      scratch_len);
+    again = by_row ? dock_words_open_row(other.settings, other.blockers, other.states, other.vectors, (size_t)args[0],
+                                         args[4], data, data_len, scratch, scratch_len)
+                   : dock_words_open(other.settings, other.blockers, other.states, other.vectors, args[0], args[1],
+                                     args[2], args[3], args[4], data, data_len, scratch, scratch_len);
     check_number(number == 0 || number == 201 || number == 205);
     check(number == again && memcmp(s, other.settings, 72) == 0 && memcmp(b, other.blockers, 704) == 0
               && memcmp(x, other.states, 1152) == 0 && memcmp(v, other.vectors, 2176) == 0,
           "wrote what its arguments do not say");
-    check(same_but(SETTINGS, 0, 72) && same_but(BLOCKERS, 0, 704) && same_but(STATES, 0, 1152) && same_but(VECTORS, 0, 2176)
-              && same(VECTOR) && same(LENT_DATA) && same(LENT_SCRATCH),
+    check(same_but(SETTINGS, 0, 72) && same_but(BLOCKERS, 0, 704) && same_but(STATES, 0, 1152)
+              && same_but(VECTORS, 0, 2176) && same(VECTOR) && same(LENT_DATA) && same(LENT_SCRATCH),
           "wrote outside its arrays");
     counts[at_call]++;
     accepted[at_call] += number == 0;
@@ -321,14 +338,17 @@ static struct dock_words_reply raw_begin(enum call call, uint64_t offset, uint64
     uint64_t *v = words(VECTORS);
     switch (call) {
     case BEGIN_READ:
-        return dock_words_begin_read(s, b, x, v, offset, words(VECTOR), data->at, data->length, scratch->at, scratch->length);
+        return dock_words_begin_read(s, b, x, v, offset, words(VECTOR), data->at, data->length, scratch->at,
+                                     scratch->length);
     case BEGIN_WRITE:
-        return dock_words_begin_write(s, b, x, v, offset, words(VECTOR), data->at, data->length, scratch->at, scratch->length);
+        return dock_words_begin_write(s, b, x, v, offset, words(VECTOR), data->at, data->length, scratch->at,
+                                      scratch->length);
     case BEGIN_ZEROES:
-        return dock_words_begin_zeroes(s, b, x, v, (uint8_t)below(3), offset, length, data->at, data->length, scratch->at,
-                                       scratch->length);
+        return dock_words_begin_zeroes(s, b, x, v, (uint8_t)below(3), offset, length, data->at, data->length,
+                                       scratch->at, scratch->length);
     default:
-        return dock_words_begin_discard(s, b, x, v, offset, length, data->at, data->length, scratch->at, scratch->length);
+        return dock_words_begin_discard(s, b, x, v, offset, length, data->at, data->length, scratch->at,
+                                        scratch->length);
     }
 }
 
@@ -340,7 +360,7 @@ static void try_begin(enum call call)
     size_t slot;
     put_vector();
     keep();
-    at_call = call;
+    at_call = (sig_atomic_t)call;
     reply = raw_begin(call, offset, length);
     slot = (size_t)reply.value[0];
     done(reply.number == 256);
@@ -352,20 +372,21 @@ static void try_begin(enum call call)
     }
     check(reply.count == 1 && slot < 8, "gave no slot");
     check(same(SETTINGS) && same(VECTOR) && same(LENT_DATA), "changed what is not its to change");
-    check(same_but_row(BLOCKERS, slot) && same_but_row(STATES, slot) && same_but_row(VECTORS, slot), "changed another slot");
+    check(same_but_row(BLOCKERS, slot) && same_but_row(STATES, slot) && same_but_row(VECTORS, slot),
+          "changed another slot");
     check(same_outside_bounce(slot), "changed scratch of another slot");
 }
 
 static struct dock_words_reply raw_next(size_t slot)
 {
-    return dock_words_next(words(SETTINGS), words(BLOCKERS), words(STATES), words(VECTORS), slot, areas[LENT_DATA].length,
-                           areas[LENT_SCRATCH].length);
+    return dock_words_next(words(SETTINGS), words(BLOCKERS), words(STATES), words(VECTORS), slot,
+                           areas[LENT_DATA].length, areas[LENT_SCRATCH].length);
 }
 
 static struct dock_words_reply raw_piece(size_t slot, size_t i)
 {
-    return dock_words_piece(words(SETTINGS), words(BLOCKERS), words(STATES), words(VECTORS), slot, i, areas[LENT_DATA].length,
-                            areas[LENT_SCRATCH].length);
+    return dock_words_piece(words(SETTINGS), words(BLOCKERS), words(STATES), words(VECTORS), slot, i,
+                            areas[LENT_DATA].length, areas[LENT_SCRATCH].length);
 }
 
 static void check_request(const struct dock_words_reply *reply)
@@ -377,7 +398,8 @@ static void check_request(const struct dock_words_reply *reply)
         return;
     align = words(SETTINGS)[alignment_of[reply->value[0]]];
     check(reply->value[1] % align == 0 && reply->value[2] % align == 0, "a request off its alignment");
-    check(reply->value[1] <= UINT64_MAX - reply->value[2] && reply->value[2] != 0, "a request past the last offset, or of nothing");
+    check(reply->value[1] <= UINT64_MAX - reply->value[2] && reply->value[2] != 0,
+          "a request past the last offset, or of nothing");
     check(reply->value[3] <= DOCK_SEGMENTS, "a request of too many pieces");
 }
 
@@ -447,8 +469,8 @@ static void try_tell(size_t slot)
     uint8_t number;
     keep();
     at_call = TELL;
-    number = dock_words_tell(words(SETTINGS), words(BLOCKERS), words(STATES), words(VECTORS), slot, code, data->at, data->length,
-                             scratch->at, scratch->length);
+    number = dock_words_tell(words(SETTINGS), words(BLOCKERS), words(STATES), words(VECTORS), slot, code, data->at,
+                             data->length, scratch->at, scratch->length);
     done(number == 0);
     if (number != 0) {
         int odd = origin != MADE && number == 202; /* the job's vector is not valid: no call makes such words */
@@ -480,7 +502,8 @@ static void try_collect(size_t slot)
     if (!ended)
         return;
     check(origin != MADE || number <= 199 || number == 207, "an answer that is not document 01's");
-    check(same(SETTINGS) && same(BLOCKERS) && same(VECTOR) && same(LENT_DATA) && same(LENT_SCRATCH), "changed what is not its to change");
+    check(same(SETTINGS) && same(BLOCKERS) && same(VECTOR) && same(LENT_DATA) && same(LENT_SCRATCH),
+          "changed what is not its to change");
     check(same_but_row(STATES, slot) && same_but_row(VECTORS, slot), "changed another slot");
     check(raw_next(slot).number == 208, "left the slot taken");
 }
@@ -497,8 +520,9 @@ static void try_planner(enum call call)
         length -= length % req;
     }
     keep();
-    at_call = call;
-    reply = call == CHUNKS ? dock_words_chunks(words(SETTINGS), offset, length) : dock_words_chunk(words(SETTINGS), offset, length, i);
+    at_call = (sig_atomic_t)call;
+    reply = call == CHUNKS ? dock_words_chunks(words(SETTINGS), offset, length)
+                           : dock_words_chunk(words(SETTINGS), offset, length, i);
     check(all_same(), "changed something");
     done(reply.number == 256);
     if (reply.number != 256) {
@@ -662,15 +686,16 @@ static void summary(void)
 {
     int i;
     for (i = 0; i < CALLS; i++)
-        printf("  %-13s %12llu calls, %12llu accepted\n", names[i], (unsigned long long)counts[i], (unsigned long long)accepted[i]);
-    printf("  on words of no call's making: %llu begins refused with 208, %llu tells with 202\n", (unsigned long long)odd_begins,
-           (unsigned long long)odd_tells);
+        printf("  %-13s %12llu calls, %12llu accepted\n", names[i], (unsigned long long)counts[i],
+               (unsigned long long)accepted[i]);
+    printf("  on words of no call's making: %llu begins refused with 208, %llu tells with 202\n",
+           (unsigned long long)odd_begins, (unsigned long long)odd_tells);
     for (i = 0; i < CALLS; i++) {
         at_call = i;
         check(accepted[i] > 0 && accepted[i] < counts[i], "was never accepted, or never refused");
     }
-    printf("%llu calls, %llu accepted, %llu of these on a dock that calls made; no failure\n", (unsigned long long)sum(counts),
-           (unsigned long long)sum(accepted), (unsigned long long)accepted_made);
+    printf("%llu calls, %llu accepted, %llu of these on a dock that calls made; no failure\n",
+           (unsigned long long)sum(counts), (unsigned long long)sum(accepted), (unsigned long long)accepted_made);
 }
 
 int main(int argc, char **argv)

@@ -1,241 +1,13 @@
 /*
- * Random lists of events on the library, over a store in memory that fails as it likes: lists [SECONDS [SEED [LIST]]], 60 seconds and
- * seed 1 unless said. Requests are compared with those that document 01's rules give; after each carry the store with the plain byte
- * store, byte by byte; at each collect a read's bytes with what its step yielded. A list depends on seed and number alone.
+ * Random lists of events on the library, over a store in memory that fails as it likes: lists [SECONDS [SEED [LIST]]],
+ * 60 seconds and seed 1 unless said. Requests are compared with those that document 01's rules give; after each carry
+ * the store with the plain byte store, byte by byte; at each collect a read's bytes with what its step yielded.
  */
-#include "../dock.h"
+#include "rules.h"
 
-#include <stdio.h>
-#include <stdlib.h>
-#include <string.h>
 #include <time.h>
 
-enum size { STORE = 262144, DATA = 16384, PAGE = 4096, LONGEST = 24576, MOST_BOUNCE = 20480, EVENTS = 300, LEAST = 50 };
-
-static uint64_t seed = 1;
-static uint64_t list;
-static uint64_t random_state;
-
-static uint64_t rnd(void)
-{
-    uint64_t x = random_state += UINT64_C(0x9e3779b97f4a7c15);
-    x = (x ^ (x >> 30)) * UINT64_C(0xbf58476d1ce4e5b9);
-    x = (x ^ (x >> 27)) * UINT64_C(0x94d049bb133111eb);
-    return x ^ (x >> 31);
-}
-
-static uint64_t below(uint64_t n)
-{
-    return rnd() % n;
-}
-
-static void check(int holds, const char *what)
-{
-    if (holds)
-        return;
-    printf("lists: %s (seed %llu, list %llu)\n", what, (unsigned long long)seed, (unsigned long long)list);
-    exit(EXIT_FAILURE);
-}
-
-/* ---- Document 01's rules: what a job requests ---- */
-
-struct range {
-    uint64_t start;
-    uint64_t end;
-};
-
-struct stage {
-    enum dock_kind kind;
-    struct range asked;
-    struct range request;
-    struct range reads[2]; /* of a padded write */
-    int read_count;
-    int direct;
-};
-
-enum course { LAST, MIDDLE, HEAD, FALLBACK };
-
-struct job {
-    int in_flight;
-    int ended;
-    uint8_t answer;
-    enum dock_kind kind; /* DOCK_READ, .. as begun: DOCK_ZERO for zeroes */
-    struct range range;
-    struct range middle;
-    struct dock_vector vector;
-    uint8_t bytes[LONGEST]; /* a write's at begin, or what a read's step yielded */
-    enum course course;
-    struct stage stage;
-    int read_done; /* reads of the stage that are told */
-};
-
-static struct dock_settings settings;
-static struct job jobs[DOCK_SLOTS];
-
-static uint64_t longer_align(void)
-{
-    return settings.mem > settings.req ? settings.mem : settings.req;
-}
-
-static uint64_t down(uint64_t x, uint64_t align)
-{
-    return x - x % align;
-}
-
-static uint64_t up(uint64_t x, uint64_t align)
-{
-    return down(x + align - 1, align);
-}
-
-static struct range between(uint64_t start, uint64_t end)
-{
-    struct range range = { start, end };
-    return range;
-}
-
-/* "If H + T equals the padded length: one read of all. Otherwise a read of the first H bytes if H > 0, then of the last T if T > 0." */
-static void put_reads(struct stage *stage)
-{
-    struct range all = stage->request;
-    uint64_t head = up(stage->asked.start - all.start, longer_align());
-    uint64_t tail = up(all.end - stage->asked.end, longer_align());
-    if (head + tail == all.end - all.start) {
-        stage->reads[stage->read_count++] = all;
-        return;
-    }
-    if (head > 0)
-        stage->reads[stage->read_count++] = between(all.start, all.start + head);
-    if (tail > 0)
-        stage->reads[stage->read_count++] = between(all.end - tail, all.end);
-}
-
-/* A read or write of a range: direct, or padded to R with a length that is a multiple of L. */
-static struct stage transfer(enum dock_kind kind, struct range asked, int aligned)
-{
-    struct stage stage;
-    memset(&stage, 0, sizeof stage);
-    stage.kind = kind;
-    stage.asked = asked;
-    stage.request = asked;
-    stage.direct = aligned && asked.start % settings.req == 0 && (asked.end - asked.start) % settings.req == 0;
-    if (stage.direct)
-        return stage;
-    stage.request.start = down(asked.start, settings.req);
-    stage.request.end = stage.request.start + up(up(asked.end, settings.req) - stage.request.start, longer_align());
-    if (kind == DOCK_WRITE)
-        put_reads(&stage);
-    return stage;
-}
-
-/* A write of zeroes from the bounce buffer, whose start is aligned. */
-static struct stage zero_write(struct range asked)
-{
-    return transfer(DOCK_WRITE, asked, (asked.end - asked.start) % longer_align() == 0);
-}
-
-static struct stage whole(enum dock_kind kind, struct range range)
-{
-    struct stage stage;
-    memset(&stage, 0, sizeof stage);
-    stage.kind = kind;
-    stage.asked = range;
-    stage.request = range;
-    return stage;
-}
-
-/* The next chunk of write_full_zeroes from `start` on. */
-static struct range chunk_from(uint64_t start, uint64_t end)
-{
-    uint64_t most = start % settings.req == 0 ? start + settings.bounce : up(start, settings.req);
-    return between(start, most < end ? most : end);
-}
-
-static void enter(struct job *job, struct stage stage, enum course course)
-{
-    job->stage = stage;
-    job->course = course;
-    job->read_done = 0;
-}
-
-static void end(struct job *job, uint8_t answer)
-{
-    job->ended = 1;
-    job->answer = answer;
-}
-
-/* The stage that follows a stage of a zero job that is done; none: it has ended with 0. */
-static void after_stage(struct job *job)
-{
-    uint64_t at = job->stage.asked.end;
-    if (job->course == MIDDLE && job->range.start < job->middle.start)
-        enter(job, zero_write(between(job->range.start, job->middle.start)), HEAD);
-    else if ((job->course == MIDDLE || job->course == HEAD) && job->middle.end < job->range.end)
-        enter(job, zero_write(between(job->middle.end, job->range.end)), LAST);
-    else if (job->course == FALLBACK && at < job->range.end)
-        enter(job, zero_write(chunk_from(at, job->range.end)), FALLBACK);
-    else
-        end(job, 0);
-}
-
-/* The request that is out next for the job. */
-static struct range request_of(const struct job *job, enum dock_kind *kind)
-{
-    int reads = job->read_done < job->stage.read_count;
-    *kind = reads ? DOCK_READ : job->stage.kind;
-    return reads ? job->stage.reads[job->read_done] : job->stage.request;
-}
-
-static void told(struct job *job, uint8_t code)
-{
-    if (code == 1 && job->course == MIDDLE)
-        enter(job, zero_write(chunk_from(job->range.start, job->range.end)), FALLBACK);
-    else if (code == 1 && job->stage.kind == DOCK_DISCARD)
-        end(job, 0);
-    else if (code != 0)
-        end(job, code);
-    else if (job->read_done < job->stage.read_count)
-        job->read_done++;
-    else
-        after_stage(job);
-}
-
-/* ---- The store and the plain byte store ---- */
-
-static uint8_t store[STORE];
-static uint8_t plain[STORE];
-static uint8_t data_room[DATA + 2 * PAGE];
-static uint8_t scratch_room[8 * MOST_BOUNCE + PAGE];
-static struct dock dock;
-static struct dock_lent lent;
-static uint64_t choice; /* of the carry at hand */
-
-/* What the store chose for a byte: the same for both stores. */
-static uint8_t chosen(uint64_t at)
-{
-    uint64_t x = (at + choice) * UINT64_C(0x9e3779b97f4a7c15);
-    return (uint8_t)(x >> 56);
-}
-
-/* A byte of a write or a zero request; a code that is not 0 leaves it old or new. */
-static void put_byte(uint8_t *bytes, uint64_t at, uint8_t byte, uint8_t code)
-{
-    if (code == 0 || chosen(at) % 2 == 0)
-        bytes[at] = byte;
-}
-
-static void put_zeroes(uint8_t *bytes, struct range range, uint8_t code)
-{
-    uint64_t at;
-    for (at = range.start; at < range.end; at++)
-        put_byte(bytes, at, 0, code);
-}
-
-static void put_chosen(uint8_t *bytes, struct range range)
-{
-    uint64_t at;
-    for (at = range.start; at < range.end; at++)
-        bytes[at] = chosen(at);
-}
+enum { EVENTS = 300 };
 
 /* A read or write request on the store, through its pieces. */
 static void carry_pieces(size_t slot, const struct dock_request *request, uint8_t code)
@@ -250,7 +22,7 @@ static void carry_pieces(size_t slot, const struct dock_request *request, uint8_
             if (request->kind == DOCK_WRITE)
                 put_byte(store, at, part.bytes[j], code);
             else
-                part.bytes[j] = code == 0 ? store[at] : chosen(at);
+                part.bytes[j] = byte_read(at, code);
         }
     }
     check(at - request->offset == request->length, "pieces of another length than the request");
@@ -259,155 +31,29 @@ static void carry_pieces(size_t slot, const struct dock_request *request, uint8_
 static void carry(size_t slot, const struct dock_request *request, uint8_t code)
 {
     struct range range = between(request->offset, request->offset + request->length);
-    if (request->kind == DOCK_READ || request->kind == DOCK_WRITE)
+    if (moves_bytes(request->kind))
         carry_pieces(slot, request, code);
-    else if (request->kind == DOCK_DISCARD)
-        put_chosen(store, range);
     else
-        put_zeroes(store, range, code);
-}
-
-/* The same carry as a step of the plain byte store: over the asked range alone. */
-static void plain_step(struct job *job, enum dock_kind kind, uint8_t code)
-{
-    struct range asked = job->stage.asked;
-    uint64_t at;
-    if (kind == DOCK_READ) {
-        if (job->kind == DOCK_READ && code == 0)
-            memcpy(job->bytes, plain + asked.start, (size_t)(asked.end - asked.start));
-    } else if (kind == DOCK_DISCARD) {
-        put_chosen(plain, asked);
-    } else if (job->kind == DOCK_WRITE) {
-        for (at = asked.start; at < asked.end; at++)
-            put_byte(plain, at, job->bytes[at - asked.start], code);
-    } else {
-        put_zeroes(plain, asked, code);
-    }
+        carry_range(request->kind, range, code);
 }
 
 /* ---- Events ---- */
 
-static uint64_t begun;
-static uint64_t refused;
-static uint64_t carried;
 static uint64_t waited;
-static uint64_t collected;
-static uint64_t fallbacks;
-
-/* Copies a vector's bytes out of the data, or compares them: whether all are as in `bytes`. */
-static int gather(const struct dock_vector *vector, uint8_t *bytes, int compare)
-{
-    size_t at = 0;
-    size_t i;
-    for (i = 0; i < vector->words[0]; i++) {
-        const uint8_t *from = lent.data + vector->words[2 + 2 * i];
-        size_t length = (size_t)vector->words[3 + 2 * i];
-        if (compare && memcmp(bytes + at, from, length) != 0)
-            return 0;
-        memcpy(bytes + at, from, length);
-        at += length;
-    }
-    return 1;
-}
-
-static int is_aligned(const struct dock_vector *vector)
-{
-    size_t i;
-    if (settings.mem == 1 && settings.req == 1)
-        return 1;
-    for (i = 0; i < vector->words[0]; i++) {
-        uint64_t address = (uint64_t)(uintptr_t)lent.data + vector->words[2 + 2 * i];
-        if (address % settings.mem != 0 || vector->words[3 + 2 * i] % longer_align() != 0)
-            return 0;
-    }
-    return 1;
-}
-
-/* Up to three segments, often aligned. */
-static struct dock_vector any_vector(void)
-{
-    struct dock_vector vector = DOCK_VECTOR_EMPTY;
-    uint64_t unit = below(2) == 0 ? longer_align() : 1;
-    uint64_t left = 1 + below(3);
-    for (; left > 0; left--) {
-        uint64_t length = unit * (1 + below(unit == 1 ? 700 : 2));
-        uint64_t start = down(below(DATA - length + 1), unit);
-        dock_vector_push(&vector, start, length);
-    }
-    return vector;
-}
-
-static uint64_t any_offset(void)
-{
-    uint64_t offset = below(4) == 0 ? below(20000) : below(3000);
-    return below(2) == 0 ? down(offset, settings.req) : offset;
-}
-
-/* Enters a job that got a slot, as the rules plan it. */
-static void admit(struct job *job, enum dock_kind kind, struct range range, const struct dock_vector *vector)
-{
-    uint64_t align = kind == DOCK_DISCARD ? settings.discard : settings.zero;
-    memset(job, 0, sizeof *job);
-    job->in_flight = 1;
-    job->kind = kind == DOCK_ALLOCATED_ZERO ? DOCK_ZERO : kind;
-    job->range = range;
-    job->middle = between(up(range.start, align), down(range.end, align));
-    if (kind == DOCK_READ || kind == DOCK_WRITE) {
-        job->vector = *vector;
-        gather(vector, job->bytes, 0);
-        enter(job, transfer(kind, range, is_aligned(vector)), LAST);
-    } else if (job->middle.start < job->middle.end) {
-        enter(job, whole(kind, job->middle), kind == DOCK_DISCARD ? LAST : MIDDLE);
-    } else {
-        check(kind != DOCK_DISCARD, "a discard with nothing to do took a slot");
-        enter(job, zero_write(range), LAST);
-    }
-}
 
 static void try_begin(void)
 {
-    enum dock_kind kind = (enum dock_kind)below(5);
-    struct dock_vector vector = any_vector();
-    int moves = kind == DOCK_READ || kind == DOCK_WRITE;
-    uint64_t offset = any_offset();
-    uint64_t length = moves ? vector.words[1] : 1 + below(below(8) == 0 ? 140000 : 3000);
-    struct dock_begun answer;
-    if (kind == DOCK_READ)
-        answer = dock_begin_read(&dock, offset, &vector, &lent);
-    else if (kind == DOCK_WRITE)
-        answer = dock_begin_write(&dock, offset, &vector, &lent);
-    else if (kind == DOCK_DISCARD)
-        answer = dock_begin_discard(&dock, offset, length, &lent);
-    else
-        answer = dock_begin_zeroes(&dock, kind == DOCK_ALLOCATED_ZERO, offset, length, &lent);
-    if (answer.tag == DOCK_BEGUN_DONE) {
-        check(up(offset, settings.discard) >= down(offset + length, settings.discard) && kind == DOCK_DISCARD, "done with work to do");
-    } else if (answer.tag == DOCK_BEGUN_REFUSED) {
-        refused++;
-        check(answer.refusal == DOCK_FULL || (moves && (answer.refusal == DOCK_OVERLAP || answer.refusal == DOCK_TOO_LONG)),
-              "a begin is refused for nothing");
-    } else {
-        begun++;
-        check(answer.slot < DOCK_SLOTS && !jobs[answer.slot].in_flight, "a slot that is taken");
-        admit(&jobs[answer.slot], kind, between(offset, offset + length), &vector);
-    }
+    struct ask ask = any_ask();
+    begin_job(&ask);
 }
 
-static uint8_t any_code(void)
+/* The pieces of the slot's request are those that the rules give. */
+static void check_pieces(size_t slot, const struct dock_request *request)
 {
-    return below(12) == 0 ? (uint8_t)(2 + below(198)) : below(6) == 0 ? 1 : 0;
-}
-
-/* A direct read or write has the vector's segments as its pieces. All else that has bytes goes through the slot's bounce buffer, which
- * starts where the stage's padded range starts. */
-static void check_pieces(size_t slot, const struct job *job, const struct dock_request *request)
-{
-    int has_bytes = request->kind == DOCK_READ || request->kind == DOCK_WRITE;
-    int in_data = has_bytes && job->stage.direct && job->vector.words[0] > 0;
-    const uint8_t *bounced = lent.scratch + slot * settings.bounce + (request->offset - job->stage.request.start);
-    const uint8_t *first = dock_piece(&dock, slot, 0, &lent).bytes;
-    check(request->pieces == (in_data ? job->vector.words[0] : (uint64_t)has_bytes), "another number of pieces than the rules give");
-    check(first == (in_data ? lent.data + job->vector.words[2] : has_bytes ? bounced : NULL), "a piece elsewhere than the rules give");
+    size_t i;
+    check(request->pieces == pieces_of(&jobs[slot], request->kind), "another number of pieces than the rules give");
+    for (i = 0; i <= request->pieces; i++)
+        check(dock_piece(&dock, slot, i, &lent).bytes == piece_at(slot, i), "a piece elsewhere than the rules give");
 }
 
 /* Carries the slot's request out and tells its code, where it is out. */
@@ -427,15 +73,11 @@ static void try_carry(size_t slot)
     check(due.tag == DOCK_DUE_REQUEST && due.request.kind == kind && due.request.offset == range.start
               && due.request.length == range.end - range.start,
           "another request than the rules give");
-    check_pieces(slot, job, &due.request);
+    check_pieces(slot, &due.request);
     choice = rnd();
     carry(slot, &due.request, code);
-    plain_step(job, kind, code);
-    check(memcmp(store, plain, STORE) == 0, "the store is not as the plain byte store");
+    step(slot, kind, code);
     check(dock_tell(&dock, slot, code, &lent) == 0, "a tell is refused");
-    carried++;
-    fallbacks += code == 1 && job->course == MIDDLE;
-    told(job, code);
 }
 
 static void try_collect(size_t slot)
@@ -446,36 +88,7 @@ static void try_collect(size_t slot)
         check(number == DOCK_SLOT, "a collect before the end");
         return;
     }
-    check(number == job->answer, "another answer than the rules give");
-    if (job->kind == DOCK_READ && number == 0)
-        check(gather(&job->vector, job->bytes, 1), "a read does not hold what its step yielded");
-    job->in_flight = 0;
-    collected++;
-}
-
-static int is_in_flight(uint64_t at)
-{
-    size_t slot;
-    size_t i;
-    for (slot = 0; slot < DOCK_SLOTS; slot++) {
-        const uint64_t *words = jobs[slot].vector.words;
-        for (i = 0; jobs[slot].in_flight && i < words[0]; i++) {
-            if (at >= words[2 + 2 * i] && at < words[2 + 2 * i] + words[3 + 2 * i])
-                return 1;
-        }
-    }
-    return 0;
-}
-
-/* Changes data of no job in flight. */
-static void change_data(void)
-{
-    int i;
-    for (i = 0; i < 64; i++) {
-        uint64_t at = below(DATA);
-        if (!is_in_flight(at))
-            lent.data[at] = (uint8_t)rnd();
-    }
+    collect_job(slot, number);
 }
 
 /* Where jobs are in flight that have not ended, one of them does not wait. */
@@ -491,42 +104,12 @@ static void check_progress(void)
     check(left == 0 || out > 0, "all wait");
 }
 
-static void open_any(void)
-{
-    static const struct dock_settings rows[] = {
-        { 1, 1, 1, 1, 700 },        { 1, 512, 512, 512, 4096 },           { 512, 512, 4096, 4096, 9216 },
-        { 4096, 4096, 4096, 65536, 16384 }, { 4096, 512, 512, 512, 12288 }, { 4096, 512, 4096, 65536, 16384 },
-        { 8, 64, 16, 32, 1024 },    { 64, 16, 256, 8, 1024 },
-    };
-    size_t row = (size_t)below(8);
-    settings = rows[row];
-    lent.data = data_room + (PAGE - (uintptr_t)data_room % PAGE) % PAGE + (below(2) == 0 ? below(PAGE) : 0);
-    lent.data_len = DATA;
-    lent.scratch = scratch_room + (PAGE - (uintptr_t)scratch_room % PAGE) % PAGE;
-    lent.scratch_len = (size_t)(8 * settings.bounce);
-    check((row < DOCK_ROWS ? dock_open_row(&dock, row, settings.bounce, &lent) : dock_open(&dock, &settings, &lent)) == 0,
-          "opening is refused");
-    memset(jobs, 0, sizeof jobs);
-}
-
-/* The same content at the start of each list. */
-static void put_content(void)
-{
-    size_t i;
-    for (i = 0; i < STORE; i++)
-        store[i] = (uint8_t)(i * 7 + i / 251);
-    memcpy(plain, store, STORE);
-    for (i = 0; i < sizeof data_room; i++)
-        data_room[i] = (uint8_t)(i * 11 + i / 253 + 128);
-    memset(scratch_room, 0x5a, sizeof scratch_room);
-}
-
 static void run_list(void)
 {
     int i;
     random_state = seed * UINT64_C(0xd1342543de82ef95) + list;
     put_content();
-    open_any();
+    open_choice((size_t)below(CHOICES));
     for (i = 0; i < EVENTS; i++) {
         uint64_t event = below(16);
         size_t slot = (size_t)below(DOCK_SLOTS);
@@ -558,9 +141,11 @@ int main(int argc, char **argv)
             fflush(stdout);
         }
     }
-    check(begun > 0 && refused > 0 && carried > 0 && waited > 0 && collected > 0 && fallbacks > 0, "something was never reached");
-    printf("%llu begun, %llu refused, %llu carried, %llu times waiting, %llu fallbacks, %llu collected; no difference\n",
-           (unsigned long long)begun, (unsigned long long)refused, (unsigned long long)carried, (unsigned long long)waited,
+    check(begun > 0 && refused > 0 && carried > 0 && waited > 0 && collected > 0 && fallbacks > 0,
+          "something was never reached");
+    printf("%llu begun, %llu refused, %llu carried, ", (unsigned long long)begun, (unsigned long long)refused,
+           (unsigned long long)carried);
+    printf("%llu times waiting, %llu fallbacks, %llu collected; no difference\n", (unsigned long long)waited,
            (unsigned long long)fallbacks, (unsigned long long)collected);
     return EXIT_SUCCESS;
 }

@@ -99,7 +99,8 @@ static unsigned begin(enum dock_kind kind, uint64_t offset, const struct dock_ve
     }
 }
 
-static void refused_vector(unsigned number, enum dock_kind kind, uint64_t offset, const struct dock_vector *vector, int line)
+static void refused_vector(unsigned number, enum dock_kind kind, uint64_t offset, const struct dock_vector *vector,
+                           int line)
 {
     keep(vector);
     check(begin(kind, offset, vector, 0) == number, "a begin over a vector is refused with its number", line);
@@ -120,7 +121,8 @@ struct wanted {
 static int is_due(size_t slot, enum dock_kind kind, uint64_t offset, uint64_t length)
 {
     struct dock_due due = dock_next(&dock, slot, &lent);
-    return due.tag == DOCK_DUE_REQUEST && due.request.kind == kind && due.request.offset == offset && due.request.length == length;
+    return due.tag == DOCK_DUE_REQUEST && due.request.kind == kind && due.request.offset == offset
+           && due.request.length == length;
 }
 
 static int waits(size_t slot)
@@ -139,7 +141,8 @@ static void runs(size_t slot, const struct wanted *wanted, size_t count, uint8_t
 {
     size_t i;
     for (i = 0; i < count; i++) {
-        check(is_due(slot, wanted[i].kind, wanted[i].offset, wanted[i].length), "the request is the one that is owed", line);
+        check(is_due(slot, wanted[i].kind, wanted[i].offset, wanted[i].length), "the request is the one that is owed",
+              line);
         check(wanted[i].code != 0 || carry(&dock, slot, &lent), "its pieces have its length", line);
         check(dock_tell(&dock, slot, wanted[i].code, &lent) == 0, "its code is taken", line);
     }
@@ -273,7 +276,8 @@ static void test_unfit(void)
 /* Opening with alignment 1, told addresses and lengths: address plus length is at most 2^64 - 1. */
 static unsigned opened_at(uint64_t data, uint64_t data_len, uint64_t scratch)
 {
-    return dock_words_open(dock.settings, dock.blockers, dock.states, dock.vectors, 1, 1, 1, 1, 4, data, data_len, scratch, 32);
+    return dock_words_open(dock.settings, dock.blockers, dock.states, dock.vectors, 1, 1, 1, 1, 4, data, data_len,
+                           scratch, 32);
 }
 
 /* Scratch too short, off the memory alignment, past the last address; 201 comes first. */
@@ -301,11 +305,15 @@ static void test_unfit_buffers(void)
 
 static void test_traced_writes(void)
 {
-    static const struct wanted small[] = { { DOCK_READ, 0, 512, 0 }, { DOCK_READ, 0, 512, 0 }, { DOCK_WRITE, 0, 512, 0 } };
+    static const struct wanted small[] = { { DOCK_READ, 0, 512, 0 },
+                                           { DOCK_READ, 0, 512, 0 },
+                                           { DOCK_WRITE, 0, 512, 0 } };
     static const struct wanted to_end[] = { { DOCK_READ, 0, 512, 0 }, { DOCK_WRITE, 0, 512, 0 } };
     static const struct wanted direct[] = { { DOCK_WRITE, 512, 512, 0 } };
     static const struct wanted merged[] = { { DOCK_READ, 0, 1024, 0 }, { DOCK_WRITE, 0, 1024, 0 } };
-    static const struct wanted apart[] = { { DOCK_READ, 0, 512, 0 }, { DOCK_READ, 1536, 512, 0 }, { DOCK_WRITE, 0, 2048, 0 } };
+    static const struct wanted apart[] = { { DOCK_READ, 0, 512, 0 },
+                                           { DOCK_READ, 1536, 512, 0 },
+                                           { DOCK_WRITE, 0, 2048, 0 } };
     open_row(ROW, BOUNCE);
     RUNS(write_at(100, 5, 10), 0, small);
     CHECK(store_has(100, 5, 10));
@@ -342,7 +350,9 @@ static void test_traced_gap(void)
 /* Row 4: a request of one block of the memory's alignment, at an offset that is none of its multiples. */
 static void test_traced_row_four(void)
 {
-    static const struct wanted wanted[] = { { DOCK_READ, 512, 4096, 0 }, { DOCK_READ, 512, 4096, 0 }, { DOCK_WRITE, 512, 4096, 0 } };
+    static const struct wanted wanted[] = { { DOCK_READ, 512, 4096, 0 },
+                                            { DOCK_READ, 512, 4096, 0 },
+                                            { DOCK_WRITE, 512, 4096, 0 } };
     open_row(4, 12288);
     RUNS(write_at(700, 1, 10), 0, wanted);
     CHECK(store_has(700, 1, 10));
@@ -350,12 +360,21 @@ static void test_traced_row_four(void)
 
 static void test_traced_zeroes(void)
 {
-    static const struct wanted parts[] = { { DOCK_ZERO, 512, 512, 0 }, { DOCK_READ, 0, 512, 0 }, { DOCK_WRITE, 0, 512, 0 },
-                                           { DOCK_READ, 1024, 512, 0 }, { DOCK_WRITE, 1024, 512, 0 } };
-    static const struct wanted fallback[] = { { DOCK_ZERO, 512, 512, 1 }, { DOCK_READ, 0, 512, 0 }, { DOCK_WRITE, 0, 512, 0 },
-                                              { DOCK_READ, 1024, 512, 0 }, { DOCK_WRITE, 512, 1024, 0 } };
-    static const struct wanted allocating[] = { { DOCK_ALLOCATED_ZERO, 512, 512, 1 }, { DOCK_READ, 0, 512, 0 }, { DOCK_WRITE, 0, 512, 0 },
-                                                { DOCK_READ, 1024, 512, 0 }, { DOCK_WRITE, 512, 1024, 0 } };
+    static const struct wanted parts[] = { { DOCK_ZERO, 512, 512, 0 },
+                                           { DOCK_READ, 0, 512, 0 },
+                                           { DOCK_WRITE, 0, 512, 0 },
+                                           { DOCK_READ, 1024, 512, 0 },
+                                           { DOCK_WRITE, 1024, 512, 0 } };
+    static const struct wanted fallback[] = { { DOCK_ZERO, 512, 512, 1 },
+                                              { DOCK_READ, 0, 512, 0 },
+                                              { DOCK_WRITE, 0, 512, 0 },
+                                              { DOCK_READ, 1024, 512, 0 },
+                                              { DOCK_WRITE, 512, 1024, 0 } };
+    static const struct wanted allocating[] = { { DOCK_ALLOCATED_ZERO, 512, 512, 1 },
+                                                { DOCK_READ, 0, 512, 0 },
+                                                { DOCK_WRITE, 0, 512, 0 },
+                                                { DOCK_READ, 1024, 512, 0 },
+                                                { DOCK_WRITE, 512, 1024, 0 } };
     static const struct wanted whole[] = { { DOCK_READ, 0, 1024, 0 }, { DOCK_WRITE, 0, 1024, 0 } };
     open_row(ROW, BOUNCE);
     RUNS(zeroes_at(0, 100, 1000), 0, parts);
@@ -378,8 +397,8 @@ static void test_allocate(void)
     open_row(ROW, BOUNCE);
     CHECK(is_due(zeroes_at(256, 0, 512), DOCK_ALLOCATED_ZERO, 0, 512));
     CHECK(is_due(zeroes_at(0, 0, 512), DOCK_ZERO, 0, 512));
-    reply = dock_words_begin_zeroes(dock.settings, dock.blockers, dock.states, dock.vectors, 255, 0, 512, lent.data, lent.data_len,
-                                    lent.scratch, lent.scratch_len);
+    reply = dock_words_begin_zeroes(dock.settings, dock.blockers, dock.states, dock.vectors, 255, 0, 512, lent.data,
+                                    lent.data_len, lent.scratch, lent.scratch_len);
     CHECK(reply.number == 256 && reply.count == 1 && reply.value[0] == 2);
     CHECK(is_due(2, DOCK_ALLOCATED_ZERO, 0, 512));
 }
@@ -392,7 +411,8 @@ static uint64_t before_end(uint64_t n)
 
 static void test_traced_ends(void)
 {
-    static const struct wanted last[] = { { DOCK_READ, UINT64_MAX - 1023, 512, 0 }, { DOCK_WRITE, UINT64_MAX - 1023, 512, 0 } };
+    static const struct wanted last[] = { { DOCK_READ, UINT64_MAX - 1023, 512, 0 },
+                                          { DOCK_WRITE, UINT64_MAX - 1023, 512, 0 } };
     struct dock_vector none = DOCK_VECTOR_EMPTY;
     struct dock_vector one = one_segment(0, 1);
     open_row(ROW, BOUNCE);
@@ -467,9 +487,13 @@ static void test_discard(void)
 static void test_failures(void)
 {
     static const struct wanted unread[] = { { DOCK_READ, 0, 512, 9 } };
-    static const struct wanted unsupported[] = { { DOCK_READ, 0, 512, 0 }, { DOCK_READ, 0, 512, 0 }, { DOCK_WRITE, 0, 512, 1 } };
+    static const struct wanted unsupported[] = { { DOCK_READ, 0, 512, 0 },
+                                                 { DOCK_READ, 0, 512, 0 },
+                                                 { DOCK_WRITE, 0, 512, 1 } };
     static const struct wanted zero[] = { { DOCK_ZERO, 512, 512, 3 } };
-    static const struct wanted head[] = { { DOCK_ZERO, 512, 512, 0 }, { DOCK_READ, 0, 512, 0 }, { DOCK_WRITE, 0, 512, 1 } };
+    static const struct wanted head[] = { { DOCK_ZERO, 512, 512, 0 },
+                                          { DOCK_READ, 0, 512, 0 },
+                                          { DOCK_WRITE, 0, 512, 1 } };
     open_row(ROW, BOUNCE);
     RUNS(write_at(100, 0, 10), 9, unread);
     RUNS(write_at(100, 0, 10), 1, unsupported);
@@ -746,7 +770,9 @@ static void test_lengths(void)
 /* Null with a length is 205 at opening, after 201; null with none is a buffer without bytes. */
 static void test_null(void)
 {
-    static const struct wanted wanted[] = { { DOCK_READ, 0, 512, 0 }, { DOCK_READ, 0, 512, 0 }, { DOCK_WRITE, 0, 512, 0 } };
+    static const struct wanted wanted[] = { { DOCK_READ, 0, 512, 0 },
+                                            { DOCK_READ, 0, 512, 0 },
+                                            { DOCK_WRITE, 0, 512, 0 } };
     struct dock_vector none = DOCK_VECTOR_EMPTY;
     struct dock_vector byte = one_segment(0, 1);
     lent = bench_lent(DATA, 8 * BOUNCE);
@@ -812,7 +838,8 @@ static void test_planner(void)
 {
     open_row(ROW, BOUNCE);
     CHECK(dock_chunks(&dock, 512, 10240).count == 3 && dock_chunks(&dock, 512, 10240).refusal == 0);
-    CHECK(is_chunk(512, 10240, 0, 512, 4096) && is_chunk(512, 10240, 1, 4608, 4096) && is_chunk(512, 10240, 2, 8704, 2048));
+    CHECK(is_chunk(512, 10240, 0, 512, 4096) && is_chunk(512, 10240, 1, 4608, 4096)
+          && is_chunk(512, 10240, 2, 8704, 2048));
     CHECK(is_chunk(512, 10240, 3, 10752, 0) && is_chunk(512, 10240, UINT64_MAX, 10752, 0));
     CHECK(dock_chunks(&dock, 512, 8192).count == 2 && dock_chunks(&dock, 0, 0).count == 0);
     REFUSED(DOCK_UNALIGNED, dock_chunks(&dock, 1, 512).refusal);

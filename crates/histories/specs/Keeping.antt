@@ -4,6 +4,7 @@ use mathlib.Core.Bool.{Bool, true, false}
 use mathlib.Core.Logic.{_≢_}
 use mathlib.Core.List.{List, []}
 use Prim.Native.Nat.{ℕ, _+_, _<_}
+use native.Mathlib.Omega.{arith}
 use native.Mathlib.Decide.{ℕ-discrete}
 use lib.ListN.{length, getD, set, length-set, getD-replicate, length-replicate}
 use lib.Seq.{getD-set-same, getD-set-other}
@@ -17,20 +18,22 @@ use Rattle.vectors.specs.Vectors.{vectorOf}
 use Rattle.vectors.specs.declared.vector.IoVector.{IoVector}
 use Rattle.blockers.specs.Blockers.{present, isEntered, blockerAt, noBlockers, vacant as no-blocker, nowhere as past, enteredOf, leftOf}
 use Rattle.blockers.specs.Reached.{Reached}
-use Rattle.blockers.specs.Laws.{enter-done, entered-other, entered-own, enter-reached, ranked, leave-done, left-kind, left-range, left-own, leave-reached, none-reached}
+use Rattle.blockers.specs.Laws.{enter-done, entered-other, entered-own, enter-reached, ranked, leave-done, left-kind, left-range, left-own}
+use Rattle.blockers.specs.Laws.{leave-reached, none-reached}
 use Rattle.blockers.specs.declared.Kind.{Kind}
 use Rattle.blockers.specs.declared.Kind.the-variants.{Absent}
 use Rattle.blockers.specs.declared.Blocker.{Blocker}
 use Rattle.blockers.specs.declared.Blockers.{Blockers}
 use Rattle.blockers.specs.declared.Changed.{Changed}
-use Rattle.stages.specs.Stages.{isBlocking, isSound}
+use Rattle.stages.specs.Stages.{blockedOf, isBlocking, isSound}
+use Rattle.stages.specs.declared.state.Stage.{Stage}
 use Rattle.stages.specs.declared.state.State.{State}
 use Rattle.dock.specs.Dock.{noState, noVector, vacant, fresh, vectorAt}
 use Rattle.dock.specs.Begin.{strength, blockersWith}
 use Rattle.dock.specs.Tell.{blockersWithout}
 use Rattle.dock.specs.declared.dock.Dock.{Dock}
 use Rattle.histories.specs.Courses.{isRegular, never}
-use Rattle.histories.specs.Held.{SlotHeld, SlotOf, Held}
+use Rattle.histories.specs.Held.{Encloses, SlotHeld, SlotOf, Held}
 
 -- ---- the blockers, as one slot's enters or leaves
 
@@ -43,7 +46,15 @@ pub record Changes (b : Blockers) (p : ℕ) (y : State) (c : Changed) : Type 0 w
   pub kinds : (q : ℕ) → q ≢ p → blockerAt (c .blockers) q .kind ≡ blockerAt b q .kind
   pub ranges : (q : ℕ) → q ≢ p → blockerAt (c .blockers) q .range ≡ blockerAt b q .range
   pub entered : present (blockerAt (c .blockers) p .kind) ≡ isBlocking (y .phase)
-  pub own : isBlocking (y .phase) ≡ true → (blockerAt (c .blockers) p .kind ≡ strength (y .stage .strong)) × (blockerAt (c .blockers) p .range ≡ y .stage .request)
+  pub own : isBlocking (y .phase) ≡ true
+      → (blockerAt (c .blockers) p .kind ≡ strength (y .stage .strong)) × Encloses (blockerAt (c .blockers) p .range) (y .stage .request)
+
+-- all that is asked of a stage's blocked range
+blocked-encloses : (g : Stage) (r : Range) → r ≡ blockedOf g → Encloses r (g .request)
+blocked-encloses g r e =
+    let a : r .start .0 ≡ g .request .start .0 = ap (λ (k : Range). k .start .0) e in
+    let b : r .end .0 ≡ g .request .end .0 = ap (λ (k : Range). k .end .0) e in
+    record { from = omega arith; to = omega arith }
 
 strong-present : (t : Bool) → present (strength t) ≡ true
 strong-present true = refl
@@ -52,7 +63,8 @@ strong-present false = refl
 module _ (b : Blockers) (p : ℕ) (y : State) (rank : ℕ → ℕ) (clock : ℕ) (R : Reached b rank clock) where
   -- the blockers stay as they are
   unchanged : isEntered (blockerAt b p) ≡ isBlocking (y .phase)
-      → (isBlocking (y .phase) ≡ true → (blockerAt b p .kind ≡ strength (y .stage .strong)) × (blockerAt b p .range ≡ y .stage .request))
+      → (isBlocking (y .phase) ≡ true
+      → (blockerAt b p .kind ≡ strength (y .stage .strong)) × Encloses (blockerAt b p .range) (y .stage .request))
       → Changes b p y (record { blockers = b; outcome = Done })
   unchanged e o = record {
     done = refl;
@@ -66,7 +78,8 @@ module _ (b : Blockers) (p : ℕ) (y : State) (rank : ℕ → ℕ) (clock : ℕ)
   }
 
   -- no blocker was there, and none comes
-  pub none-changes : isEntered (blockerAt b p) ≡ false → isBlocking (y .phase) ≡ false → Changes b p y (record { blockers = b; outcome = Done })
+  pub none-changes : isEntered (blockerAt b p) ≡ false → isBlocking (y .phase) ≡ false
+      → Changes b p y (record { blockers = b; outcome = Done })
   none-changes e f = unchanged (e ∙ sym f) (λ u. never (sym f ∙ u))
 
 module _ (b : Blockers) (p : ℕ) (y : State) (rank : ℕ → ℕ) (clock : ℕ) (R : Reached b rank clock) (h : p < 8) where
@@ -79,7 +92,7 @@ module _ (b : Blockers) (p : ℕ) (y : State) (rank : ℕ → ℕ) (clock : ℕ)
       k = strength (y .stage .strong)
 
       r : Range
-      r = y .stage .request
+      r = blockedOf (y .stage)
 
       go : (t : Bool) → isBlocking (y .phase) ≡ t → Changes b p y (pick t (enteredOf k p r b) (record { blockers = b; outcome = Done }))
       go true t =
@@ -92,12 +105,13 @@ module _ (b : Blockers) (p : ℕ) (y : State) (rank : ℕ → ℕ) (clock : ℕ)
             kinds = λ q n. ap (λ (x : Blocker). x .kind) (entered-other k p r b q n);
             ranges = λ q n. ap (λ (x : Blocker). x .range) (entered-other k p r b q n);
             entered = ap (λ (x : Blocker). isEntered x) o ∙ strong-present (y .stage .strong) ∙ sym t;
-            own = λ u. (ap (λ (x : Blocker). x .kind) o, ap (λ (x : Blocker). x .range) o);
+            own = λ u. (ap (λ (x : Blocker). x .kind) o, blocked-encloses (y .stage) _ (ap (λ (x : Blocker). x .range) o));
           }
       go false t = none-changes b p y rank clock R e t
 
   -- the blocker of the job x leaves
-  pub leave-changes : (x : State) → isEntered (blockerAt b p) ≡ isBlocking (x .phase) → isBlocking (y .phase) ≡ false → Changes b p y (blockersWithout b p x)
+  pub leave-changes : (x : State) → isEntered (blockerAt b p) ≡ isBlocking (x .phase) → isBlocking (y .phase) ≡ false
+      → Changes b p y (blockersWithout b p x)
   unfolding blockersWithout
   leave-changes x e f = go (isBlocking (x .phase)) refl
     where
@@ -117,8 +131,10 @@ module _ (b : Blockers) (p : ℕ) (y : State) (rank : ℕ → ℕ) (clock : ℕ)
       go false t = none-changes b p y rank clock R (e ∙ t) f
 
   -- the blocker of the job x stays, and the job is y now, in the same stage
-  pub stay-changes : (x : State) → y .stage ≡ x .stage → isBlocking (y .phase) ≡ isBlocking (x .phase) → present (blockerAt b p .kind) ≡ isBlocking (x .phase)
-      → (isBlocking (x .phase) ≡ true → (blockerAt b p .kind ≡ strength (x .stage .strong)) × (blockerAt b p .range ≡ x .stage .request))
+  pub stay-changes : (x : State) → y .stage ≡ x .stage → isBlocking (y .phase) ≡ isBlocking (x .phase)
+      → present (blockerAt b p .kind) ≡ isBlocking (x .phase)
+      → (isBlocking (x .phase) ≡ true
+      → (blockerAt b p .kind ≡ strength (x .stage .strong)) × Encloses (blockerAt b p .range) (x .stage .request))
       → Changes b p y (record { blockers = b; outcome = Done })
   stay-changes x g f e o = unchanged b p y rank clock R (e ∙ sym f) (λ u. rw g (o (sym f ∙ u)))
 
@@ -129,7 +145,8 @@ renewed d p b x vs = record { settings = d .settings; buffers = d .buffers; bloc
 
 module _ (d : Dock) (H : Held d) (p : ℕ) (h : p < 8) (x : State) (vs : List IoVector) (c : Changed) (C : Changes (d .blockers) p x c) where
   pub slot-anew : length vs ≡ 8 → ((q : ℕ) → q ≢ p → getD vs q noVector ≡ vectorAt d q)
-      → SlotHeld (d .settings .bounce) (d .buffers .«data» .length) x (getD vs p noVector) (blockerAt (c .blockers) p .kind) (blockerAt (c .blockers) p .range)
+      → SlotHeld (d .settings .bounce) (d .buffers .«data» .length) x (getD vs p noVector) (blockerAt (c .blockers) p .kind)
+      (blockerAt (c .blockers) p .range)
       → Held (renewed d p (c .blockers) x vs)
   slot-anew l others own = record {
     opened = H .opened;
@@ -177,5 +194,7 @@ fresh-held s b e = record {
   rank = λ p. 0;
   clock = 0;
   blockers = none-reached;
-  slots = λ p h. rw (getD-replicate 8 p vacant noState h, getD-replicate 8 p (vectorOf []) noVector h, getD-replicate 8 p no-blocker past h) (none-held (s .bounce) (b .«data» .length) (vectorOf []) Absent (no-blocker .range) refl);
+  slots =
+      λ p h. rw (getD-replicate 8 p vacant noState h, getD-replicate 8 p (vectorOf []) noVector h, getD-replicate 8 p no-blocker past h)
+      (none-held (s .bounce) (b .«data» .length) (vectorOf []) Absent (no-blocker .range) refl);
 }

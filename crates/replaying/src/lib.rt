@@ -22,31 +22,30 @@
 // bytes modulo 65536.
 // A program has no exit status, so the last line tells: `ok` where the script ran to its end; `error: line N: ..` where line
 // N is neither event nor comment, and the run stops there; `error: ..` for a script of more than 65535 bytes, which is not run.
-mod marks; // what became of the request in each slot
-mod script; // a line of the script, taken apart
 mod store; // the stand-in store
-mod trace; // what is printed
 
-use crate::script::Event;
-use crate::script::Verb;
-use crate::script::Verdict;
 use crate::store::Act;
 use crate::store::Carried;
-use crate::trace::text;
 use arithmetic::offsets::StoreOffset;
 use arithmetic::refusals::Outcome;
 use arithmetic::settings::Buffers;
 use arithmetic::settings::Lent;
 use dock::begin::Asked;
-use dock::begin::Beginning;
 use dock::dock::Dock;
 use dock::next::Due;
 use dock::open::Opened;
 use dock::tell::Telling;
 use libc::STDIN_FILENO;
+use replay_text::marks;
+use replay_text::script;
+use replay_text::script::Event;
+use replay_text::script::Verb;
+use replay_text::script::Verdict;
+use replay_text::trace;
+use replay_text::trace::text;
 use vectors::vector::Changed;
 use vectors::vector::IoVector;
-ghost use Prim.Native.Nat.{_<_};
+ghost use Prim.Native.Nat.{_<_, _≤_};
 ghost use lib.ListN.{length};
 
 // The dock between two events, where the next line starts, the number of the last one, and whether that was malformed.
@@ -82,7 +81,7 @@ fn opened(o: Opened, marks: &mut [u64]) -> Dock {
 }
 
 // The vector of the first so many segments of an event, up to the first that is refused.
-fn asked(e: Event, segments: usize, data_len: usize) -> Changed {
+fn vector_of(e: Event, segments: usize, data_len: usize) -> Changed {
     let mut changed = Changed {
         vector: IoVector::new(),
         outcome: Outcome::Done,
@@ -100,40 +99,41 @@ fn asked(e: Event, segments: usize, data_len: usize) -> Changed {
     changed
 }
 
-fn ended(b: Beginning) -> Dock {
-    let answer = b.answer;
-    trace::begun(answer);
-    b.dock
+// How many segments an event has: a read or a write, two numbers for each after the offset.
+fn segments(e: Event) -> usize {
+    let verb = e.verb;
+    match verb {
+        Verb::Read | Verb::Write => e.count / 2,
+        _ => 0,
+    }
 }
 
-// Begins a read or a write; a vector that is refused begins none.
-fn begin_vector(dock: Dock, e: Event, data: &[u8], scratch: &mut [u8]) -> Dock {
-    let v = asked(e, e.count / 2, data.len());
+// What an event asks the dock for. Where it is none that begins a job, it is not looked at.
+fn asked(e: Event, vector: IoVector) -> Asked {
+    let verb = e.verb;
+    let offset = StoreOffset(e.number(0));
+    let n = e.number(1);
+    match verb {
+        Verb::Read => Asked::read(offset, vector),
+        Verb::Write => Asked::write(offset, vector),
+        Verb::Alloc => Asked::zeroes(true, offset, n),
+        Verb::Discard => Asked::discard(offset, n),
+        _ => Asked::zeroes(false, offset, n),
+    }
+}
+
+// Begins a job; a vector that is refused begins none.
+fn begin(dock: Dock, e: Event, data: &[u8], scratch: &mut [u8]) -> Dock {
+    let v = vector_of(e, segments(e), data.len());
     let fit = v.outcome;
     if let Outcome::Refused(r) = fit {
         trace::refused(r);
         return dock;
     }
-    let vector = v.vector;
-    let offset = StoreOffset(e.number(0));
-    let verb = e.verb;
-    match verb {
-        Verb::Read => ended(dock.begin(Asked::read(offset, vector), data, scratch)),
-        _ => ended(dock.begin(Asked::write(offset, vector), data, scratch)),
-    }
-}
-
-fn begin(dock: Dock, e: Event, data: &[u8], scratch: &mut [u8]) -> Dock {
-    let verb = e.verb;
-    let offset = StoreOffset(e.number(0));
-    let n = e.number(1);
-    match verb {
-        Verb::Read | Verb::Write => begin_vector(dock, e, data, scratch),
-        Verb::Zero => ended(dock.begin(Asked::zeroes(false, offset, n), data, scratch)),
-        Verb::Alloc => ended(dock.begin(Asked::zeroes(true, offset, n), data, scratch)),
-        Verb::Discard => ended(dock.begin(Asked::discard(offset, n), data, scratch)),
-        _ => dock,
-    }
+    let b = dock.begin(asked(e, v.vector), data, scratch);
+    let answer = b.answer;
+    trace::begun(answer);
+    b.dock
 }
 
 fn next(dock: Dock, slot: usize, data: &[u8], scratch: &[u8]) {
@@ -356,6 +356,21 @@ fn passed(mut t: Turn, end: usize, n: usize) -> Turn {
     t
 }
 
+// Where the line that starts at `at` ends: at its newline, or the text's end.
+fn line_end(text: &[u8], at: usize) -> usize
+    requires { ⌜ at ≤ length (now text) ⌝ }
+    ensures { λ r. ⌜ (at ≤ r) × (r ≤ length (now (text .entry))) ⌝ }
+{
+    let mut i = at;
+    while i < text.len() {
+        if text[i] == b'\n' {
+            return i;
+        }
+        i += 1;
+    }
+    i
+}
+
 // One turn: the line that starts where the turn says.
 fn step(
     t: Turn,
@@ -368,7 +383,7 @@ fn step(
     requires { ⌜ t .at < length (now script) ⌝ }
 {
     let at = t.at;
-    let end = script::line_end(script, at);
+    let end = line_end(script, at);
     let next = passed(t, end, script.len());
     play(next, &script[at..end], marks, store, data, scratch)
 }

@@ -80,6 +80,11 @@ paddedStage s r = record {
   strong = true;
 }
 
+-- The range of a stage's blocker, today that of its request: "over their range" for direct ones, "over the padded range" for padded writes.
+-- The theorem on every list asks of it only that the request lies inside.
+abbrev pub blockedOf : Stage → Range
+blockedOf g = g .request
+
 -- the first phase of a write from the bounce buffer: its reads come first
 unfoldable pub firstPhase : Stage → Phase
 firstPhase g = pick (ltb 0 (sizeOf (g .first))) FirstRead (pick (ltb 0 (sizeOf (g .second))) SecondRead BouncedWrite)

@@ -1,4 +1,5 @@
--- What a call leaves in lent words, and what it should: a tell's step kept in its slot, a begin's job placed there. Held beside the dock by `told-kept` and `begun-seated` of KeptLaws.
+-- What a call leaves in lent words, and what it should: a tell's step kept in its slot, a begin's job placed there. Held beside the dock by
+-- `told-kept` and `begun-placed` of KeptLaws.
 use mathlib.Core.Bool.{Bool, true, false}
 use mathlib.Core.List.{List}
 use Prim.Native.Nat.{ℕ}

@@ -1,4 +1,5 @@
-//! The service case: two edits of ten bytes in one block of 512, begun together, on a drive in memory. The last line is `ok`.
+//! The service case: two edits of ten bytes in one block of 512, begun together, on a drive in memory. The last line is
+//! `ok`.
 
 use pitch_dock::{Answer, Begun, Dock, Due, Piece, Refusal, Vector};
 use std::process::ExitCode;

@@ -1,6 +1,6 @@
-//! What the runner costs. `speed FILE` times padded ten-byte writes in place on a file that it makes there, best in memory,
-//! and the same system calls without a dock; then eight jobs on a store that takes a millisecond a request, by threads and
-//! one after the other.
+//! What the runner costs. `speed FILE` times padded ten-byte writes in place on a file that it makes there, best in
+//! memory, and the same system calls without a dock; then eight jobs on a store that takes a millisecond a request, by
+//! threads and one after the other.
 
 use pitch_dock::{Code, Ended, FileStore, Job, JobList, Kind, Next, Room, Runner, Settings, Source, Store, Tally};
 use std::error::Error;

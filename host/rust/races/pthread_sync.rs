@@ -1,5 +1,5 @@
-//! Mutex and Condvar of pthreads, with what the crate uses of the standard library's interface. The standard library waits
-//! on futexes, which valgrind does not see; these it does. Only `races/run` uses them.
+//! Mutex and Condvar of pthreads, with what the crate uses of the standard library's interface. The standard library
+//! waits on futexes, which valgrind does not see; these it does. Only `races/run` uses them.
 
 use std::cell::UnsafeCell;
 use std::ops::{Deref, DerefMut};

@@ -10,10 +10,11 @@ const ENOTTY: i32 = 25;
 const ENOSYS: i32 = 38;
 const EOPNOTSUPP: i32 = 95;
 
-/// What a store says of a request: 0 done, 1 unsupported, 2 to 199 failed. No other number can be held, so each is an answer to the dock.
+/// What a store says of a request: 0 done, 1 unsupported, 2 to 199 failed. No other number can be held, so each is an
+/// answer to the dock.
 ///
-/// An [`io::Error`] becomes the system's number for it, with two exceptions: EPERM becomes EACCES (13), since 1 would say "unsupported"; an
-/// error without a number, or with one past 199, becomes EIO (5).
+/// An [`io::Error`] becomes the system's number for it, with two exceptions: EPERM becomes EACCES (13), since 1 would
+/// say "unsupported"; an error without a number, or with one past 199, becomes EIO (5).
 ///
 /// ```
 /// use pitch_dock::Code;
@@ -28,7 +29,8 @@ pub struct Code(u8);
 impl Code {
     /// 0: carried out.
     pub const DONE: Code = Code(0);
-    /// 1: the store cannot do that at all. Zeroes are written instead, a discard counts as done; a read or a write ends its job.
+    /// 1: the store cannot do that at all. Zeroes are written instead, a discard counts as done; a read or a write ends
+    /// its job.
     pub const UNSUPPORTED: Code = Code(1);
 
     /// 2 to 199: failed with this number. Any other is no failure's and becomes EIO (5).
@@ -39,8 +41,8 @@ impl Code {
         }
     }
 
-    /// The code of an error of a request that a system need not support, a zero or a discard: [`Code::UNSUPPORTED`] where the system said so
-    /// (EOPNOTSUPP, ENOSYS, ENOTTY), otherwise as for any error.
+    /// The code of an error of a request that a system need not support, a zero or a discard: [`Code::UNSUPPORTED`]
+    /// where the system said so (EOPNOTSUPP, ENOSYS, ENOTTY), otherwise as for any error.
     pub fn of_optional(error: io::Error) -> Code {
         match error.raw_os_error() {
             Some(EOPNOTSUPP | ENOSYS | ENOTTY) => Code::UNSUPPORTED,

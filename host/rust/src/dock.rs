@@ -11,8 +11,8 @@ use std::ops::Range;
 /// How many jobs are in flight at most.
 pub const SLOTS: usize = 8;
 
-/// Alignments of the drive, powers of two from 1 to 65,536, and the length of one job's bounce buffer (document 01: share): a multiple
-/// of the greater of `mem` and `req` (L), at least 2 `zero` + 2 L, at most 1,048,576.
+/// Alignments of the drive, powers of two from 1 to 65,536, and the length of one job's bounce buffer (document 01:
+/// share): a multiple of the greater of `mem` and `req` (L), at least 2 `zero` + 2 L, at most 1,048,576.
 #[derive(Clone, Copy, Debug, PartialEq, Eq)]
 pub struct Settings {
     /// Of addresses of memory.
@@ -84,8 +84,8 @@ fn begun(reply: Reply) -> Result<Begun, Refusal> {
 
 /// Opening, beginning, stepping and collecting jobs.
 impl<'buf> Dock<'buf> {
-    /// Opens a dock with no job in flight. Scratch has at least 8 bounce buffers and starts at a multiple of `mem` ([`aligned_part`]).
-    /// [`Refusal::Unfit`], [`Refusal::Buffer`].
+    /// Opens a dock with no job in flight. Scratch has at least 8 bounce buffers and starts at a multiple of `mem`
+    /// ([`aligned_part`]). [`Refusal::Unfit`], [`Refusal::Buffer`].
     pub fn open(settings: &Settings, data: &'buf mut [u8], scratch: &'buf mut [u8]) -> Result<Dock<'buf>, Refusal> {
         let (words, number) = Words::open(settings, data, scratch);
         done(number).map(|()| Dock { words })
@@ -127,7 +127,8 @@ impl<'buf> Dock<'buf> {
         Due::answered(self.words.next(slot))
     }
 
-    /// Piece `i` of the request that is out for `slot`, lent until the next call. [`Refusal::Slot`] where there is none.
+    /// Piece `i` of the request that is out for `slot`, lent until the next call. [`Refusal::Slot`] where there is
+    /// none.
     pub fn piece(&mut self, slot: usize, i: usize) -> Result<Piece<'_>, Refusal> {
         self.words.piece(slot, i)
     }
@@ -138,7 +139,8 @@ impl<'buf> Dock<'buf> {
         done(self.words.tell(slot, code))
     }
 
-    /// Takes the final answer; the slot is free again, and the job's bytes of the data are the caller's. [`Refusal::Slot`].
+    /// Takes the final answer; the slot is free again, and the job's bytes of the data are the caller's.
+    /// [`Refusal::Slot`].
     pub fn collect(&mut self, slot: usize) -> Result<Answer, Refusal> {
         let number = self.words.collect(slot);
         Answer::of(number.into()).ok_or_else(|| Refusal::answered(number.into()))

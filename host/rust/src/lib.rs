@@ -1,7 +1,7 @@
 //! The dock: byte ranges over an aligned drive.
 //!
-//! A job (read, write, zeroes, discard) is about any byte range of a store; the drive takes only whole, aligned blocks. A
-//! [`Runner`] serves jobs until they are done, up to eight at once, on anything that is a [`Store`]:
+//! A job (read, write, zeroes, discard) is about any byte range of a store; the drive takes only whole, aligned blocks.
+//! A [`Runner`] serves jobs until they are done, up to eight at once, on anything that is a [`Store`]:
 //!
 //! ```
 //! use pitch_dock::{Answer, JobList, MemoryStore, Room, Runner, Settings};
@@ -26,26 +26,28 @@
 //! # Ok::<(), pitch_dock::Refusal>(())
 //! ```
 //!
-//! [`Runner::run_threads`] has up to eight requests carried out together. Jobs that are not known beforehand come from a
-//! [`Source`] of your own. [`MemoryStore`] and [`FileStore`] are stores, [`FaultyStore`] is one for tests.
+//! [`Runner::run_threads`] has up to eight requests carried out together. Jobs that are not known beforehand come from
+//! a [`Source`] of your own. [`MemoryStore`] and [`FileStore`] are stores, [`FaultyStore`] is one for tests.
 //!
 //! # One step at a time
 //!
-//! Under the runner stands the [`Dock`], which does no input or output itself. [`Dock::next`] says which aligned request the
-//! store must carry out for a job, [`Dock::piece`] hands out that request's bytes, [`Dock::tell`] hands in the store's code,
-//! [`Dock::collect`] takes the final answer. "Document 01" is the agreed scope; it says what is right.
+//! Under the runner stands the [`Dock`], which does no input or output itself. [`Dock::next`] says which aligned
+//! request the store must carry out for a job, [`Dock::piece`] hands out that request's bytes, [`Dock::tell`] hands in
+//! the store's code, [`Dock::collect`] takes the final answer. "Document 01" is the agreed scope; it says what is
+//! right.
 //!
-//! The calls are those of the proved library `libboundary.a`. What its proof asks of a caller, this crate keeps by types:
+//! The calls are those of the proved library `libboundary.a`. What its proof asks of a caller, this crate keeps by
+//! types:
 //!
 //! - Data and scratch are borrowed by the dock, so they stay where they are and do not overlap.
 //! - Scratch is nobody's but the dock's.
-//! - Bytes of the data that a job in flight reads into or writes from change only by the dock and by the store: others are
-//!   changed through [`Dock::data_mut`] and [`Dock::write_data`], which refuse those.
+//! - Bytes of the data that a job in flight reads into or writes from change only by the dock and by the store: others
+//!   are changed through [`Dock::data_mut`] and [`Dock::write_data`], which refuse those.
 //! - A piece is lent until the next call on the dock, to be filled for a read, to be looked at for a write.
 //!
-//! What types do not keep is the store's side: it carries out each request once, fills all pieces of a read that it answers
-//! with 0, and tells the code of what it did. A store that does not breaks no memory, but then the bytes are not what
-//! document 01 promises. The runner carries out each request once, and tells the code that the store gave.
+//! What types do not keep is the store's side: it carries out each request once, fills all pieces of a read that it
+//! answers with 0, and tells the code of what it did. A store that does not breaks no memory, but then the bytes are
+//! not what document 01 promises. The runner carries out each request once, and tells the code that the store gave.
 //!
 //! A piece cannot be kept past the next call:
 //!

@@ -1,24 +1,31 @@
-//! The calls of `libboundary.a`, as it has them, behind functions that are safe to call, and the buffers that they work on. All that is
-//! unsafe in this crate is here and in `raw/loan.rs`.
+//! The calls of `libboundary.a`, as it has them, behind functions that are safe to call, and the buffers that they work
+//! on. All that is unsafe in this crate is here and in `raw/loan.rs`.
 //!
-//! The library is proved to return for any words, and to touch nothing outside its arrays and the lent bytes. What its calls ask for in
-//! turn is the same for all: pointers that are not null and aligned (an empty buffer's too), to as many words or bytes as the call is
-//! told. The words are fields of [`Words`]. Data and scratch are borrowed for `'buf` at opening and held as pointers from then on, so that
-//! pieces can be out with other threads while calls run: a reference to a whole buffer would claim those bytes too.
+//! The library is proved to return for any words, and to touch nothing outside its arrays and the lent bytes. What its
+//! calls ask for in turn: arrays of the declared lengths, and for data and scratch a pointer that is not null to as
+//! many bytes as the call is told. The arrays are fields of [`Words`]. Data and scratch are borrowed for `'buf` at
+//! opening and held as pointers from then on, so that pieces can be out with other threads while calls run: a reference
+//! to a whole buffer would claim those bytes too.
 //!
-//! **Who touches which bytes when.** A piece that is out ([`Loan`]) is touched by its holder alone: filled for a read, looked at for a
-//! write. Meanwhile calls for other slots run, and pieces of other slots are out. None of these touch the same byte where one changes it:
+//! **Who touches which bytes when.** A piece that is out ([`Loan`]) is its holder's: filled for a read, looked at for a
+//! write. Meanwhile calls for other slots run, and pieces of other slots are out. No two of these touch the same byte
+//! where one changes it:
 //!
-//! - Scratch: slot p has the bytes from p × share on, share many. A piece in the scratch lies in its own slot's, and begin and tell touch
-//!   no scratch but that of the slot they are for. A begin takes a free slot, and no piece of a free slot is out.
-//! - Data: a piece in the data lies in a segment of its job. A begin reads its own vector's segments, a tell those of its own slot's job or
-//!   fills them, and no others. Segments of two jobs in flight share bytes only where both write from them, and then nobody changes
-//!   them: other begins are refused with 203 before a byte is touched.
-//! - A slot whose piece is out is not told, and its pieces are not handed out again, until the loan comes back: `lent` sees to that.
-//! - Other data is handed out to be changed by [`Words::data_part`] alone, and only where no job in flight has a segment.
+//! - Scratch: slot p has the bytes from p × share on, share many. A piece in the scratch lies in its own slot's, and
+//!   begin and tell touch no scratch but that of the slot they are for. A begin takes a free slot, and no piece of a
+//!   free slot is out.
+//! - Data: a piece in the data lies in a segment of its job. A begin reads its own vector's segments, a tell reads or
+//!   fills those of its own slot's job, and neither touches others. Segments of two jobs in flight share bytes only
+//!   where both write from them, and then nobody changes them: any other begin is refused with 203 before a byte is
+//!   touched.
+//! - A slot whose pieces are out is not told, and they are not handed out again, until they have come back: `lent` sees
+//!   to that.
+//! - Other data is handed out to be changed by [`Words::data_part`] alone, and only where no job in flight has a
+//!   segment.
 //!
-//! That a call leaves the bytes of other slots as they are is in its contract; that it does not even write their old values back is how
-//! its code is (it stores byte by byte into its own slot's parts), and is tried with `valgrind --tool=helgrind` and `--tool=drd`.
+//! That a call leaves the bytes of other slots as they are is in its contract. That it does not even read them, or
+//! write their old values back, is how its code is: it copies and fills within its own slot's parts. `tests/lent.rs`
+//! and `races/run` try it.
 
 use crate::answer::{Due, Kind, Piece, Request};
 use crate::dock::{DataError, Settings, SLOTS};
@@ -54,10 +61,10 @@ struct Buffer<'buf> {
 
 /// A dock in words, each array of the length that the library declares for it, and its buffers.
 pub(crate) struct Words<'buf> {
-    settings: [u64; 9],
-    blockers: [u64; 88],
-    states: [u64; 144],
-    vectors: [u64; 272],
+    settings: SettingsWords,
+    blockers: BlockerWords,
+    states: StateWords,
+    vectors: VectorWords,
     data: Buffer<'buf>,
     scratch: Buffer<'buf>,
     /// The vectors of the jobs in flight, by slot; empty for jobs without one.
@@ -71,30 +78,42 @@ unsafe impl Send for Words<'_> {}
 // SAFETY: what takes `&self` changes nothing, and reads bytes only while no loan is out.
 unsafe impl Sync for Words<'_> {}
 
+type SettingsWords = [u64; 9];
+type BlockerWords = [u64; 88];
+type StateWords = [u64; 144];
+type VectorWords = [u64; 272];
+
 #[rustfmt::skip]
 extern "C" {
-    fn dock_words_open(settings: *mut u64, blockers: *mut u64, states: *mut u64, vectors: *mut u64, mem: u64, req: u64, zero: u64,
-        discard: u64, share: u64, data_address: u64, data_length: u64, scratch_address: u64, scratch_length: u64) -> u8;
-    fn dock_words_open_row(settings: *mut u64, blockers: *mut u64, states: *mut u64, vectors: *mut u64, row: usize, share: u64,
-        data_address: u64, data_length: u64, scratch_address: u64, scratch_length: u64) -> u8;
-    fn dock_words_begin_read(settings: *const u64, blockers: *mut u64, states: *mut u64, vectors: *mut u64, offset: u64,
-        vector: *const u64, data: *const u8, data_len: usize, scratch: *mut u8, scratch_len: usize) -> Reply;
-    fn dock_words_begin_write(settings: *const u64, blockers: *mut u64, states: *mut u64, vectors: *mut u64, offset: u64,
-        vector: *const u64, data: *const u8, data_len: usize, scratch: *mut u8, scratch_len: usize) -> Reply;
-    fn dock_words_begin_zeroes(settings: *const u64, blockers: *mut u64, states: *mut u64, vectors: *mut u64, allocate: u8,
-        offset: u64, length: u64, data: *const u8, data_len: usize, scratch: *mut u8, scratch_len: usize) -> Reply;
-    fn dock_words_begin_discard(settings: *const u64, blockers: *mut u64, states: *mut u64, vectors: *mut u64, offset: u64,
-        length: u64, data: *const u8, data_len: usize, scratch: *mut u8, scratch_len: usize) -> Reply;
-    fn dock_words_next(settings: *const u64, blockers: *const u64, states: *const u64, vectors: *const u64, slot: usize,
-        data_len: usize, scratch_len: usize) -> Reply;
-    fn dock_words_piece(settings: *const u64, blockers: *const u64, states: *const u64, vectors: *const u64, slot: usize, i: usize,
-        data_len: usize, scratch_len: usize) -> Reply;
-    fn dock_words_tell(settings: *const u64, blockers: *mut u64, states: *mut u64, vectors: *const u64, slot: usize, code: u8,
-        data: *mut u8, data_len: usize, scratch: *mut u8, scratch_len: usize) -> u8;
-    fn dock_words_collect(settings: *const u64, blockers: *const u64, states: *mut u64, vectors: *mut u64, slot: usize,
-        data_len: usize, scratch_len: usize) -> u8;
-    fn dock_words_chunks(settings: *const u64, offset: u64, length: u64) -> Reply;
-    fn dock_words_chunk(settings: *const u64, offset: u64, length: u64, i: u64) -> Reply;
+    fn dock_words_open(settings: &mut SettingsWords, blockers: &mut BlockerWords, states: &mut StateWords,
+        vectors: &mut VectorWords, mem: u64, req: u64, zero: u64, discard: u64, share: u64, data_address: u64,
+        data_length: u64, scratch_address: u64, scratch_length: u64) -> u8;
+    fn dock_words_open_row(settings: &mut SettingsWords, blockers: &mut BlockerWords, states: &mut StateWords,
+        vectors: &mut VectorWords, row: usize, share: u64, data_address: u64, data_length: u64, scratch_address: u64,
+        scratch_length: u64) -> u8;
+    fn dock_words_begin_read(settings: &SettingsWords, blockers: &mut BlockerWords, states: &mut StateWords,
+        vectors: &mut VectorWords, offset: u64, vector: &[u64; 34], data: *const u8, data_len: usize, scratch: *mut u8,
+        scratch_len: usize) -> Reply;
+    fn dock_words_begin_write(settings: &SettingsWords, blockers: &mut BlockerWords, states: &mut StateWords,
+        vectors: &mut VectorWords, offset: u64, vector: &[u64; 34], data: *const u8, data_len: usize, scratch: *mut u8,
+        scratch_len: usize) -> Reply;
+    fn dock_words_begin_zeroes(settings: &SettingsWords, blockers: &mut BlockerWords, states: &mut StateWords,
+        vectors: &mut VectorWords, allocate: u8, offset: u64, length: u64, data: *const u8, data_len: usize,
+        scratch: *mut u8, scratch_len: usize) -> Reply;
+    fn dock_words_begin_discard(settings: &SettingsWords, blockers: &mut BlockerWords, states: &mut StateWords,
+        vectors: &mut VectorWords, offset: u64, length: u64, data: *const u8, data_len: usize, scratch: *mut u8,
+        scratch_len: usize) -> Reply;
+    fn dock_words_next(settings: &SettingsWords, blockers: &BlockerWords, states: &StateWords, vectors: &VectorWords,
+        slot: usize, data_len: usize, scratch_len: usize) -> Reply;
+    fn dock_words_piece(settings: &SettingsWords, blockers: &BlockerWords, states: &StateWords, vectors: &VectorWords,
+        slot: usize, i: usize, data_len: usize, scratch_len: usize) -> Reply;
+    fn dock_words_tell(settings: &SettingsWords, blockers: &mut BlockerWords, states: &mut StateWords,
+        vectors: &VectorWords, slot: usize, code: u8, data: *mut u8, data_len: usize, scratch: *mut u8,
+        scratch_len: usize) -> u8;
+    fn dock_words_collect(settings: &SettingsWords, blockers: &BlockerWords, states: &mut StateWords,
+        vectors: &mut VectorWords, slot: usize, data_len: usize, scratch_len: usize) -> u8;
+    fn dock_words_chunks(settings: &SettingsWords, offset: u64, length: u64) -> Reply;
+    fn dock_words_chunk(settings: &SettingsWords, offset: u64, length: u64, i: u64) -> Reply;
 }
 
 impl<'buf> Buffer<'buf> {
@@ -128,10 +147,10 @@ impl<'buf> Words<'buf> {
 
     pub fn open(s: &Settings, data: &'buf mut [u8], scratch: &'buf mut [u8]) -> (Words<'buf>, u8) {
         let mut w = Words::over(data, scratch);
-        // SAFETY: the four arrays are this function's own, of the declared lengths; the rest are numbers.
+        // SAFETY: the four arrays are this function's own; the rest are numbers.
         let number = unsafe {
-            dock_words_open(w.settings.as_mut_ptr(), w.blockers.as_mut_ptr(), w.states.as_mut_ptr(), w.vectors.as_mut_ptr(),
-                s.mem, s.req, s.zero, s.discard, s.bounce, w.data.address(), w.data.length as u64, w.scratch.address(),
+            dock_words_open(&mut w.settings, &mut w.blockers, &mut w.states, &mut w.vectors, s.mem, s.req, s.zero,
+                s.discard, s.bounce, w.data.address(), w.data.length as u64, w.scratch.address(),
                 w.scratch.length as u64)
         };
         (w, number)
@@ -141,19 +160,18 @@ impl<'buf> Words<'buf> {
         let mut w = Words::over(data, scratch);
         // SAFETY: as for open.
         let number = unsafe {
-            dock_words_open_row(w.settings.as_mut_ptr(), w.blockers.as_mut_ptr(), w.states.as_mut_ptr(), w.vectors.as_mut_ptr(),
-                row, bounce, w.data.address(), w.data.length as u64, w.scratch.address(), w.scratch.length as u64)
+            dock_words_open_row(&mut w.settings, &mut w.blockers, &mut w.states, &mut w.vectors, row, bounce,
+                w.data.address(), w.data.length as u64, w.scratch.address(), w.scratch.length as u64)
         };
         (w, number)
     }
 
     pub fn begin_read(&mut self, offset: u64, vector: &Vector) -> Reply {
-        // SAFETY: the arrays are separate fields of `self`, borrowed whole and alone, and the vector is borrowed beside them; data and
-        // scratch have their lengths, and the call touches no byte of them that is out, as the head of this file says.
+        // SAFETY: arrays and vector are borrowed; data and scratch have their lengths, and the call touches no byte of
+        // them that is out, as the head of this file says.
         let reply = unsafe {
-            dock_words_begin_read(self.settings.as_ptr(), self.blockers.as_mut_ptr(), self.states.as_mut_ptr(),
-                self.vectors.as_mut_ptr(), offset, vector.words().as_ptr(), self.data.start, self.data.length, self.scratch.start,
-                self.scratch.length)
+            dock_words_begin_read(&self.settings, &mut self.blockers, &mut self.states, &mut self.vectors, offset,
+                vector.words(), self.data.start, self.data.length, self.scratch.start, self.scratch.length)
         };
         self.note_begun(reply, vector)
     }
@@ -161,9 +179,8 @@ impl<'buf> Words<'buf> {
     pub fn begin_write(&mut self, offset: u64, vector: &Vector) -> Reply {
         // SAFETY: as for begin_read.
         let reply = unsafe {
-            dock_words_begin_write(self.settings.as_ptr(), self.blockers.as_mut_ptr(), self.states.as_mut_ptr(),
-                self.vectors.as_mut_ptr(), offset, vector.words().as_ptr(), self.data.start, self.data.length, self.scratch.start,
-                self.scratch.length)
+            dock_words_begin_write(&self.settings, &mut self.blockers, &mut self.states, &mut self.vectors, offset,
+                vector.words(), self.data.start, self.data.length, self.scratch.start, self.scratch.length)
         };
         self.note_begun(reply, vector)
     }
@@ -171,8 +188,8 @@ impl<'buf> Words<'buf> {
     pub fn begin_zeroes(&mut self, allocate: bool, offset: u64, length: u64) -> Reply {
         // SAFETY: as for begin_read, without a vector.
         let reply = unsafe {
-            dock_words_begin_zeroes(self.settings.as_ptr(), self.blockers.as_mut_ptr(), self.states.as_mut_ptr(),
-                self.vectors.as_mut_ptr(), u8::from(allocate), offset, length, self.data.start, self.data.length, self.scratch.start,
+            dock_words_begin_zeroes(&self.settings, &mut self.blockers, &mut self.states, &mut self.vectors,
+                u8::from(allocate), offset, length, self.data.start, self.data.length, self.scratch.start,
                 self.scratch.length)
         };
         self.note_begun(reply, &Vector::new())
@@ -181,8 +198,8 @@ impl<'buf> Words<'buf> {
     pub fn begin_discard(&mut self, offset: u64, length: u64) -> Reply {
         // SAFETY: as for begin_read, without a vector.
         let reply = unsafe {
-            dock_words_begin_discard(self.settings.as_ptr(), self.blockers.as_mut_ptr(), self.states.as_mut_ptr(),
-                self.vectors.as_mut_ptr(), offset, length, self.data.start, self.data.length, self.scratch.start, self.scratch.length)
+            dock_words_begin_discard(&self.settings, &mut self.blockers, &mut self.states, &mut self.vectors, offset,
+                length, self.data.start, self.data.length, self.scratch.start, self.scratch.length)
         };
         self.note_begun(reply, &Vector::new())
     }
@@ -196,10 +213,10 @@ impl<'buf> Words<'buf> {
     }
 
     pub fn next(&self, slot: usize) -> Reply {
-        // SAFETY: the arrays are borrowed shared, and the call changes none; the rest are numbers.
+        // SAFETY: the arrays are borrowed; the rest are numbers.
         unsafe {
-            dock_words_next(self.settings.as_ptr(), self.blockers.as_ptr(), self.states.as_ptr(), self.vectors.as_ptr(), slot,
-                self.data.length, self.scratch.length)
+            dock_words_next(&self.settings, &self.blockers, &self.states, &self.vectors, slot, self.data.length,
+                self.scratch.length)
         }
     }
 
@@ -207,27 +224,27 @@ impl<'buf> Words<'buf> {
     fn piece_part(&self, slot: usize, i: usize) -> Result<(*mut u8, usize), Refusal> {
         // SAFETY: as for next.
         let reply = unsafe {
-            dock_words_piece(self.settings.as_ptr(), self.blockers.as_ptr(), self.states.as_ptr(), self.vectors.as_ptr(), slot, i,
-                self.data.length, self.scratch.length)
+            dock_words_piece(&self.settings, &self.blockers, &self.states, &self.vectors, slot, i, self.data.length,
+                self.scratch.length)
         };
         let [buffer, start, length, _] = reply.values()?;
         Ok(if buffer == 0 { self.data.part(start, length) } else { self.scratch.part(start, length) })
     }
 
     fn tell_library(&mut self, slot: usize, code: u8) -> u8 {
-        // SAFETY: the arrays are separate fields of `self`, borrowed whole and alone; data and scratch have their lengths, and the call
-        // touches no byte of them that is out, as the head of this file says, since this slot's pieces are not.
+        // SAFETY: the arrays are borrowed; data and scratch have their lengths, and the call touches no byte of them
+        // that is out, as the head of this file says, since this slot's pieces are not.
         unsafe {
-            dock_words_tell(self.settings.as_ptr(), self.blockers.as_mut_ptr(), self.states.as_mut_ptr(), self.vectors.as_ptr(), slot,
-                code, self.data.start, self.data.length, self.scratch.start, self.scratch.length)
+            dock_words_tell(&self.settings, &mut self.blockers, &mut self.states, &self.vectors, slot, code,
+                self.data.start, self.data.length, self.scratch.start, self.scratch.length)
         }
     }
 
     pub fn collect(&mut self, slot: usize) -> u8 {
-        // SAFETY: the arrays are separate fields of `self`, borrowed whole and alone; the rest are numbers.
+        // SAFETY: the arrays are borrowed; the rest are numbers.
         let number = unsafe {
-            dock_words_collect(self.settings.as_ptr(), self.blockers.as_ptr(), self.states.as_mut_ptr(), self.vectors.as_mut_ptr(),
-                slot, self.data.length, self.scratch.length)
+            dock_words_collect(&self.settings, &self.blockers, &mut self.states, &mut self.vectors, slot,
+                self.data.length, self.scratch.length)
         };
         if Refusal::of(number).is_none_or(|refusal| refusal == Refusal::Overflow) {
             self.in_flight[slot] = None;
@@ -236,13 +253,13 @@ impl<'buf> Words<'buf> {
     }
 
     pub fn chunks(&self, offset: u64, length: u64) -> Reply {
-        // SAFETY: the settings are borrowed shared, and the call changes none; the rest are numbers.
-        unsafe { dock_words_chunks(self.settings.as_ptr(), offset, length) }
+        // SAFETY: the settings are borrowed; the rest are numbers.
+        unsafe { dock_words_chunks(&self.settings, offset, length) }
     }
 
     pub fn chunk(&self, offset: u64, length: u64, i: u64) -> Reply {
         // SAFETY: as for chunks.
-        unsafe { dock_words_chunk(self.settings.as_ptr(), offset, length, i) }
+        unsafe { dock_words_chunk(&self.settings, offset, length, i) }
     }
 }
 
@@ -254,8 +271,8 @@ impl<'buf> Words<'buf> {
         let request = self.request(slot)?;
         self.must_be_here(slot);
         Ok(match request.kind {
-            // SAFETY: the part lies in a buffer that is borrowed for 'buf; its slot's pieces are not out, those of others lie elsewhere,
-            // and `self` is borrowed alone for as long as the piece.
+            // SAFETY: the part lies in a buffer that is borrowed for 'buf; its slot's pieces are not out, those of
+            // others lie elsewhere, and `self` is borrowed alone for as long as the piece.
             Kind::Read => Piece::Fill(unsafe { slice::from_raw_parts_mut(start, length) }),
             // SAFETY: the same, and this one is only looked at, as are those of other writes that share bytes with it.
             _ => Piece::Take(unsafe { slice::from_raw_parts(start, length) }),
@@ -287,7 +304,8 @@ impl<'buf> Words<'buf> {
     /// All data.
     pub fn data(&self) -> &[u8] {
         self.all_must_be_here();
-        // SAFETY: the data is borrowed for 'buf, no piece of it is out, and while `self` is borrowed none is handed out to be changed.
+        // SAFETY: the data is borrowed for 'buf, no piece of it is out, and while `self` is borrowed none is handed out
+        // to be changed.
         unsafe { slice::from_raw_parts(self.data.start, self.data.length) }
     }
 
@@ -299,15 +317,16 @@ impl<'buf> Words<'buf> {
         if self.in_flight.iter().flatten().any(|vector| vector.meets(&range)) {
             return Err(DataError::InFlight);
         }
-        // SAFETY: the range lies in the data, which is borrowed for 'buf; pieces that are out lie in segments of jobs in flight or in the
-        // scratch, and so not in it; `self` is borrowed alone for as long as the range.
+        // SAFETY: the range lies in the data, which is borrowed for 'buf; pieces that are out lie in segments of jobs
+        // in flight or in the scratch, and so not in it; `self` is borrowed alone for as long as the range.
         Ok(unsafe { slice::from_raw_parts_mut(self.data.start.add(range.start), range.len()) })
     }
 
     /// Data and scratch, given back.
     pub fn into_buffers(self) -> (&'buf mut [u8], &'buf mut [u8]) {
         self.all_must_be_here();
-        // SAFETY: both are borrowed for 'buf and were opening's alone; no piece is out, and `self`, which has the only other pointers, ends.
+        // SAFETY: both are borrowed for 'buf and were opening's alone; no piece is out, and `self`, which has the only
+        // other pointers, ends.
         unsafe {
             (
                 slice::from_raw_parts_mut(self.data.start, self.data.length),

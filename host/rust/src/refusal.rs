@@ -10,7 +10,8 @@ pub enum Refusal {
     Unfit,
     /// 202: segment empty or outside the data, a 17th, total too long.
     Segment,
-    /// 203: segments of one read overlap, or a read's overlap those of a job in flight, or a write's those of a read in flight.
+    /// 203: segments of one read overlap, or a read's overlap those of a job in flight, or a write's those of a read in
+    /// flight.
     Overlap,
     /// 204: all 8 slots taken.
     Full,

@@ -12,8 +12,8 @@ pub struct Room {
 }
 
 impl Room {
-    /// Room for reads and writes of up to `longest` bytes, rounded up to the memory alignment, and bounce buffers as the
-    /// settings say. For settings that no dock opens with it may be too small.
+    /// Room for reads and writes of up to `longest` bytes, rounded up to the memory alignment, and bounce buffers as
+    /// the settings say. For settings that no dock opens with it may be too small.
     pub fn new(settings: &Settings, longest: usize) -> Room {
         let align = usize::try_from(settings.mem).unwrap_or(1).clamp(1, LARGEST_ALIGNMENT);
         let data_length = SLOTS * longest.next_multiple_of(align);

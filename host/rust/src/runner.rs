@@ -35,8 +35,8 @@ pub enum Order {
 /// Serves jobs of a source on a store: begins them as slots get free, up to eight at once, has their requests carried
 /// out, tells the codes, and hands the answers to the source.
 ///
-/// The data is cut into eight parts, one for each slot, and a job's bytes lie in its slot's part. Where two jobs in flight
-/// change the same byte of the store, either may come last; a barrier between them decides it.
+/// The data is cut into eight parts, one for each slot, and a job's bytes lie in its slot's part. Where two jobs in
+/// flight change the same byte of the store, either may come last; a barrier between them decides it.
 pub struct Runner<'buf> {
     dock: Dock<'buf>,
     /// The length of a slot's part of the data.
@@ -63,8 +63,8 @@ enum Gate {
 }
 
 impl<'buf> Runner<'buf> {
-    /// Opens a runner. Scratch has at least 8 bounce buffers and starts at a multiple of `mem`: [`crate::Room`] has both
-    /// buffers. [`Refusal::Unfit`], [`Refusal::Buffer`].
+    /// Opens a runner. Scratch has at least 8 bounce buffers and starts at a multiple of `mem`: [`crate::Room`] has
+    /// both buffers. [`Refusal::Unfit`], [`Refusal::Buffer`].
     pub fn open(settings: &Settings, data: &'buf mut [u8], scratch: &'buf mut [u8]) -> Result<Runner<'buf>, Refusal> {
         let eighth = data.len() / SLOTS;
         let dock = Dock::open(settings, data, scratch)?;
@@ -75,20 +75,20 @@ impl<'buf> Runner<'buf> {
         Ok(Runner { dock, part, order, seats: Seats::new(order), gate: Gate::Open, asked: 0, tally })
     }
 
-    /// How many bytes a read or a write may have: an eighth of the data, rounded down to the memory alignment where that
-    /// leaves any. A longer one is refused with [`Refusal::Segment`].
+    /// How many bytes a read or a write may have: an eighth of the data, rounded down to the memory alignment where
+    /// that leaves any. A longer one is refused with [`Refusal::Segment`].
     pub fn longest(&self) -> u64 {
         self.part as u64
     }
 
-    /// Sets in which order due requests are carried out; [`Order::First`] where it is not called. With worker threads it
-    /// is the order in which they take them.
+    /// Sets in which order due requests are carried out; [`Order::First`] where it is not called. With worker threads
+    /// it is the order in which they take them.
     pub fn set_order(&mut self, order: Order) {
         self.order = order;
     }
 
-    /// Runs the source's jobs in place, until all have ended: this thread carries out the requests, one after the other,
-    /// and nothing is allocated. What all requests came to.
+    /// Runs the source's jobs in place, until all have ended: this thread carries out the requests, one after the
+    /// other, and nothing is allocated. What all requests came to.
     ///
     /// # Panics
     ///
@@ -97,9 +97,12 @@ impl<'buf> Runner<'buf> {
         self.serve(jobs, &mut InPlace { store, done: None })
     }
 
-    /// Runs the source's jobs, until all have ended, with requests carried out by 1 to 8 worker threads, so that as many are
-    /// out together. The threads end with the run; where the system gives fewer, these do, and where it gives none the run
-    /// is in place. What all requests came to.
+    /// Runs the source's jobs, until all have ended, with requests carried out by 1 to 8 worker threads, so that as
+    /// many are out together. The threads end with the run; where the system gives fewer, these do, and where it gives
+    /// none the run is in place. What all requests came to.
+    ///
+    /// This is for stores that take their time: to hand a request to a thread and back costs some microseconds, so that
+    /// on a store that answers at once [`Runner::run`] is faster.
     ///
     /// # Panics
     ///

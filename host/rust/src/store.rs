@@ -3,13 +3,14 @@
 use crate::code::Code;
 use std::io::{IoSlice, IoSliceMut};
 
-/// A drive, a file, memory: what carries out requests. A runner calls it from several threads at once where it is told to, and then with
-/// requests on overlapping ranges too, where document 01's waiting rule lets them be out together.
+/// A drive, a file, memory: what carries out requests. A runner calls it from several threads at once where it is told
+/// to, and then with requests on overlapping ranges too, where document 01's waiting rule lets them be out together.
 ///
-/// Offsets, lengths and addresses are aligned as the settings say with which the dock was opened. A request that fails may have changed any
-/// bytes of its range to what they should have become, and no other.
+/// Offsets, lengths and addresses are aligned as the settings say with which the dock was opened. A request that fails
+/// may have changed any bytes of its range to what they should have become, and no other.
 pub trait Store: Sync {
-    /// Fills the pieces one after the other with the bytes from `offset` on, all of them: past the store's end with zeroes.
+    /// Fills the pieces one after the other with the bytes from `offset` on, all of them: past the store's end with
+    /// zeroes.
     fn read(&self, offset: u64, pieces: &mut [IoSliceMut<'_>]) -> Code;
 
     /// Writes the pieces one after the other from `offset` on, all of them.
@@ -20,7 +21,8 @@ pub trait Store: Sync {
         Code::UNSUPPORTED
     }
 
-    /// Makes the range read as zeroes and keeps it allocated. Unsupported unless said otherwise: then zeroes are written.
+    /// Makes the range read as zeroes and keeps it allocated. Unsupported unless said otherwise: then zeroes are
+    /// written.
     fn allocated_zero(&self, _offset: u64, _length: u64) -> Code {
         Code::UNSUPPORTED
     }

@@ -10,7 +10,8 @@ pub const LONGEST_VECTOR: u64 = 1_048_576;
 /// The words of a vector: count, total, start and length of each segment.
 const WORDS: usize = 2 + 2 * SEGMENTS;
 
-/// Up to 16 segments of the data, used one after the other. Begin tests it: [`crate::Refusal::Segment`] where it does not fit.
+/// Up to 16 segments of the data, used one after the other. Begin tests it: [`crate::Refusal::Segment`] where it does
+/// not fit.
 #[derive(Clone, Copy, Debug, PartialEq, Eq)]
 pub struct Vector {
     words: [u64; WORDS],

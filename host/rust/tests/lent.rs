@@ -1,9 +1,10 @@
-//! The bytes of a request that a worker holds are its own: while it holds those of a read, nobody else touches them, and
-//! while it holds those of a write, nobody changes them. The store here has no lock, so that `races/run` finds whatever
-//! touches them at the same time.
+//! The bytes of a request that a worker holds are its own: while it holds those of a read, nobody else touches them,
+//! and while it holds those of a write, nobody changes them. The store here has no lock, so that `races/run` finds
+//! whatever touches them at the same time.
 
 use pitch_dock::{Answer, Code, Ended, Job, Kind, Next, Room, Runner, Settings, Source, Store, Tally, Told};
 use std::env;
+use std::hint::black_box;
 use std::io::{IoSlice, IoSliceMut};
 use std::thread;
 use std::time::Duration;
@@ -16,32 +17,33 @@ fn filling(offset: u64) -> u8 {
     (offset / 512) as u8 ^ 0x5a
 }
 
-/// A store that holds the bytes for a while, and looks whether they have changed meanwhile.
+/// A store that holds the bytes for a while, and looks whether they have changed meanwhile. It touches them one by one:
+/// of memset and memcpy valgrind misses races.
 struct Holder;
+
+fn code(kept: bool) -> Code {
+    if kept {
+        Code::DONE
+    } else {
+        Code::failed(71)
+    }
+}
 
 impl Store for Holder {
     fn read(&self, offset: u64, pieces: &mut [IoSliceMut<'_>]) -> Code {
-        for piece in pieces.iter_mut() {
-            piece.fill(filling(offset));
+        for byte in pieces.iter_mut().flat_map(|piece| piece.iter_mut()) {
+            *byte = black_box(filling(offset));
         }
         thread::sleep(HELD);
-        let kept = pieces.iter().all(|piece| piece.iter().all(|&byte| byte == filling(offset)));
-        if kept {
-            Code::DONE
-        } else {
-            Code::failed(71)
-        }
+        let mut bytes = pieces.iter().flat_map(|piece| piece.iter());
+        code(bytes.all(|byte| black_box(*byte) == filling(offset)))
     }
 
     fn write(&self, _offset: u64, pieces: &[IoSlice<'_>]) -> Code {
-        let before: Vec<Vec<u8>> = pieces.iter().map(|piece| piece.to_vec()).collect();
+        let bytes = || pieces.iter().flat_map(|piece| piece.iter()).map(|byte| black_box(*byte));
+        let before: Vec<u8> = bytes().collect();
         thread::sleep(HELD);
-        let kept = pieces.iter().zip(&before).all(|(piece, before)| **piece == before[..]);
-        if kept {
-            Code::DONE
-        } else {
-            Code::failed(71)
-        }
+        code(bytes().eq(before))
     }
 }
 

@@ -1,6 +1,6 @@
 //! Random runs on a store that fails, delays and tears, in place and with threads, against the plain byte store: each
-//! request is the one that document 01's rules give; after each request its range, and after each job all bytes, are the
-//! plain byte store's; a read shows what its step yielded. Settings, jobs and faults are drawn from a seed.
+//! request is the one that document 01's rules give; after each request its range, and after each job all bytes, are
+//! the plain byte store's; a read shows what its step yielded. Settings, jobs and faults are drawn from a seed.
 //!
 //!     DOCK_JOBS=100000 DOCK_SEED=1 cargo test --release --test random -- --ignored --nocapture
 
@@ -88,7 +88,6 @@ struct Drawn<'run> {
     draw: Draw,
     settings: Settings,
     places: Places,
-    longest: u64,
     plain: Arc<Mutex<Plain>>,
     store: &'run FaultyStore,
     said: Said,
@@ -106,7 +105,30 @@ fn lock(plain: &Mutex<Plain>) -> MutexGuard<'_, Plain> {
     plain.lock().unwrap_or_else(PoisonError::into_inner)
 }
 
-impl Drawn<'_> {
+impl<'run> Drawn<'run> {
+    fn new(
+        draw: Draw,
+        settings: Settings,
+        places: Places,
+        plain: Arc<Mutex<Plain>>,
+        store: &'run FaultyStore,
+    ) -> Drawn<'run> {
+        Drawn {
+            draw,
+            settings,
+            places,
+            plain,
+            store,
+            said: Said::Nothing,
+            in_flight: 0,
+            ended_since: 0,
+            filled: Vec::new(),
+            slots: Vec::new(),
+            told: Tally::default(),
+            counts: Counts::default(),
+        }
+    }
+
     fn draw_job(&mut self) -> Job {
         let kind = [Kind::Read, Kind::Write, Kind::Write, Kind::Zero, Kind::AllocatedZero, Kind::Discard];
         let kind = kind[self.draw.below(6) as usize];
@@ -128,7 +150,7 @@ impl Drawn<'_> {
         let align = if job.kind == Kind::Discard { self.settings.discard } else { self.settings.zero };
         let end = job.offset.checked_add(job.length);
         let room = moves || job.offset.checked_add(align - 1).is_some();
-        if moves && job.length > self.longest {
+        if moves && job.length > self.places.part as u64 {
             return Some(Err(Refusal::Segment));
         }
         if job.length == 0 && job.kind != Kind::Discard {
@@ -240,6 +262,12 @@ impl Source for Drawn<'_> {
     }
 }
 
+/// A store with this content that the plain byte store follows.
+fn followed(content: Vec<u8>, faults: Faults, plain: &Arc<Mutex<Plain>>) -> FaultyStore {
+    let plain = Arc::clone(plain);
+    FaultyStore::watched(content, faults, Box::new(move |carried, store| lock(&plain).carry(carried, store)))
+}
+
 /// One run: settings, content, faults and jobs as the seed says.
 fn run(seed: u64, threads: bool) -> Counts {
     let mut draw = Draw(seed);
@@ -247,37 +275,20 @@ fn run(seed: u64, threads: bool) -> Counts {
     let mut room = Room::new(&settings, LONGEST);
     let (data, scratch) = room.parts();
     data.copy_from_slice(&draw.bytes(data.len()));
-    let cut = draw.below(3) as usize * 8;
-    let data = &mut data[cut..];
+    let data = &mut data[draw.below(3) as usize * 8..];
     let (data_at, scratch_at) = (data.as_ptr() as usize, scratch.as_ptr() as usize);
     let mut runner = Runner::open(&settings, data, scratch).expect("settings that fit");
-    let longest = runner.longest();
-    let places =
-        Places { data: data_at, part: longest as usize, scratch: scratch_at, bounce: settings.bounce as usize };
+    let (part, bounce) = (runner.longest() as usize, settings.bounce as usize);
+    let places = Places { data: data_at, part, scratch: scratch_at, bounce };
     let content = draw.bytes(STORE);
     let plain = Arc::new(Mutex::new(Plain::new(settings, places.clone(), &content, LENGTH)));
-    let follower = Arc::clone(&plain);
-    let watcher = move |carried: &_, store: &[u8]| lock(&follower).carry(carried, store);
-    let store = FaultyStore::watched(content, draw_faults(&mut draw, threads), Box::new(watcher));
+    let store = followed(content, draw_faults(&mut draw, threads), &plain);
     runner.set_order([Order::First, Order::RoundRobin, Order::Seed(seed)][draw.below(3) as usize]);
     let workers = 1 + draw.below(8) as usize;
-    let mut jobs = Drawn {
-        draw,
-        settings,
-        places,
-        longest,
-        plain,
-        store: &store,
-        said: Said::Nothing,
-        in_flight: 0,
-        ended_since: 0,
-        filled: Vec::new(),
-        slots: Vec::new(),
-        told: Tally::default(),
-        counts: Counts::default(),
-    };
+    let mut jobs = Drawn::new(draw, settings, places, plain, &store);
     let tally = if threads { runner.run_threads(workers, &mut jobs, &store) } else { runner.run(&mut jobs, &store) };
     assert_eq!((tally, jobs.in_flight), (jobs.told, 0));
+    assert_eq!(lock(&jobs.plain).untold, [], "each request is carried out once");
     let Counts { jobs: asked, done, failed, refused, .. } = jobs.counts;
     assert_eq!(asked, done + failed + refused);
     Counts { requests: tally.requests, ..jobs.counts }

@@ -182,6 +182,19 @@ fn opening_refuses_what_is_unfit() {
 }
 
 #[test]
+fn the_settings_of_a_row_are_the_library_s() {
+    let (mut room, mut data) = (vec![0; 8 * 65_536 + 4096], [0; 16]);
+    let scratch = aligned_part(&mut room, 4096);
+    for row in 0..Settings::ROWS.len() {
+        let by_row = Dock::open_row(row, 65_536, &mut data, scratch).unwrap().words.copied();
+        let settings = Settings::of_row(row, 65_536).unwrap();
+        assert!(by_row == Dock::open(&settings, &mut data, scratch).unwrap().words.copied(), "{row}");
+    }
+    assert_eq!(Settings::of_row(6, 65_536), None);
+    assert_eq!(Dock::open_row(6, 65_536, &mut data, scratch).err(), Some(Refusal::Unfit));
+}
+
+#[test]
 fn scratch_must_start_at_a_multiple_of_the_memory_alignment() {
     let mut room = vec![0; 8 * 12288 + 2 * 4096];
     let scratch = aligned_part(&mut room, 4096);

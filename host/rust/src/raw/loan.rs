@@ -32,17 +32,17 @@ impl Loan<'_> {
     }
 
     /// The bytes of a read, to be filled.
-    pub fn to_fill(&mut self) -> &mut [u8] {
+    pub fn bytes_to_fill(&mut self) -> &mut [u8] {
         assert!(self.request.kind == Kind::Read, "only a read's bytes are filled");
-        // SAFETY: the piece is a part of a buffer that is borrowed for 'buf, and while it is out nobody else touches its
-        // bytes, as the head of raw.rs says. `self` is borrowed alone for as long as they are used.
+        // SAFETY: the piece is a part of a buffer that is borrowed for 'buf, and while it is out nobody else touches
+        // its bytes, as the head of raw.rs says. `self` is borrowed alone for as long as they are used.
         unsafe { slice::from_raw_parts_mut(self.piece.0, self.piece.1) }
     }
 
     /// The bytes of a write, to be taken.
-    pub fn to_take(&self) -> &[u8] {
-        // SAFETY: the piece is a part of a buffer that is borrowed for 'buf, and while it is out nobody else changes its
-        // bytes, as the head of raw.rs says; to_fill, which could, borrows `self` alone.
+    pub fn bytes_to_take(&self) -> &[u8] {
+        // SAFETY: the piece is a part of a buffer that is borrowed for 'buf, and while it is out nobody else changes
+        // its bytes, as the head of raw.rs says; bytes_to_fill, which could, borrows `self` alone.
         unsafe { slice::from_raw_parts(self.piece.0, self.piece.1) }
     }
 }

@@ -26,8 +26,8 @@ pub(super) trait Crew<'buf> {
 pub(super) fn carry<S: Store + ?Sized>(loan: &mut Loan<'_>, store: &S) -> Code {
     let request = loan.request();
     match request.kind {
-        Kind::Read => store.read(request.offset, &mut [IoSliceMut::new(loan.to_fill())]),
-        Kind::Write => store.write(request.offset, &[IoSlice::new(loan.to_take())]),
+        Kind::Read => store.read(request.offset, &mut [IoSliceMut::new(loan.bytes_to_fill())]),
+        Kind::Write => store.write(request.offset, &[IoSlice::new(loan.bytes_to_take())]),
         Kind::Zero => store.zero(request.offset, request.length),
         Kind::AllocatedZero => store.allocated_zero(request.offset, request.length),
         Kind::Discard => store.discard(request.offset, request.length),

@@ -4,8 +4,8 @@ use super::source::{Ended, Job, Next, Source};
 use crate::answer::Kind;
 use std::collections::VecDeque;
 
-/// A list of jobs, and after a run how each has ended. Its jobs have the numbers 0, 1, .. in the order in which they were
-/// added. It is run once, and takes no more jobs afterwards.
+/// A list of jobs, and after a run how each has ended. Its jobs have the numbers 0, 1, .. in the order in which they
+/// were added. It is run once, and takes no more jobs afterwards.
 #[derive(Clone, Debug, Default)]
 pub struct JobList {
     left: VecDeque<Next>,

@@ -6,8 +6,8 @@ use crate::code::Code;
 use crate::refusal::Refusal;
 use std::fmt;
 
-/// A job: what to do with a byte range of the store. A job of kind [`Kind::Zero`] or [`Kind::AllocatedZero`] makes the whole range zeroes,
-/// one of kind [`Kind::Discard`] forgets the whole discard blocks within it.
+/// A job: what to do with a byte range of the store. A job of kind [`Kind::Zero`] or [`Kind::AllocatedZero`] makes the
+/// whole range zeroes, one of kind [`Kind::Discard`] forgets the whole discard blocks within it.
 #[derive(Clone, Copy, Debug, PartialEq, Eq)]
 pub struct Job {
     /// What to do.
@@ -18,7 +18,7 @@ pub struct Job {
     pub length: u64,
 }
 
-/// What a source says when it is asked for a job.
+/// What a source says when it is asked for a job. One that never says [`Next::End`] is asked forever.
 #[derive(Clone, Copy, Debug, PartialEq, Eq)]
 pub enum Next {
     /// This one.
@@ -75,10 +75,12 @@ pub trait Source {
     /// The next job, or that there is none now. Asked whenever a slot is free.
     fn next(&mut self) -> Next;
 
-    /// Puts the bytes of a write into `bytes`, which has the job's length. Called once for each write that is not too long, before it is begun.
+    /// Puts the bytes of a write into `bytes`, which has the job's length. Called once for each write that is not too
+    /// long, before it is begun.
     fn fill(&mut self, number: u64, job: &Job, bytes: &mut [u8]);
 
-    /// A job has ended, or was refused when it was to begin. `bytes` are those of a read that is answered [`Answer::Done`], otherwise none.
+    /// A job has ended, or was refused when it was to begin. `bytes` are those of a read that is answered
+    /// [`Answer::Done`], otherwise none.
     fn ended(&mut self, ended: &Ended, bytes: &[u8]);
 
     /// A job has begun, in this slot. One without a request to make takes none, and only its end is told.

@@ -297,9 +297,12 @@ fn after_a_failure_the_source_stops_and_what_is_in_flight_is_finished() {
         let mut script = Script { stops: true, ..Script::new((0..100).map(|i| write(512 * i, 512))) };
         with_runner(|runner| run(runner, workers, &mut script, &FailsOnce(Mutex::new(3))));
         let ends = script.ends();
-        let begun = script.seen.iter().filter(|seen| matches!(seen, Seen::Begun(..))).count();
-        assert_eq!((ends.len(), ends.iter().filter(|(_, outcome)| *outcome == Ok(5)).count()), (begun, 1));
-        assert!((8..30).contains(&begun), "{begun}");
+        let begins = |seen: &[Seen]| seen.iter().filter(|seen| matches!(seen, Seen::Begun(..))).count();
+        let failed: Vec<_> = ends.iter().filter(|(_, outcome)| *outcome == Ok(5)).collect();
+        assert_eq!((ends.len(), failed.len()), (begins(&script.seen), 1));
+        let at = script.seen.iter().position(|seen| matches!(seen, Seen::Ended(_, Ok(5)))).unwrap();
+        assert_eq!(begins(&script.seen[at..]), 0);
+        assert!(workers > 1 || ends.len() == 8 + 3, "three jobs were done before, and their slots taken again");
     }
 }
 

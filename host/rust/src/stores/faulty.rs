@@ -43,10 +43,10 @@ pub struct Carried {
 /// What is called with each request that was carried out, and all bytes of the store after it.
 pub type Watcher = Box<dyn Fn(&Carried, &[u8]) + Send + Sync>;
 
-/// A store in memory that fails, delays and tears as a seed says, for tests. It does whatever document 01 lets a store do:
-/// of a failed or unsupported write or zero request each byte of its range is old or new, a failed read leaves junk, a
-/// discard leaves junk whatever its code. Each request is carried out at one time, while no other is, so that a [`Watcher`]
-/// can follow.
+/// A store in memory that fails, delays and tears as a seed says, for tests. It does what document 01 lets a store do,
+/// but for "unsupported" to reads and writes: of a failed or unsupported write or zero request each byte of its range
+/// is old or new, a failed read leaves junk, a discard leaves junk whatever its code. Each request is carried out at
+/// one time, while no other is, so that a [`Watcher`] can follow.
 pub struct FaultyStore {
     inner: Mutex<Inner>,
     faults: Faults,
@@ -103,7 +103,8 @@ impl FaultyStore {
         }
     }
 
-    /// Carries out a request by `act`, which is given the bytes, the code and the store's choice, and may fail for itself.
+    /// Carries out a request by `act`, which is given the bytes, the code and the store's choice, and may fail for
+    /// itself.
     fn carry(&self, mut carried: Carried, act: impl FnOnce(&mut Vec<u8>, Code, u64) -> Code) -> Code {
         self.wait();
         let mut inner = self.lock();
@@ -197,3 +198,6 @@ impl Store for FaultyStore {
         })
     }
 }
+
+#[cfg(test)]
+mod tests;

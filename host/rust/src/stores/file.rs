@@ -6,8 +6,8 @@ use std::fs::File;
 use std::io::{self, ErrorKind, IoSlice, IoSliceMut};
 use std::os::unix::fs::FileExt;
 
-/// A file. A short read or write is continued, an interrupted one tried again; reads past the end give zeroes, writes past
-/// it lengthen the file. Zeroes and discards are unsupported: the standard library has no call for them.
+/// A file. A short read or write is continued, an interrupted one tried again; reads past the end give zeroes, writes
+/// past it lengthen the file. Zeroes and discards are unsupported: the standard library has no call for them.
 #[derive(Debug)]
 pub struct FileStore {
     file: File,

@@ -8,8 +8,8 @@ use std::sync::{Mutex, MutexGuard, PoisonError};
 const EFBIG: u8 = 27;
 const ENOSPC: u8 = 28;
 
-/// A store in memory. Reads past its end give zeroes, writes past it lengthen it, as far as there is memory. It can zero,
-/// and a discard makes zeroes too; neither lengthens it.
+/// A store in memory. Reads past its end give zeroes, writes past it lengthen it, as far as there is memory. It can
+/// zero, and a discard makes zeroes too; neither lengthens it.
 #[derive(Debug, Default)]
 pub struct MemoryStore {
     bytes: Mutex<Vec<u8>>,

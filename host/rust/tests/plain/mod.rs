@@ -45,6 +45,8 @@ pub struct Plain {
     places: Places,
     bytes: Vec<u8>,
     flights: [Option<Flight>; SLOTS],
+    /// The requests that were carried out and not told yet.
+    pub untold: Vec<Carried>,
 }
 
 fn usizes(range: &Range<u64>) -> Range<usize> {
@@ -56,7 +58,7 @@ impl Plain {
     pub fn new(settings: Settings, places: Places, content: &[u8], length: usize) -> Plain {
         let mut bytes = content.to_vec();
         bytes.resize(length, 0);
-        Plain { settings, places, bytes, flights: [const { None }; SLOTS] }
+        Plain { settings, places, bytes, flights: [const { None }; SLOTS], untold: Vec::new() }
     }
 
     /// A job got a slot. `bytes` are a write's.
@@ -66,8 +68,15 @@ impl Plain {
         assert!(before.is_none(), "slot {slot} was taken");
     }
 
-    /// A request was told this code: it is the one that is out by the rules.
+    /// A request was told this code: it is the one that is out by the rules, it was carried out, and the code is its own.
     pub fn tell(&mut self, slot: usize, request: (Kind, Range<u64>), code: Code) {
+        let (kind, range) = &request;
+        let is_it = |c: &Carried| {
+            let same = (c.kind, c.offset, c.offset + c.length, c.code) == (*kind, range.start, range.end, code);
+            same && (c.address == 0 || self.places.slot(c.address) == slot)
+        };
+        let at = self.untold.iter().position(is_it);
+        self.untold.swap_remove(at.expect("a code of a request that was carried out"));
         let plan = &mut self.flights[slot].as_mut().expect("a job in flight").plan;
         assert_eq!(request, plan.request(), "the request of slot {slot}");
         plan.tell(code);
@@ -79,10 +88,11 @@ impl Plain {
         (flight.plan.answer.expect("the job has ended by the rules"), flight.bytes)
     }
 
-    /// A request was carried out: the step of the plain byte store. `store` has the real store's bytes after it, from which
-    /// its choices are taken: each byte of a failed request is old or new.
+    /// A request was carried out: the step of the plain byte store. `store` has the real store's bytes after it, from
+    /// which its choices are taken: each byte of a failed request is old or new.
     pub fn carry(&mut self, carried: &Carried, store: &[u8]) {
         let range = carried.offset..carried.offset + carried.length;
+        self.untold.push(*carried);
         match carried.kind {
             Kind::Read | Kind::Write => self.move_bytes(carried, &range, store),
             Kind::Zero | Kind::AllocatedZero => {

@@ -48,8 +48,8 @@ pub fn longer(settings: &Settings) -> u64 {
     settings.mem.max(settings.req)
 }
 
-/// "If H + T equals the padded length: one read of all. Otherwise a read of the first H bytes if H > 0, then of the last T
-/// if T > 0."
+/// "If H + T equals the padded length: one read of all. Otherwise a read of the first H bytes if H > 0, then of the
+/// last T if T > 0."
 fn reads(settings: &Settings, asked: &Range<u64>, padded: &Range<u64>) -> Vec<Range<u64>> {
     let head = up(asked.start - padded.start, longer(settings));
     let tail = up(padded.end - asked.end, longer(settings));
