@@ -61,8 +61,8 @@ pub fn run(command: Command, is_stdin_closed: bool) -> Outcome<()> {
         }
         Command::Discard { range, manner } => changing("discard", Verb::Discard, range, manner)?,
         Command::Fleet { image, script, manner } => {
-            let script = input::script(&script, is_stdin_closed)?;
-            let entries = script.entries.clone();
+            let mut script = input::script(&script, is_stdin_closed)?;
+            let entries = std::mem::take(&mut script.entries);
             Asked {
                 command: "fleet",
                 image,

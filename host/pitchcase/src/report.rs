@@ -290,7 +290,7 @@ fn row_text(offset: u64, row: &[u8]) -> String {
         text.push(DIGITS[usize::from(byte & 15)].into());
         text.push(' ');
     }
-    text.extend(std::iter::repeat(' ').take(3 * (ROW - row.len())));
+    text.extend(std::iter::repeat_n(' ', 3 * (ROW - row.len())));
     text.push_str(" |");
     text.extend(row.iter().map(|&b| if (b' '..=b'~').contains(&b) { char::from(b) } else { '.' }));
     text.push_str("|\n");

@@ -200,10 +200,10 @@ pub fn held_lock(file: &File) -> io::Result<Held> {
 /// gets its number.
 pub fn fill_descriptors() -> io::Result<[bool; 3]> {
     let mut closed = [false; 3];
-    for descriptor in 0..3 {
+    for (descriptor, is_closed) in closed.iter_mut().enumerate() {
         // SAFETY: the call takes numbers alone.
-        closed[descriptor] = unsafe { libc::fcntl(descriptor as RawFd, libc::F_GETFD) } < 0;
-        if closed[descriptor] {
+        *is_closed = unsafe { libc::fcntl(descriptor as RawFd, libc::F_GETFD) } < 0;
+        if *is_closed {
             // SAFETY: the path is a string that ends. Open gives the lowest number that is free, which is this one.
             checked(unsafe { libc::open(c"/dev/null".as_ptr(), libc::O_RDWR) })?;
         }

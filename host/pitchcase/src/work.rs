@@ -189,7 +189,11 @@ impl<'a> Work<'a> {
         if job.verb == Verb::Write && matches!(self.bytes, Bytes::File(..)) {
             self.ready.resize(part.length as usize, 0);
             if let Err(error) = self.bytes.put(digits, self.from, &mut self.ready) {
-                self.failure = Some(format!("--from: {}", reason(&error)));
+                let why = match error.kind() {
+                    io::ErrorKind::UnexpectedEof => "the file has become shorter".into(),
+                    _ => reason(&error),
+                };
+                self.failure = Some(format!("--from: {why}"));
                 return Next::End;
             }
         }
@@ -263,14 +267,15 @@ impl<'a> Work<'a> {
         if self.is_ordered() {
             self.report.end_bytes();
         }
+        let report = &mut *self.report;
         match open.failure {
             None => {
                 self.states[open.entry] = State::Done;
-                self.report.ended(job, Ok(()), 0, open.tally, is_told);
+                self.progress.aside(|| report.ended(job, Ok(()), 0, open.tally, is_told));
             }
             Some((number, why)) => {
                 self.states[open.entry] = State::Failed;
-                self.report.ended(job, Err(&why), number, open.tally, true);
+                self.progress.aside(|| report.ended(job, Err(&why), number, open.tally, true));
                 self.failure.get_or_insert_with(|| format!("{}: {why}", job_text(job)));
             }
         }
