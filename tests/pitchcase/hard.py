@@ -9,6 +9,7 @@ import os
 import pty
 import random
 import resource
+import shutil
 import signal
 import subprocess
 import sys
@@ -159,7 +160,8 @@ def locks():
     slow = {"FAULT_DELAY_US": "700000"}
 
     def hold(*words):
-        process = subprocess.Popen([PROGRAM, *words], env=dict(os.environ, LD_PRELOAD=FAULTS, **slow), stdout=subprocess.DEVNULL)
+        process = subprocess.Popen([PROGRAM, *words], env=dict(os.environ, LD_PRELOAD=FAULTS, **slow), stdout=subprocess.DEVNULL,
+                                   stderr=subprocess.DEVNULL)
         deadline = time.monotonic() + 20
         while b"lock:       free" in pitchcase("info", "image").stdout:
             check(time.monotonic() < deadline, "no lock was taken in 20 seconds")
@@ -181,6 +183,68 @@ def locks():
     check(b"either's edits may be lost" in ran.stderr, ran.stderr)
     check(changer.wait() == 0, "the one who changes")
     check(b"free" in pitchcase("info", "image").stdout, "a lock is left")
+
+
+def peers_lock():
+    """An image that qemu has open is seen to be in use, and the other way round."""
+    if not shutil.which("qemu-io"):
+        return "no qemu-io: left out"
+    write("image", bytes(65536))
+    holder = subprocess.Popen(["qemu-io", "-f", "raw", "-c", "sleep 2500", "image"], stdout=subprocess.DEVNULL)
+    deadline = time.monotonic() + 20
+    while b"lock:       free" in pitchcase("info", "image").stdout:
+        check(time.monotonic() < deadline and holder.poll() is None, "qemu-io took no lock")
+        time.sleep(0.01)
+    ran = pitchcase("edit", "image", 0, "--hex", "aa", status=2)
+    check(b"another process has it open under a lock" in ran.stderr, ran.stderr)
+    holder.wait()
+    pitchcase("edit", "image", 0, "--hex", "aa")
+    return None
+
+
+def direct_files():
+    """Past the system's cache: any range, any row that is aligned enough; an image of an odd length is refused."""
+    rng = random.Random(23)
+    plain = bytearray(random_bytes(rng, 1 << 18))
+    write("image", bytes(plain))
+    try:
+        os.close(os.open("image", os.O_RDONLY | os.O_DIRECT))
+    except OSError:
+        ran = pitchcase("look", "image", 0, 1, "--direct", status=2)
+        check(b"its file system takes no --direct" in ran.stderr, ran.stderr)
+        return "this file system takes none: refused"
+    align = json.loads(pitchcase("info", "image", "--direct", "--json").stdout)["align"]
+    for n in range(30):
+        at = rng.randrange(len(plain))
+        new = random_bytes(rng, min(rng.choice((1, 10, 512, 5000, 70000)), len(plain) - at))
+        options = rng.choice(((), ("--drive", 3), ("--out", 1), ("--share", "16K")))
+        write("bytes", new)
+        pitchcase("edit", "image", at, "--from", "bytes", "--direct", *options)
+        plain[at:at + len(new)] = new
+        check(read("image") == plain, "a direct edit", n, "at", at, options)
+        check(pitchcase("look", "image", at, len(new), "--raw", "--direct", *options).stdout == new, "a direct look", n)
+    for words in (("--drive", 0), ("--align", "1,512,512,512")):
+        ran = pitchcase("edit", "image", 0, "--hex", "aa", "--direct", *words, status=2 if align[0] > 1 else (0, 2))
+        check(ran.returncode == 0 or b"--direct: needs alignments" in ran.stderr, ran.stderr)
+    os.truncate("image", (1 << 18) - 1)
+    ran = pitchcase("edit", "image", 0, "--hex", "aa", "--direct", status=2)
+    check(b"is no multiple of its block" in ran.stderr, ran.stderr)
+    return None
+
+
+def odd_words():
+    """Names and text that are no UTF-8, and names with blanks, tabs and line ends: a refusal stays one line."""
+    name = b"an image\n\t\xff"
+    write(name, IMAGE)
+    for words in ((b"edit", name, b"0", b"--text", b"\xff\x80x"), (b"look", name, b"0", b"3"), (b"info", name)):
+        ran = subprocess.run([PROGRAM, *words], stdout=subprocess.PIPE, stderr=subprocess.PIPE)
+        check(ran.returncode == 0, words, ran.stderr)
+    check(read(name) == b"\xff\x80x" + IMAGE[3:], "a text that is no UTF-8")
+    for words in ((b"look", b"no\nsuch\xff", b"0", b"1"), (b"look", name, b"0\n1", b"1"), (b"lo\nok",), (b"look", name, b"0", b"1", b"--a\nb"),
+                  (b"look", name, b"0", b"1", b"\xff\n"), (b"fleet", name, b"no\nsuch"), (b"edit", name, b"0", b"--from", b"no\nsuch")):
+        ran = subprocess.run([PROGRAM, *words], stdout=subprocess.PIPE, stderr=subprocess.PIPE)
+        check(ran.returncode == 2 and ran.stderr.count(b"\n") == 1 and ran.stderr.endswith(b"\n"), words, ran.stderr)
+    os.unlink(name)
 
 
 # --- Runs that end early ---
@@ -632,6 +696,8 @@ TESTS = (
     ("a reader who goes away", output_that_ends, False),
     ("two processes on one image", two_processes, False),
     ("locks", locks, True),
+    ("qemu's lock", peers_lock, False),
+    ("names and texts of any bytes", odd_words, False),
     ("kill -9 in the middle of a fleet", killed, False),
     ("interrupted fleets", interrupted, True),
     ("interrupted twice", interrupted_twice, True),
@@ -643,6 +709,7 @@ TESTS = (
     ("a full disk", full_disk, False),
     ("images of 0, 1 and 2^32 + 1 bytes", sizes, False),
     ("random fleets", random_fleets, False),
+    ("--direct", direct_files, False),
     ("loop devices", devices, False),
     ("JSON", json_lines, False),
     ("progress", progress, True),

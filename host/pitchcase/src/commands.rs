@@ -9,7 +9,7 @@ use crate::out::say;
 use crate::report::{job_text, Report, Told};
 use crate::script::{Entry, Verb};
 use crate::system;
-use crate::trouble::{failed, reason, refusal_text, refused, Outcome, Trouble};
+use crate::trouble::{failed, name_of, reason, refusal_text, refused, Outcome, Trouble};
 use crate::work::{Bytes, End, Print, Work};
 use pitch_dock::{Room, Runner, Settings, Tally, SLOTS};
 use serde_json::json;
@@ -286,7 +286,7 @@ fn run_jobs(asked: &Asked, session: &Session, runner: &mut Runner<'_>) -> Outcom
 fn announce(asked: &Asked, session: &Session, report: &mut Report) {
     let count = jobs(&asked.entries).count();
     let text = match asked.command {
-        "fleet" => Some(format!("fleet {}: {count} job{}", asked.image.display(), if count == 1 { "" } else { "s" })),
+        "fleet" => Some(format!("fleet {}: {count} job{}", name_of(&asked.image), if count == 1 { "" } else { "s" })),
         "zero" | "discard" if !session.plan => {
             jobs(&asked.entries).next().map(|job| format!("{}: begun", job_text(job)))
         }
@@ -353,7 +353,7 @@ fn info(path: &Path, direct: bool, json: bool) -> Outcome<()> {
         report.object("info", fields);
     } else {
         let row = row.map_or("none".into(), |row| row.to_string());
-        report.out.line(&format!("image:      {}", path.display()));
+        report.out.line(&format!("image:      {}", name_of(path)));
         report.out.line(&format!("kind:       {}", image.kind.word()));
         report.out.line(&format!("size:       {} bytes", both(image.size)));
         if image.kind == Kind::File {

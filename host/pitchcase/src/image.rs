@@ -1,7 +1,7 @@
 //! The image: opened, locked, and what is found of it.
 
 use crate::system::{self, Held};
-use crate::trouble::{reason, refused, Outcome};
+use crate::trouble::{name_of, reason, refused, Outcome};
 use std::fs::{File, Metadata, OpenOptions};
 use std::io::{Seek, SeekFrom};
 use std::os::unix::fs::{FileTypeExt, MetadataExt, OpenOptionsExt};
@@ -70,7 +70,7 @@ impl Kind {
 
 /// Opens an image. What it is, is seen before it is opened, since opening can set a device going, and again after it.
 pub fn open(path: &Path, access: Access) -> Outcome<Image> {
-    let name = path.display();
+    let name = name_of(path);
     let unopened = |error: std::io::Error| refused(format!("IMAGE {name}: {}", reason(&error)));
     let unfit = || refused(format!("IMAGE {name}: neither a regular file nor a block device"));
     let before = match std::fs::metadata(path) {
@@ -80,7 +80,7 @@ pub fn open(path: &Path, access: Access) -> Outcome<Image> {
     let Some(kind) = Kind::of(&before) else { return unfit() };
     let file = match options(kind, access).open(path) {
         Ok(file) => file,
-        Err(error) => return unopened_with(&name.to_string(), kind, access, &error),
+        Err(error) => return unopened_with(&name, kind, access, &error),
     };
     let metadata = match file.metadata() {
         Ok(metadata) => metadata,
@@ -90,7 +90,7 @@ pub fn open(path: &Path, access: Access) -> Outcome<Image> {
         return unfit();
     }
     if access.lock {
-        lock(&file, &name.to_string(), access.change)?;
+        lock(&file, &name, access.change)?;
     }
     let size = match (&file).seek(SeekFrom::End(0)) {
         Ok(size) => size,

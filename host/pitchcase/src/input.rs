@@ -3,7 +3,7 @@
 use crate::options::{hex, BytesWords};
 use crate::script::Script;
 use crate::system;
-use crate::trouble::{reason, refused, Outcome, Trouble};
+use crate::trouble::{name_of, reason, refused, Outcome, Trouble};
 use crate::work::Bytes;
 use std::fs::File;
 use std::io::{self, Read, Seek};
@@ -29,7 +29,7 @@ pub struct EditBytes {
 
 /// Opens a file, or takes standard input for `-`.
 fn open(name: &str, path: &Path, is_stdin_closed: bool) -> Outcome<File> {
-    let unopened = |error: io::Error| refused(format!("{name} {}: {}", path.display(), reason(&error)));
+    let unopened = |error: io::Error| refused(format!("{name} {}: {}", name_of(path), reason(&error)));
     if path != Path::new("-") {
         return File::open(path).or_else(unopened);
     }
@@ -41,7 +41,7 @@ fn open(name: &str, path: &Path, is_stdin_closed: bool) -> Outcome<File> {
 
 /// Reads a file to its end.
 fn read_whole(name: &str, path: &Path, mut file: File) -> Outcome<Vec<u8>> {
-    let too_long = || refused(format!("{name} {}: {MOST_TEXT}", path.display()));
+    let too_long = || refused(format!("{name} {}: {MOST_TEXT}", name_of(path)));
     if file.metadata().is_ok_and(|metadata| metadata.is_file() && metadata.len() > MOST) {
         return too_long();
     }
@@ -57,7 +57,7 @@ fn read_whole(name: &str, path: &Path, mut file: File) -> Outcome<Vec<u8>> {
                     return Err(Trouble::Interrupted("nothing was begun".into()));
                 }
             }
-            Err(error) => return refused(format!("{name} {}: {}", path.display(), reason(&error))),
+            Err(error) => return refused(format!("{name} {}: {}", name_of(path), reason(&error))),
         }
     }
 }
@@ -87,7 +87,7 @@ pub fn edit_bytes(words: &BytesWords, is_stdin_closed: bool) -> Outcome<EditByte
 /// are read now.
 fn file_bytes(path: &Path, is_stdin_closed: bool) -> Outcome<EditBytes> {
     let mut file = open("--from", path, is_stdin_closed)?;
-    let unread = |error: io::Error| refused(format!("--from {}: {}", path.display(), reason(&error)));
+    let unread = |error: io::Error| refused(format!("--from {}: {}", name_of(path), reason(&error)));
     let metadata = match file.metadata() {
         Ok(metadata) => metadata,
         Err(error) => return unread(error),

@@ -3,6 +3,7 @@
 use pitch_dock::Refusal;
 use std::fmt;
 use std::io;
+use std::path::Path;
 
 /// Why a run ends other than well. Its text is one line.
 #[derive(Debug, PartialEq, Eq)]
@@ -49,6 +50,18 @@ pub fn failed<T>(why: impl Into<String>) -> Outcome<T> {
     Err(Trouble::Failed(why.into()))
 }
 
+/// A path as it is printed: on one line, whatever bytes it has.
+pub fn name_of(path: &Path) -> String {
+    let mut name = String::new();
+    for letter in path.to_string_lossy().chars() {
+        match letter.is_control() {
+            true => name.extend(letter.escape_default()),
+            false => name.push(letter),
+        }
+    }
+    name
+}
+
 /// What the system says of an error, in small letters and with its number where it has one: `no space left on device
 /// (28)`.
 pub fn reason(error: &io::Error) -> String {
@@ -89,6 +102,11 @@ mod tests {
         assert_eq!(refused::<()>("x").unwrap_err().status(), 2);
         assert_eq!(failed::<()>("x").unwrap_err().status(), 1);
         assert_eq!(Trouble::Interrupted("x".into()).status(), 130);
+    }
+
+    #[test]
+    fn a_name_is_one_line() {
+        assert_eq!(name_of(Path::new("an 'image'\n\t\u{e9}")), "an 'image'\\n\\t\u{e9}");
     }
 
     #[test]
