@@ -10,7 +10,6 @@ import nbd
 SIZE = 256 * 1024
 LONGEST = 20000  # of one edit
 LONGEST_SHARE = 65536
-LONGEST_FLEET = 200000  # bytes that the writes of a fleet have together, so that its script stays below 524288 bytes
 # Drive rows: alignments of memory, requests, zero requests and discards.
 ROWS = {1: (1, 512, 512, 512), 2: (512, 512, 4096, 4096), 3: (4096, 4096, 4096, 65536), 4: (4096, 512, 512, 512)}
 ROWS_OF = {512: (1, 2, 4), 4096: (3,)}
@@ -36,6 +35,12 @@ class Edit:
     # the line of a script
     def line(self):
         return "%s %d %s" % (self.kind, self.offset, self.data.hex() if self.kind == "write" else self.length)
+
+    # the command line
+    def command(self, image):
+        if self.kind == "write":
+            return ["edit", image, str(self.offset), "--hex", self.data.hex()]
+        return ["zero", image, str(self.offset), str(self.length)] + (["--alloc"] if self.kind == "alloc" else [])
 
     def shown(self):
         line = self.line()
@@ -117,32 +122,28 @@ def drawn_fleet(rng, most):
     while True:
         count = rng.randint(2, 16)
         edits = (drawn_cluster if rng.random() < 0.85 else drawn_scatter)(rng, count, most)
-        if len(edits) >= 2 and sum(e.length for e in edits if e.kind == "write") <= LONGEST_FLEET:
+        if len(edits) >= 2:
             rng.shuffle(edits)
             return edits
 
 
-# Shares that the row takes and that hold the blocks of each write: a multiple of L from 2Z + 2L on.
-def drawn_share(rng, row, edits):
+# Shares that the row takes: a multiple of L from 2Z + 2L on. Writes that are longer are cut into several.
+def drawn_share(rng, row):
     mem, req, zero, _ = ROWS[row]
     l = max(mem, req)
-    padded = [up(up(e.end(), req) - down(e.offset, req), l) for e in edits if e.kind == "write"]
-    least = up(max([2 * zero + 2 * l] + padded), l)
+    least = up(2 * zero + 2 * l, l)
     return rng.choice((least, least, LONGEST_SHARE, rng.randrange(least, LONGEST_SHARE + 1, l)))
 
 
 class Round:
     def __init__(self, rng, block):
         self.row = rng.choice(ROWS_OF[block])
-        mem, req, _, _ = ROWS[self.row]
-        # a padded write in blocks of `mem` bytes, from a multiple of `req` on, is to end inside the image
-        most = SIZE - max(mem - req, 0)
         self.fleet = rng.random() < 0.5
-        self.edits = drawn_fleet(rng, most) if self.fleet else [Edit(drawn_kind(rng), *drawn_range(rng, most), rng)]
-        self.by_script = self.fleet or self.edits[0].kind != "write" or rng.random() < 0.3
-        share = drawn_share(rng, self.row, self.edits)
-        order = rng.choice(("first", "round", str(rng.getrandbits(64))))
-        self.options = ["--drive", str(self.row), "--share", str(share), "--order", order]
+        self.edits = drawn_fleet(rng, SIZE) if self.fleet else [Edit(drawn_kind(rng), *drawn_range(rng, SIZE), rng)]
+        self.by_script = self.fleet or rng.random() < 0.3
+        orders = ("--order", "first"), ("--order", "round"), ("--order", str(rng.getrandbits(64)))
+        turns = rng.choice((*orders, ("--out", str(rng.randint(1, 8)))))
+        self.options = ["--drive", str(self.row), "--share", str(drawn_share(rng, self.row)), *turns]
 
 
 # --- The three ---
@@ -157,11 +158,11 @@ def run(words):
         r = subprocess.run(words, stdin=subprocess.DEVNULL, stdout=subprocess.PIPE, stderr=subprocess.STDOUT, timeout=120)
     except subprocess.TimeoutExpired:
         raise Failed("%s did not end in 120 seconds" % words[0])
-    return r.stdout.decode(errors="replace")
+    return r.returncode, r.stdout.decode(errors="replace")
 
 
-class Case:
-    name = "case"
+class Pitchcase:
+    name = "pitchcase"
 
     def __init__(self, program, image, folder, block):
         self.program, self.image, self.script = os.path.abspath(program), image, os.path.join(folder, "script")
@@ -172,11 +173,10 @@ class Case:
                 f.write("".join(e.line() + "\n" for e in r.edits))
             words = [self.program, "fleet", self.image, self.script]
         else:
-            e = r.edits[0]
-            words = [self.program, "edit", self.image, str(e.offset), e.data.hex()]
-        out = run(words + r.options).splitlines()
-        if not out or out[-1] != "ok":
-            raise Failed("case ended with: %s" % (out[-1] if out else "no output"))
+            words = [self.program, *r.edits[0].command(self.image)]
+        status, out = run(words + r.options)
+        if status != 0:
+            raise Failed("pitchcase ended with %d: %s" % (status, out[-300:]))
 
     def close(self):
         pass
@@ -201,7 +201,7 @@ class Qemu:
                 words += ["-c", "write -s %s %d %d" % (path, e.offset, e.length)]
             else:
                 words += ["-c", "write -z %d %d" % (e.offset, e.length)]
-        out = run(words)
+        _, out = run(words)
         done = [l for l in out.splitlines() if l.startswith("wrote ")]
         if done != ["wrote %d/%d bytes at offset %d" % (e.length, e.length, e.offset) for e in r.edits]:
             raise Failed("qemu-io: %s" % out)
@@ -251,7 +251,7 @@ def byte_at(s, at):
 # What is printed of a round that fails.
 def show(what, n, r, block, seed, why):
     print(what + ": block size %d, round %d, seed %s: %s" % (block, n, seed, why))
-    print("  case %s %s" % ("fleet" if r.by_script else "edit", " ".join(r.options)))
+    print("  pitchcase %s %s" % ("fleet" if r.by_script else "with one edit", " ".join(r.options)))
     for e in r.edits:
         print("  " + e.shown())
 
@@ -275,11 +275,11 @@ def compare(program, folder, block, edits, seed):
     rng = random.Random("%s/%d" % (seed, block))
     image = rng.getrandbits(8 * SIZE).to_bytes(SIZE, "little")
     plain = bytearray(image)
-    paths = [os.path.join(folder, "%s%d.img" % (name, block)) for name in ("case", "qemu-io", "nbdkit")]
+    paths = [os.path.join(folder, "%s%d.img" % (name, block)) for name in ("pitchcase", "qemu-io", "nbdkit")]
     for p in paths:
         with open(p, "wb") as f:
             f.write(image)
-    three = [Case(program, paths[0], folder, block), Qemu(paths[1], folder, block), Nbdkit(paths[2], folder, block)]
+    three = [Pitchcase(program, paths[0], folder, block), Qemu(paths[1], folder, block), Nbdkit(paths[2], folder, block)]
     count = dict.fromkeys(KINDS, 0)
     singles = fleets = sharing = 0
     shown = time.monotonic()
@@ -315,7 +315,7 @@ def compare(program, folder, block, edits, seed):
 
 def main():
     program, folder, edits, seed = sys.argv[1], sys.argv[2], int(sys.argv[3]), sys.argv[4]
-    table = [["block size", *KINDS, "edits", "sharing a block", "single rounds", "fleet rounds", "case, qemu-io, nbdkit"]]
+    table = [["block size", *KINDS, "edits", "sharing a block", "single rounds", "fleet rounds", "pitchcase, qemu-io, nbdkit"]]
     for block in (512, 4096):
         try:
             row = compare(program, folder, block, edits, seed)

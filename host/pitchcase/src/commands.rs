@@ -1,0 +1,367 @@
+//! The commands: all is looked over, the image is opened, then jobs are run and told of.
+
+use crate::drive::{Drive, Planned};
+use crate::image::{self, Access, Image, Kind};
+use crate::input;
+use crate::numbers::{both, Range};
+use crate::options::{number, BytesWords, Command, Manner, Means, PlaceWords, RangeWords};
+use crate::out::say;
+use crate::report::{job_text, Report, Told};
+use crate::script::{Entry, Verb};
+use crate::system;
+use crate::trouble::{failed, name_of, reason, refusal_text, refused, Outcome, Trouble};
+use crate::work::{Bytes, End, Print, Work};
+use pitch_dock::{Room, Runner, Settings, Tally, SLOTS};
+use serde_json::json;
+use std::os::unix::fs::MetadataExt;
+use std::path::{Path, PathBuf};
+
+/// The share where it was not typed and fits.
+const USUAL_SHARE: u64 = 65536;
+/// No job reaches past this offset: a file has no byte past 2^63 - 1, and padding may add a block.
+const LAST_END: u64 = (1 << 63) - 65536;
+/// An edit that is longer shows only its first and last bytes.
+const SHOWN_WHOLE: u64 = 65536;
+/// How many of them.
+const SHOWN_ENDS: u64 = 64;
+
+/// What is to be done.
+struct Asked {
+    command: &'static str,
+    image: PathBuf,
+    entries: Vec<Entry>,
+    bytes: Bytes,
+    /// The file that bytes come from.
+    from: Option<input::Identity>,
+    print: Print,
+    manner: Manner,
+}
+
+/// An image that is open, and how its jobs are run.
+struct Session {
+    image: Image,
+    settings: Settings,
+    means: Means,
+    /// How many bytes the image has once it is lengthened.
+    end: u64,
+    plan: bool,
+    /// How many requests are out together.
+    out: usize,
+}
+
+/// Carries out a command.
+pub fn run(command: Command, is_stdin_closed: bool) -> Outcome<()> {
+    let asked = match command {
+        Command::Info { image, direct, json } => return info(&image, direct, json),
+        Command::Look { range, raw, manner } => look(range, raw, manner)?,
+        Command::Edit { place, bytes, manner } => edit(place, &bytes, manner, is_stdin_closed)?,
+        Command::Zero { range, alloc, manner } => {
+            let verb = if alloc { Verb::Alloc } else { Verb::Zero };
+            changing("zero", verb, range, manner)?
+        }
+        Command::Discard { range, manner } => changing("discard", Verb::Discard, range, manner)?,
+        Command::Fleet { image, script, manner } => {
+            let mut script = input::script(&script, is_stdin_closed)?;
+            let entries = std::mem::take(&mut script.entries);
+            Asked {
+                command: "fleet",
+                image,
+                entries,
+                bytes: Bytes::Script(script),
+                from: None,
+                print: Print::Lines,
+                manner,
+            }
+        }
+    };
+    carry_out(asked)
+}
+
+fn look(range: RangeWords, raw: bool, manner: Manner) -> Outcome<Asked> {
+    let print = if raw { Print::Raw } else { Print::Rows };
+    Ok(Asked { print, ..changing("look", Verb::Read, range, manner)? })
+}
+
+/// A command of one job without bytes.
+fn changing(command: &'static str, verb: Verb, range: RangeWords, manner: Manner) -> Outcome<Asked> {
+    let offset = number("OFFSET", &range.place.offset)?;
+    let length = number("LENGTH", &range.length)?;
+    let entries = vec![single(verb, Range { offset, length })];
+    let image = range.place.image;
+    Ok(Asked { command, image, entries, bytes: Bytes::None, from: None, print: Print::Rows, manner })
+}
+
+fn edit(place: PlaceWords, words: &BytesWords, manner: Manner, is_stdin_closed: bool) -> Outcome<Asked> {
+    let offset = number("OFFSET", &place.offset)?;
+    let edit = input::edit_bytes(words, is_stdin_closed)?;
+    let entries = vec![single(Verb::Write, Range { offset, length: edit.length })];
+    let (image, bytes, from) = (place.image, edit.bytes, edit.from);
+    Ok(Asked { command: "edit", image, entries, bytes, from, print: Print::Rows, manner })
+}
+
+fn single(verb: Verb, range: Range) -> Entry {
+    Entry::Job { verb, range, line: 0, digits: 0 }
+}
+
+/// The jobs of a list of entries.
+fn jobs(entries: &[Entry]) -> impl Iterator<Item = Told> + '_ {
+    entries.iter().filter_map(|entry| match *entry {
+        Entry::Job { verb, range, line, .. } => Some(Told { line, verb, range }),
+        Entry::Barrier => None,
+    })
+}
+
+impl Session {
+    /// Opens the image and looks every job over: after it nothing is refused any more.
+    fn open(asked: &Asked) -> Outcome<Session> {
+        let manner = &asked.manner;
+        let means = manner.means()?;
+        let is_change = jobs(&asked.entries).any(|job| job.verb.is_change()) && !manner.plan;
+        let lock = !manner.no_lock && !manner.plan;
+        let image = image::open(&asked.image, Access { change: is_change, direct: manner.direct, lock })?;
+        check_apart(asked, &image)?;
+        let end = end_after(&asked.entries, &image, manner.grow)?;
+        let settings = settings_of(&means, &image.found);
+        if manner.direct {
+            check_direct(&image, &settings, end)?;
+        }
+        let usual_out = if image.kind == Kind::Device || manner.direct { SLOTS } else { 1 };
+        let out = means.out.unwrap_or(if means.order.is_some() || manner.plan { 1 } else { usual_out });
+        Ok(Session { image, settings, means, end, plan: manner.plan, out })
+    }
+
+    /// Lengthens a file to the end of its jobs, before they begin.
+    fn grow(&self) -> Outcome<()> {
+        if self.end == self.image.size || self.plan {
+            return Ok(());
+        }
+        self.image.file.set_len(self.end).or_else(|error| failed(format!("--grow: {}", reason(&error))))
+    }
+
+    /// Runs entries to their end, on an image that has `size` bytes now.
+    fn run(&self, runner: &mut Runner<'_>, mut work: Work<'_>, size: u64) -> (End, Tally) {
+        let tally = if self.plan {
+            runner.run(&mut work, &Planned)
+        } else {
+            let drive = Drive::new(&self.image.file, self.image.kind, size);
+            match self.out {
+                1 => runner.run(&mut work, &drive),
+                out => runner.run_threads(out, &mut work, &drive),
+            }
+        };
+        (work.finish(), tally)
+    }
+
+    /// Shows a range, before or after an edit: of a long one the first bytes and the last.
+    fn show(&self, runner: &mut Runner<'_>, report: &mut Report, when: &str, range: Range) -> Outcome<()> {
+        report.heading(when);
+        let size = if when == "before" { self.image.size } else { self.end };
+        let last = Range { offset: range.offset + range.length.saturating_sub(SHOWN_ENDS), length: SHOWN_ENDS };
+        let ranges = match range.length {
+            0..=SHOWN_WHOLE => vec![range],
+            _ => vec![Range { length: SHOWN_ENDS, ..range }, last],
+        };
+        for range in ranges {
+            let entries = [single(Verb::Read, range)];
+            let longest = runner.longest();
+            let (end, _) = self.run(runner, Work::new(&entries, &Bytes::None, report, Print::Rows, longest), size);
+            if let Some(why) = end.failure {
+                return failed(why);
+            }
+        }
+        Ok(())
+    }
+}
+
+/// What is read and printed beside the image is another file than it.
+fn check_apart(asked: &Asked, image: &Image) -> Outcome<()> {
+    if asked.from == Some(image.identity) {
+        return refused("--from: names the image itself");
+    }
+    for (descriptor, name) in [(1, "standard output"), (2, "standard error")] {
+        let metadata = system::standing(descriptor).metadata();
+        if metadata.is_ok_and(|metadata| (metadata.dev(), metadata.ino()) == image.identity) {
+            return refused(format!("{name} goes to the image itself"));
+        }
+    }
+    Ok(())
+}
+
+/// The image's size after the jobs, each of which ends inside it unless it may grow. Reads and discards lengthen
+/// nothing.
+fn end_after(entries: &[Entry], image: &Image, grow: bool) -> Outcome<u64> {
+    let mut end = image.size;
+    for job in jobs(entries) {
+        let wrong = |why: String| refused(format!("{}: {why}", job_text(job)));
+        let Some(job_end) = job.range.end() else { return wrong("ends past 2^64 - 1 (207)".into()) };
+        if job_end > LAST_END {
+            return wrong("ends past 2^63 - 65536, where a file may have no bytes".into());
+        }
+        if job_end <= image.size {
+            continue;
+        }
+        if !grow {
+            return wrong(format!("ends past the image's end, {}; --grow goes past it", both(image.size)));
+        }
+        if image.kind == Kind::Device {
+            return wrong(format!("ends past the device's end, {}, and a device does not grow", both(image.size)));
+        }
+        if matches!(job.verb, Verb::Write | Verb::Zero | Verb::Alloc) {
+            end = end.max(job_end);
+        }
+    }
+    Ok(end)
+}
+
+/// Alignments as they were typed or found, and a share that fits them.
+fn settings_of(means: &Means, found: &[u64; 4]) -> Settings {
+    let [mem, req, zero, discard] = means.align.unwrap_or(*found);
+    let block = mem.max(req);
+    let least = zero.saturating_add(block).saturating_mul(2).checked_next_multiple_of(block).unwrap_or(0);
+    let bounce = means.share.unwrap_or(USUAL_SHARE.max(least));
+    Settings { mem, req, zero, discard, bounce }
+}
+
+/// Transfers past the cache are aligned as the system asks, and none can be cut at the image's end.
+fn check_direct(image: &Image, settings: &Settings, end: u64) -> Outcome<()> {
+    let [mem, req, ..] = image.found;
+    if settings.mem < mem || settings.req < req {
+        return refused(format!("--direct: needs alignments of memory and requests of at least {mem} and {req}"));
+    }
+    if end % req != 0 {
+        return refused(format!("--direct: the image's size, {}, is no multiple of its block, {req}", both(end)));
+    }
+    Ok(())
+}
+
+/// Opens the image and a runner for it, and runs the jobs. Nothing is refused after that.
+fn carry_out(asked: Asked) -> Outcome<()> {
+    let session = Session::open(&asked)?;
+    let settings = &session.settings;
+    let mut room = Room::new(settings, usize::try_from(settings.bounce).unwrap_or(0).min(1 << 20));
+    let (data, scratch) = room.parts();
+    let mut runner = match Runner::open(settings, data, scratch) {
+        Ok(runner) => runner,
+        Err(refusal) => {
+            let Settings { mem, req, zero, discard, bounce } = settings;
+            let typed = format!("--align {mem},{req},{zero},{discard} --share {bounce}");
+            return refused(format!("{typed}: {}", refusal_text(refusal)));
+        }
+    };
+    runner.set_order(session.means.order.unwrap_or_default());
+    if asked.manner.no_lock && !session.plan {
+        say("--no-lock: another process may change the image meanwhile, and either's edits may be lost");
+    }
+    run_jobs(&asked, &session, &mut runner)
+}
+
+/// Runs the jobs, and says what they came to. An edit shows its bytes before and after.
+fn run_jobs(asked: &Asked, session: &Session, runner: &mut Runner<'_>) -> Outcome<()> {
+    let mut report = Report::new(asked.manner.json, asked.manner.trace, session.plan);
+    announce(asked, session, &mut report);
+    let edited = match asked.command {
+        "edit" if !session.plan => jobs(&asked.entries).next().map(|job| job.range),
+        _ => None,
+    };
+    if let Some(range) = edited {
+        session.show(runner, &mut report, "before", range)?;
+    }
+    // From here on the image is changed: who would not hear of it is told now.
+    report.out.settle("nothing was begun")?;
+    if system::is_interrupted() {
+        return Err(Trouble::Interrupted("nothing was begun".into()));
+    }
+    session.grow()?;
+    let print = if session.plan { Print::Nothing } else { asked.print };
+    let work = Work::new(&asked.entries, &asked.bytes, &mut report, print, runner.longest());
+    let (end, tally) = session.run(runner, work, session.end);
+    let synced = sync(asked, session);
+    // After an edit that failed too, where each byte is old or new; that it cannot be shown then is no news.
+    let edited = edited.filter(|_| !system::is_interrupted());
+    let shown = edited.map_or(Ok(()), |range| session.show(runner, &mut report, "after", range));
+    conclude(asked, &mut report, end, tally, synced.and(shown))
+}
+
+/// The first line or object.
+fn announce(asked: &Asked, session: &Session, report: &mut Report) {
+    let count = jobs(&asked.entries).count();
+    let text = match asked.command {
+        "fleet" => Some(format!("fleet {}: {count} job{}", name_of(&asked.image), if count == 1 { "" } else { "s" })),
+        "zero" | "discard" if !session.plan => {
+            jobs(&asked.entries).next().map(|job| format!("{}: begun", job_text(job)))
+        }
+        _ => None,
+    };
+    if asked.print == Print::Raw {
+        return;
+    }
+    let Settings { mem, req, zero, discard, bounce } = session.settings;
+    let fields = json!({
+        "command": asked.command, "image": asked.image.to_string_lossy(), "kind": session.image.kind.word(),
+        "size": session.image.size, "align": [mem, req, zero, discard], "share": bounce, "out": session.out,
+        "jobs": count, "plan": session.plan,
+    });
+    report.start(text.as_deref(), fields);
+}
+
+/// What was changed reaches the drive.
+fn sync(asked: &Asked, session: &Session) -> Outcome<()> {
+    let is_change = jobs(&asked.entries).any(|job| job.verb.is_change());
+    if !is_change || session.plan {
+        return Ok(());
+    }
+    session.image.file.sync_all().or_else(|error| failed(format!("fsync: {}", reason(&error))))
+}
+
+/// The end of a run: its last lines, and its outcome.
+fn conclude(asked: &Asked, report: &mut Report, end: End, tally: Tally, synced: Outcome<()>) -> Outcome<()> {
+    let is_fleet = asked.command == "fleet";
+    if !end.is_whole && (is_fleet || !end.lines.partly.is_empty()) {
+        report.lines(&end.lines);
+    }
+    if is_fleet {
+        report.total(end.ended, tally);
+    }
+    let outcome = match (&end.failure, end.is_whole) {
+        (Some(why), _) => failed(why.clone()),
+        (None, true) => synced,
+        (None, false) if report.out.is_broken() => Ok(()),
+        (None, false) => synced.and_then(|()| Err(Trouble::Interrupted(interrupted(&end)))),
+    };
+    report.end(outcome.as_ref().err().map_or(0, Trouble::status), end.ended, tally);
+    let after = if end.is_whole { "all jobs were done" } else { "not all jobs were done" };
+    outcome.and(report.out.settle(after))
+}
+
+fn interrupted(end: &End) -> String {
+    let plural = if end.ended == 1 { "" } else { "s" };
+    format!("{} job{plural} done, {} partly, {} not begun", end.ended, end.lines.partly.len(), end.lines.unbegun.len())
+}
+
+/// Prints what is found of an image. Nothing of it is read, and no lock taken.
+fn info(path: &Path, direct: bool, json: bool) -> Outcome<()> {
+    let image = image::open(path, Access { change: false, direct, lock: false })?;
+    let held = image::held(&image);
+    let [mem, req, zero, discard] = image.found;
+    let row = Settings::ROWS.iter().position(|row| *row == image.found);
+    let mut report = Report::new(json, false, false);
+    if json {
+        let fields = json!({
+            "image": path.to_string_lossy(), "kind": image.kind.word(), "size": image.size,
+            "allocated": image.allocated, "align": image.found, "drive": row, "lock": held,
+        });
+        report.object("info", fields);
+    } else {
+        let row = row.map_or("none".into(), |row| row.to_string());
+        report.out.line(&format!("image:      {}", name_of(path)));
+        report.out.line(&format!("kind:       {}", image.kind.word()));
+        report.out.line(&format!("size:       {} bytes", both(image.size)));
+        if image.kind == Kind::File {
+            report.out.line(&format!("allocated:  {} bytes", both(image.allocated)));
+        }
+        report.out.line(&format!("alignments: {mem},{req},{zero},{discard} (memory, requests, zeroes, discards)"));
+        report.out.line(&format!("drive row:  {row}"));
+        report.out.line(&format!("lock:       {held}"));
+    }
+    report.out.settle("nothing was begun")
+}
