@@ -1,3 +1,0 @@
--- What the proofs of images share.
-pub mod Signed
-pub mod Keeping

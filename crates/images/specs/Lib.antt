@@ -1,3 +1,0 @@
--- What the contracts of images cite.
-pub mod Codes
-pub mod Carrying

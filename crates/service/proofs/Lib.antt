@@ -1,2 +1,0 @@
--- What the proofs of service share.
-pub mod Running

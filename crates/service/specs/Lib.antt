@@ -1,2 +1,0 @@
--- What the contracts of service cite.
-pub mod Runs
