@@ -617,8 +617,10 @@ def one_device(rng, device, block, plain):
     pitchcase("edit", device, len(plain) - 1, "--hex", "5a", "--direct")
     plain[-1] = 0x5A
     for words in (("edit", device, len(plain), "--hex", "aa"), ("edit", device, len(plain), "--hex", "aa", "--grow"),
-                  ("edit", device, 0, "--hex", "aa", "--direct", "--drive", 0)):
+                  ("edit", device, 0, "--hex", "aa", "--direct", "--drive", 0), ("zero", device, 0, 100, "--drive", 0)):
         pitchcase(*words, status=2)
+    pitchcase("edit", device, 7, "--hex", "5b", "--drive", 0)
+    plain[7] = 0x5B
     held = os.open(device, os.O_RDWR | os.O_EXCL)
     ran = pitchcase("edit", device, 0, "--hex", "aa", status=2)
     check(b"mounted, or another holds it" in ran.stderr, ran.stderr)

@@ -125,6 +125,9 @@ impl Session {
         if manner.direct {
             check_direct(&image, &settings, end)?;
         }
+        if image.kind == Kind::Device {
+            check_device(&asked.entries, &image, &settings)?;
+        }
         let usual_out = if image.kind == Kind::Device || manner.direct { SLOTS } else { 1 };
         let out = means.out.unwrap_or(if means.order.is_some() || manner.plan { 1 } else { usual_out });
         Ok(Session { image, settings, means, end, plan: manner.plan, out })
@@ -230,6 +233,16 @@ fn check_direct(image: &Image, settings: &Settings, end: u64) -> Outcome<()> {
     }
     if end % req != 0 {
         return refused(format!("--direct: the image's size, {}, is no multiple of its block, {req}", both(end)));
+    }
+    Ok(())
+}
+
+/// A device takes zeroes and discards of whole blocks alone, past the cache or not.
+fn check_device(entries: &[Entry], image: &Image, settings: &Settings) -> Outcome<()> {
+    let req = image.found[1];
+    let is_asked = jobs(entries).any(|job| !matches!(job.verb, Verb::Read | Verb::Write));
+    if is_asked && (settings.zero < req || settings.discard < req) {
+        return refused(format!("zeroes and discards of this device need alignments of at least {req}"));
     }
     Ok(())
 }

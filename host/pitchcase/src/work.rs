@@ -397,3 +397,45 @@ impl Source for Work<'_> {
         }
     }
 }
+
+#[cfg(test)]
+mod tests {
+    use super::*;
+
+    #[test]
+    fn parts_end_at_multiples_and_cover_the_range() {
+        for (offset, length, unit) in
+            [(0, 0, 4), (0, 1, 4), (3, 1, 4), (3, 2, 4), (5, 20, 4), (8, 8, 4), (1000, 5000, 1536)]
+        {
+            let range = Range { offset, length };
+            let mut from = 0;
+            while from < length {
+                let part = part(range, from, unit);
+                let end = part.end().unwrap();
+                assert_eq!(part.offset, offset + from);
+                assert!(part.length > 0 && part.offset / unit == (end - 1) / unit);
+                assert!(end % unit == 0 || end == offset + length);
+                from += part.length;
+            }
+            assert_eq!(from, length);
+        }
+        assert_eq!(part(Range { offset: 7, length: 0 }, 0, 4), Range { offset: 7, length: 0 });
+    }
+
+    #[test]
+    fn bytes_come_from_where_they_are_said_to() {
+        let mut bytes = [0; 2];
+        Bytes::Memory(vec![1, 2, 3, 4]).put(0, 1, &mut bytes).unwrap();
+        assert_eq!(bytes, [2, 3]);
+        let script = Script::parse(b"write 0 0a0b0c0d".to_vec()).unwrap();
+        Bytes::Script(script).put(8, 2, &mut bytes).unwrap();
+        assert_eq!(bytes, [0x0c, 0x0d]);
+        let path = std::env::temp_dir().join(format!("pitchcase-work-{}", std::process::id()));
+        std::fs::write(&path, b"abcdef").unwrap();
+        let file = Bytes::File(File::open(&path).unwrap(), 1);
+        std::fs::remove_file(&path).unwrap();
+        file.put(0, 2, &mut bytes).unwrap();
+        assert_eq!(&bytes, b"de");
+        assert_eq!(file.put(0, 4, &mut bytes).unwrap_err().kind(), io::ErrorKind::UnexpectedEof);
+    }
+}
