@@ -17,7 +17,7 @@ use Rattle.arithmetic.specs.Settings.{isAlignment, alignmentsFit, lengthAlign, 
 use Rattle.arithmetic.specs.Padding.{paddedStart, roundedEnd, paddedLength, paddingFits, spanOf, paddedOf, paddingOf, isDirect, transferOf, readsOf, isRead}
 use Rattle.arithmetic.specs.Zeroes.{cutFits, hasMiddle, cutOf, zeroCutOf, discardCutOf, chunkLength, chunkOf}
 use Rattle.arithmetic.specs.Loops.{anyBelow}
-use Rattle.vectors.specs.Vectors.{sizeOf, liesIn, allSegments, anySegment, segmentsFit, isValid, changedTo, pushOf, insertOf, appendOf, headOf, tailOf, splitOf, splitTailOf, put, bytesOf, scatterOf, fillOf, copies, owns, ownedOf, shares, overlapOf, selfOverlapOf, allAligned, isAlignedOf, alignmentOf}
+use Rattle.vectors.specs.Vectors.{sizeOf, liesIn, allSegments, anySegment, segmentsFit, isValid, changedTo, pushOf, insertOf, appendOf, headOf, tailOf, splitOf, splitTailOf, put, bytesOf, scatterOf, fillOf, copies, shares, overlapOf, selfOverlapOf, allAligned, isAlignedOf, alignmentOf}
 use Rattle.blockers.specs.Blockers.{overlaps as blockers-overlaps, conflict, notes, notesOf, noBlockers, enteredOf, forgetting, leftOf, waitsOf}
 use Rattle.stages.specs.Stages.{directStage, paddedStage, firstPhase, readPlan, writePlan, zeroesPlan, zeroPlan, discardPlan, chunkNext, tailNext, headNext, toldOf, requestOf, liesIn as stages-liesIn, isSound}
 use Rattle.dock.specs.Dock.{vacant, fresh, openOf, lentFits, lentOf, isOutBy, isOut, meetsOf, meetsAt, overlapsOf, firstFree}
@@ -128,7 +128,7 @@ pub record Starred : Type 0 where
   pub discard-last : discards (2 ^ 64 - 512) 0 ≡ NoRequest
 
 pub starred : Starred
-unfolding fits isMultiple roundDown roundUp sumOf upOf inBufferOf onStoreOf isAlignment alignmentsFit lengthAlign bounceFits settingsFit buffersFit openingOf profiles profileOf paddedStart roundedEnd paddedLength paddingFits spanOf paddedOf paddingOf isDirect transferOf readsOf isRead cutFits hasMiddle cutOf zeroCutOf discardCutOf chunkLength chunkOf anyBelow sizeOf liesIn allSegments anySegment segmentsFit vectorOf isValid changedTo pushOf insertOf appendOf headOf tailOf splitOf splitTailOf put bytesOf scatterOf fillOf copies owns ownedOf shares overlapOf selfOverlapOf allAligned isAlignedOf alignmentOf blockers-overlaps conflict notes notesOf noBlockers enteredOf forgetting leftOf waitsOf directStage paddedStage firstPhase readPlan writePlan zeroesPlan zeroPlan discardPlan chunkNext tailNext headNext toldOf requestOf stages-liesIn isSound vacant fresh openOf openProfileOf lentFits lentOf isOutBy isOut meetsOf meetsAt overlapsOf firstFree sourceOf sourceFits mergedAt filled blockersWith placedAt beginReadOf beginWriteOf beginZeroesOf beginDiscardOf nextOf isKeptBy blockersWithout copiedAt handed staysOf endsOf entersOf tellAt tellOf collectOf
+unfolding fits isMultiple roundDown roundUp sumOf upOf inBufferOf onStoreOf isAlignment alignmentsFit lengthAlign bounceFits settingsFit buffersFit openingOf profiles profileOf paddedStart roundedEnd paddedLength paddingFits spanOf paddedOf paddingOf isDirect transferOf readsOf isRead cutFits hasMiddle cutOf zeroCutOf discardCutOf chunkLength chunkOf anyBelow sizeOf liesIn allSegments anySegment segmentsFit vectorOf isValid changedTo pushOf insertOf appendOf headOf tailOf splitOf splitTailOf put bytesOf scatterOf fillOf copies shares overlapOf selfOverlapOf allAligned isAlignedOf alignmentOf blockers-overlaps conflict notes notesOf noBlockers enteredOf forgetting leftOf waitsOf directStage paddedStage firstPhase readPlan writePlan zeroesPlan zeroPlan discardPlan chunkNext tailNext headNext toldOf requestOf stages-liesIn isSound vacant fresh openOf openProfileOf lentFits lentOf isOutBy isOut meetsOf meetsAt overlapsOf firstFree sourceOf sourceFits mergedAt filled blockersWith placedAt beginReadOf beginWriteOf beginZeroesOf beginDiscardOf nextOf isKeptBy blockersWithout copiedAt handed staysOf endsOf entersOf tellAt tellOf collectOf
 starred = record {
   ten = refl;
   to-the-end = refl;
