@@ -1,5 +1,6 @@
 // Direct or padded; the padded range of a request; the reads of a padded write (imago: readv and writev of storage/ext.rs).
 use crate::offsets::BufferOffset;
+use crate::offsets::InBuffer;
 use crate::offsets::Range;
 use crate::offsets::StoreOffset;
 use crate::offsets::Sum;
@@ -71,10 +72,13 @@ fn padded(at: u64, n: u64, r: u64, l: u64) -> Padding
     let Sum::Fits(padded_end) = add(start, length) else {
         return Padding::Refused(Refusal::Overflow);
     };
+    let InBuffer::At(head) = StoreOffset(at).in_buffer(StoreOffset(start)) else {
+        return Padding::Refused(Refusal::Overflow);
+    };
     Padding::Padded(Span {
         start: StoreOffset(start),
         end: StoreOffset(padded_end),
-        head: BufferOffset((at - start) as usize),
+        head,
         length,
         prefix: edge(at - start, l),
         suffix: edge(padded_end - end, l),

@@ -7,6 +7,7 @@ use crate::state::State;
 use crate::state::nowhere;
 use crate::state::size;
 use arithmetic::offsets::BufferOffset;
+use arithmetic::offsets::OnStore;
 use arithmetic::offsets::Range;
 use arithmetic::offsets::StoreOffset;
 use arithmetic::offsets::is_multiple;
@@ -47,17 +48,16 @@ fn direct_stage(r: Range) -> Stage
     }
 }
 
-// The first `length` bytes of a padded range.
-fn first_bytes(s: Span, length: u64) -> Range
-    requires { ⌜ s .start .0 + length < 2 ^ 64 ⌝ }
-    ensures { λ r. ⌜ r ≡ rangeOf (s .start .0) (s .start .0 + length) ⌝ }
+// The bytes of a padded range that its bounce buffer holds before `end`.
+fn first_bytes(s: Span, end: BufferOffset) -> Range
+    requires { ⌜ s .start .0 + end .0 < 2 ^ 64 ⌝ }
+    ensures { λ r. ⌜ r ≡ rangeOf (s .start .0) (s .start .0 + end .0) ⌝ }
 {
     let start = s.start;
-    let end = start.0 + length;
-    Range {
-        start,
-        end: StoreOffset(end),
-    }
+    let OnStore::At(end) = end.on_store(start) else {
+        return nowhere();
+    };
+    Range { start, end }
 }
 
 // The last `length` bytes of a padded range.
@@ -83,9 +83,9 @@ fn first_read(s: Span) -> Range
     match s.reads() {
         Reads::Nothing => nowhere(),
         Reads::Whole => Range { start, end },
-        Reads::Head(_) => first_bytes(s, s.prefix),
+        Reads::Head(_) => first_bytes(s, BufferOffset(s.prefix as usize)),
         Reads::Tail(_) => nowhere(),
-        Reads::HeadThenTail(_, _) => first_bytes(s, s.prefix),
+        Reads::HeadThenTail(_, _) => first_bytes(s, BufferOffset(s.prefix as usize)),
     }
 }
 
