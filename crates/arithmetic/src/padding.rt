@@ -13,7 +13,7 @@ ghost use mathlib.Core.Path.{_≡_};
 ghost use Prim.Native.Nat.{_+_, _%_, _<_, _≤_};
 ghost use lib.Dec.{eqb};
 ghost use Rattle.arithmetic.specs.Rounding.{roundUp};
-ghost use Rattle.arithmetic.specs.Padding.{paddedOf, paddingOf, isDirect, transferOf, readsOf};
+ghost use Rattle.arithmetic.specs.Padding.{paddedOf, paddingOf, isDirect, transferOf, transferRefusal, readsOf};
 
 // A padded range, which a bounce buffer holds from its start.
 pub struct Span {
@@ -129,6 +129,19 @@ pub fn direct_or_padded(
     match padded(at, length, r, align.length_align()) {
         Padding::Padded(span) => Transfer::Bounced(span),
         Padding::Refused(r) => Transfer::Refused(r),
+    }
+}
+
+impl Transfer {
+    // Why it is refused; of one that is not, 207.
+    pub fn refusal(self) -> Refusal
+        ensures { λ r. ⌜ r ≡ transferRefusal self ⌝ }
+    {
+        match self {
+            Transfer::Direct(_) => Refusal::Overflow,
+            Transfer::Bounced(_) => Refusal::Overflow,
+            Transfer::Refused(r) => r,
+        }
     }
 }
 

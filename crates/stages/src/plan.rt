@@ -16,7 +16,6 @@ use arithmetic::padding::Span;
 use arithmetic::padding::Transfer;
 use arithmetic::padding::direct_or_padded;
 use arithmetic::refusals::Refusal;
-use arithmetic::settings::Alignments;
 use arithmetic::settings::Settings;
 use arithmetic::zeroes::DiscardCut;
 use arithmetic::zeroes::ZeroCut;
@@ -26,7 +25,7 @@ ghost use mathlib.Core.Path.{_≡_};
 ghost use Prim.Native.Nat.{_+_, _-_, _<_, _≤_, _^_};
 ghost use Rattle.arithmetic.specs.Offsets.{rangeOf};
 ghost use Rattle.stages.specs.Stages.{Holds, directStage, firstOf, secondOf, paddedStage, firstPhase, stateOf, asked, bouncedPhase, vectorPlan, readPlan, writePlan, zeroesPlan, zeroJob, zeroPlan, discardPlan};
-ghost use Rattle.arithmetic.specs.Padding.{paddingRefusal, readsOf};
+ghost use Rattle.arithmetic.specs.Padding.{readsOf};
 
 // What a job begins with: nothing to do, its first stage, or a refusal.
 pub enum Plan {
@@ -169,17 +168,6 @@ fn asked_range(offset: StoreOffset, n: u64) -> Range
     }
 }
 
-// Why a transfer is refused: 201 for alignments that do not fit, else 207 (law transfer-refused).
-fn padding_refusal(align: Alignments) -> Refusal
-    ensures { λ r. ⌜ r ≡ paddingRefusal align ⌝ }
-{
-    if align.fit() {
-        Refusal::Overflow
-    } else {
-        Refusal::Unfit
-    }
-}
-
 // The first phase of a padded request: a read is one request, a write has its reads first.
 fn bounced_phase(job: Job, g: Stage) -> Phase
     ensures { λ p. ⌜ p ≡ bouncedPhase job g ⌝ }
@@ -209,7 +197,7 @@ fn vector_plan(
         return started(job, r, nowhere(), Course::Last, direct_stage(r), direct);
     }
     let Transfer::Bounced(span) = transfer else {
-        return Plan::Refused(padding_refusal(settings.align));
+        return Plan::Refused(transfer.refusal());
     };
     if settings.bounce < span.length {
         return Plan::Refused(Refusal::TooLong);
@@ -263,7 +251,7 @@ pub fn zeroes_plan(
         );
     }
     let Transfer::Bounced(s) = transfer else {
-        return Plan::Refused(padding_refusal(align));
+        return Plan::Refused(transfer.refusal());
     };
     if settings.bounce < s.length {
         return Plan::Refused(Refusal::TooLong);

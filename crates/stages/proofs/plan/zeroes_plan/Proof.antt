@@ -63,14 +63,13 @@ returns-2 c =
 enum-known-transfer : tie.Need-enum-known-transfer
 enum-known-transfer c = c .match2 .keys1
 
-padding-refusal-requires : tie.Need-padding-refusal-requires
-padding-refusal-requires c κs = tt
+refusal-requires : tie.Need-refusal-requires
+refusal-requires c κs = tt
 
 returns-3 : tie.Need-returns-3
 returns-3 c =
-    let a = c .before .before .before .before .before .before .before .before .args in
     let d = c .before .before .before in
-    by d (NoTransfer _) (refused-is (a .settings .align) (a .part .start) (sizeOf (a .part)) _ (transfer-is d) (c .before .before .match .keys2) (c .before .match2 .keys2)) (ap Refused (c .padding-refusal .ensures))
+    by d (NoTransfer _) (refused-is _ (c .before .before .match .keys2) (c .before .match2 .keys2)) (ap Refused (c .refusal .ensures))
 
 returns-4 : tie.Need-returns-4
 returns-4 c =
@@ -110,7 +109,7 @@ zeroes-plan-spec =
     started-requires
     returns-2
     enum-known-transfer
-    padding-refusal-requires
+    refusal-requires
     returns-3
     returns-4
     padded-stage-requires
