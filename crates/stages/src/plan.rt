@@ -222,42 +222,43 @@ pub fn write_plan(settings: Settings, offset: StoreOffset, n: u64, aligned: bool
     vector_plan(settings, Job::Write, Phase::DirectWrite, offset, n, aligned)
 }
 
-// A write of zeroes over `part` as a stage of a zero job over `range`. The bounce buffer starts at a multiple of M, so the write is
-// aligned where its length is a multiple of L.
-pub fn zeroes_plan(
-    settings: Settings,
-    job: Job,
-    range: Range,
-    middle: Range,
-    course: Course,
-    part: Range,
-) -> Plan
-    ensures { λ p. ⌜ p ≡ zeroesPlan settings job range middle course part ⌝ }
-{
-    let align = settings.align;
-    let n = size(part);
-    let transfer = direct_or_padded(part.start, n, is_multiple(n, align.length_align()), align);
-    if let Transfer::Direct(_) = transfer {
-        if settings.bounce < n {
+impl State {
+    // The job at its next stage. Phase and course are enums, and a store to one is not covered: they are set as the state is made anew.
+    fn at_stage(mut self, course: Course, stage: Stage, phase: Phase) -> State
+        ensures { λ y. ⌜ y ≡ stateOf (self .job) (self .range) (self .middle) course stage phase ⌝ }
+    {
+        self.answer = 0;
+        self.stage = stage;
+        State {
+            phase,
+            course,
+            ..self
+        }
+    }
+
+    // A write of zeroes over `part` as the next stage of a zero job. The bounce buffer starts at a multiple of M, so the write is
+    // aligned where its length is a multiple of L.
+    pub fn zeroes_plan(self, settings: Settings, course: Course, part: Range) -> Plan
+        ensures { λ p. ⌜ p ≡ zeroesPlan settings (self .job) (self .range) (self .middle) course part ⌝ }
+    {
+        let align = settings.align;
+        let n = size(part);
+        let transfer = direct_or_padded(part.start, n, is_multiple(n, align.length_align()), align);
+        if let Transfer::Direct(_) = transfer {
+            if settings.bounce < n {
+                return Plan::Refused(Refusal::TooLong);
+            }
+            return Plan::Started(self.at_stage(course, direct_stage(part), Phase::BouncedWrite));
+        }
+        let Transfer::Bounced(s) = transfer else {
+            return Plan::Refused(transfer.refusal());
+        };
+        if settings.bounce < s.length {
             return Plan::Refused(Refusal::TooLong);
         }
-        return started(
-            job,
-            range,
-            middle,
-            course,
-            direct_stage(part),
-            Phase::BouncedWrite,
-        );
+        let stage = padded_stage(s, part);
+        Plan::Started(self.at_stage(course, stage, first_phase(stage)))
     }
-    let Transfer::Bounced(s) = transfer else {
-        return Plan::Refused(transfer.refusal());
-    };
-    if settings.bounce < s.length {
-        return Plan::Refused(Refusal::TooLong);
-    }
-    let stage = padded_stage(s, part);
-    started(job, range, middle, course, stage, first_phase(stage))
 }
 
 pub fn zero_job(allocate: bool) -> Job
@@ -277,7 +278,18 @@ pub fn zero_plan(settings: Settings, allocate: bool, offset: StoreOffset, n: u64
     let job = zero_job(allocate);
     match zero_cut(offset, n, settings.align) {
         ZeroCut::Nothing => Plan::Done,
-        ZeroCut::Whole(r) => zeroes_plan(settings, job, r, nowhere(), Course::Last, r),
+        ZeroCut::Whole(r) => {
+            let x = State {
+                phase: Phase::Free,
+                answer: 0,
+                job,
+                range: r,
+                middle: nowhere(),
+                course: Course::Last,
+                stage: direct_stage(r),
+            };
+            x.zeroes_plan(settings, Course::Last, r)
+        }
         ZeroCut::Split(c) => {
             let range = asked_range(offset, n);
             started(
