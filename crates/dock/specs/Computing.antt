@@ -1,5 +1,6 @@
 -- For theorems by computation: a declaration that says `unfolding computing` sees through every definition that a call on the dock goes by.
 use Rattle.arithmetic.specs.Rounding.{fits, isMultiple, roundDown, roundUp, sumOf, upOf}
+use Rattle.arithmetic.specs.Refusals.{numberOf}
 use Rattle.arithmetic.specs.Loops.{anyBelow}
 use Rattle.arithmetic.specs.Settings.{isAlignment, alignmentsFit, lengthAlign, bounceFits, settingsFit, buffersFit, openingOf}
 use Rattle.arithmetic.specs.Settings.{profiles, profileOf}
@@ -19,7 +20,7 @@ use Rattle.dock.specs.Next.{nextOf, isKeptBy, isKept, pieceOf, partOf}
 use Rattle.dock.specs.Tell.{blockersWithout, copiedAt, handed, staysOf, endsOf, entersOf, tellAt, tellOf, collectOf}
 
 unfoldable pub computing : Unit {0}
-unfolding fits isMultiple roundDown roundUp sumOf upOf anyBelow
+unfolding numberOf fits isMultiple roundDown roundUp sumOf upOf anyBelow
     isAlignment alignmentsFit lengthAlign bounceFits settingsFit buffersFit openingOf profiles profileOf
     paddedStart roundedEnd paddedLength paddingFits spanOf paddedOf paddingOf isDirect transferOf readsOf isRead
     cutFits hasMiddle cutOf zeroCutOf discardCutOf chunkLength chunkOf
