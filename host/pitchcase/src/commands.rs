@@ -6,8 +6,8 @@ use crate::input;
 use crate::numbers::{both, Range};
 use crate::options::{number, BytesWords, Command, Manner, Means, PlaceWords, RangeWords};
 use crate::out::say;
-use crate::report::{job_text, Report, Told};
-use crate::script::{Entry, Verb};
+use crate::report::{job_text, Report};
+use crate::script::{Entry, JobLine, Verb};
 use crate::system;
 use crate::trouble::{failed, name_of, reason, refusal_text, refused, Outcome, Trouble};
 use crate::work::{Bytes, End, Print, Work};
@@ -126,11 +126,8 @@ fn single(verb: Verb, range: Range) -> Entry {
 }
 
 /// The jobs of a list of entries.
-fn jobs(entries: &[Entry]) -> impl Iterator<Item = Told> + '_ {
-    entries.iter().filter_map(|entry| match *entry {
-        Entry::Job { verb, range, line, .. } => Some(Told { line, verb, range }),
-        Entry::Barrier => None,
-    })
+fn jobs(entries: &[Entry]) -> impl Iterator<Item = JobLine> + '_ {
+    entries.iter().filter_map(Entry::job)
 }
 
 impl Opened {
