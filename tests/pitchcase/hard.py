@@ -412,6 +412,19 @@ def failures():
             check(b"unsupported" in ran.stdout and read("image") == IMAGE[:512] + left + IMAGE[1024:], command, number, ran.stdout)
 
 
+def long_edit_that_fails():
+    """A long edit is made in several jobs: after one has failed, none of the others is begun."""
+    before, new = bytes(4 << 20), b"\xff" * (3 << 20)
+    write("bytes", new)
+    for out in (1, 8):
+        write("image", before)
+        ran = pitchcase("edit", "image", 65536, "--from", "bytes", "--out", out, status=1, faults={"FAULT_WRITE": "3,28"})
+        check(ran.stderr == b"pitchcase: failed: write 65536+3145728 (0x10000): no space left on device (28)\n", ran.stderr)
+        left = read("image")
+        old_or_new(before, left, [(65536, new)])
+        check(left.count(b"\xff") <= 20 * 65536, "a long edit went on after a failure: %d bytes" % left.count(b"\xff"))
+
+
 def fleet_that_fails():
     """After a failure none is begun any more; those out are finished, and the lines are listed."""
     write("image", bytes(65536))
@@ -706,6 +719,7 @@ TESTS = (
     ("an interrupted zeroing", long_zeroing, True),
     ("short and interrupted transfers", short_and_interrupted, True),
     ("failing requests", failures, True),
+    ("a long edit that fails", long_edit_that_fails, True),
     ("a fleet that fails", fleet_that_fails, True),
     ("requests out together", out_together, True),
     ("a full disk", full_disk, False),

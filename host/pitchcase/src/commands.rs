@@ -6,8 +6,8 @@ use crate::input;
 use crate::numbers::{both, Range};
 use crate::options::{number, BytesWords, Command, Manner, Means, PlaceWords, RangeWords};
 use crate::out::say;
-use crate::report::{job_text, Report, Told};
-use crate::script::{Entry, Verb};
+use crate::report::{job_text, Report};
+use crate::script::{Entry, JobLine, Verb};
 use crate::system;
 use crate::trouble::{failed, name_of, reason, refusal_text, refused, Outcome, Trouble};
 use crate::work::{Bytes, End, Print, Work};
@@ -25,9 +25,38 @@ const SHOWN_WHOLE: u64 = 65536;
 /// How many of them.
 const SHOWN_ENDS: u64 = 64;
 
+/// The commands that run jobs.
+#[derive(Clone, Copy, Debug, PartialEq, Eq)]
+enum Name {
+    Look,
+    Edit,
+    Zero,
+    Discard,
+    Fleet,
+}
+
+impl Name {
+    fn word(self) -> &'static str {
+        match self {
+            Name::Look => "look",
+            Name::Edit => "edit",
+            Name::Zero => "zero",
+            Name::Discard => "discard",
+            Name::Fleet => "fleet",
+        }
+    }
+}
+
+/// When the bytes of an edit are shown.
+#[derive(Clone, Copy, Debug, PartialEq, Eq)]
+enum When {
+    Before,
+    After,
+}
+
 /// What is to be done.
 struct Asked {
-    command: &'static str,
+    name: Name,
     image: PathBuf,
     entries: Vec<Entry>,
     bytes: Bytes,
@@ -38,7 +67,7 @@ struct Asked {
 }
 
 /// An image that is open, and how its jobs are run.
-struct Session {
+struct Opened {
     image: Image,
     settings: Settings,
     means: Means,
@@ -57,21 +86,14 @@ pub fn run(command: Command, is_stdin_closed: bool) -> Outcome<()> {
         Command::Edit { place, bytes, manner } => edit(place, &bytes, manner, is_stdin_closed)?,
         Command::Zero { range, alloc, manner } => {
             let verb = if alloc { Verb::Alloc } else { Verb::Zero };
-            changing("zero", verb, range, manner)?
+            of_range(Name::Zero, verb, range, manner)?
         }
-        Command::Discard { range, manner } => changing("discard", Verb::Discard, range, manner)?,
+        Command::Discard { range, manner } => of_range(Name::Discard, Verb::Discard, range, manner)?,
         Command::Fleet { image, script, manner } => {
             let mut script = input::script(&script, is_stdin_closed)?;
             let entries = std::mem::take(&mut script.entries);
-            Asked {
-                command: "fleet",
-                image,
-                entries,
-                bytes: Bytes::Script(script),
-                from: None,
-                print: Print::Lines,
-                manner,
-            }
+            let (bytes, print) = (Bytes::Script(script), Print::Lines);
+            Asked { name: Name::Fleet, image, entries, bytes, from: None, print, manner }
         }
     };
     carry_out(asked)
@@ -79,16 +101,16 @@ pub fn run(command: Command, is_stdin_closed: bool) -> Outcome<()> {
 
 fn look(range: RangeWords, raw: bool, manner: Manner) -> Outcome<Asked> {
     let print = if raw { Print::Raw } else { Print::Rows };
-    Ok(Asked { print, ..changing("look", Verb::Read, range, manner)? })
+    Ok(Asked { print, ..of_range(Name::Look, Verb::Read, range, manner)? })
 }
 
 /// A command of one job without bytes.
-fn changing(command: &'static str, verb: Verb, range: RangeWords, manner: Manner) -> Outcome<Asked> {
+fn of_range(name: Name, verb: Verb, range: RangeWords, manner: Manner) -> Outcome<Asked> {
     let offset = number("OFFSET", &range.place.offset)?;
     let length = number("LENGTH", &range.length)?;
     let entries = vec![single(verb, Range { offset, length })];
     let image = range.place.image;
-    Ok(Asked { command, image, entries, bytes: Bytes::None, from: None, print: Print::Rows, manner })
+    Ok(Asked { name, image, entries, bytes: Bytes::None, from: None, print: Print::Rows, manner })
 }
 
 fn edit(place: PlaceWords, words: &BytesWords, manner: Manner, is_stdin_closed: bool) -> Outcome<Asked> {
@@ -96,7 +118,7 @@ fn edit(place: PlaceWords, words: &BytesWords, manner: Manner, is_stdin_closed: 
     let edit = input::edit_bytes(words, is_stdin_closed)?;
     let entries = vec![single(Verb::Write, Range { offset, length: edit.length })];
     let (image, bytes, from) = (place.image, edit.bytes, edit.from);
-    Ok(Asked { command: "edit", image, entries, bytes, from, print: Print::Rows, manner })
+    Ok(Asked { name: Name::Edit, image, entries, bytes, from, print: Print::Rows, manner })
 }
 
 fn single(verb: Verb, range: Range) -> Entry {
@@ -104,16 +126,13 @@ fn single(verb: Verb, range: Range) -> Entry {
 }
 
 /// The jobs of a list of entries.
-fn jobs(entries: &[Entry]) -> impl Iterator<Item = Told> + '_ {
-    entries.iter().filter_map(|entry| match *entry {
-        Entry::Job { verb, range, line, .. } => Some(Told { line, verb, range }),
-        Entry::Barrier => None,
-    })
+fn jobs(entries: &[Entry]) -> impl Iterator<Item = JobLine> + '_ {
+    entries.iter().filter_map(Entry::job)
 }
 
-impl Session {
+impl Opened {
     /// Opens the image and looks every job over: after it nothing is refused any more.
-    fn open(asked: &Asked) -> Outcome<Session> {
+    fn open(asked: &Asked) -> Outcome<Opened> {
         let manner = &asked.manner;
         let means = manner.means()?;
         let is_change = jobs(&asked.entries).any(|job| job.verb.is_change()) && !manner.plan;
@@ -130,7 +149,7 @@ impl Session {
         }
         let usual_out = if image.kind == Kind::Device || manner.direct { SLOTS } else { 1 };
         let out = means.out.unwrap_or(if means.order.is_some() || manner.plan { 1 } else { usual_out });
-        Ok(Session { image, settings, means, end, plan: manner.plan, out })
+        Ok(Opened { image, settings, means, end, plan: manner.plan, out })
     }
 
     /// Lengthens a file to the end of its jobs, before they begin.
@@ -156,9 +175,12 @@ impl Session {
     }
 
     /// Shows a range, before or after an edit: of a long one the first bytes and the last.
-    fn show(&self, runner: &mut Runner<'_>, report: &mut Report, when: &str, range: Range) -> Outcome<()> {
-        report.heading(when);
-        let size = if when == "before" { self.image.size } else { self.end };
+    fn show(&self, runner: &mut Runner<'_>, report: &mut Report, when: When, range: Range) -> Outcome<()> {
+        let (heading, size) = match when {
+            When::Before => ("before", self.image.size),
+            When::After => ("after", self.end),
+        };
+        report.heading(heading);
         let last = Range { offset: range.offset + range.length.saturating_sub(SHOWN_ENDS), length: SHOWN_ENDS };
         let ranges = match range.length {
             0..=SHOWN_WHOLE => vec![range],
@@ -209,7 +231,7 @@ fn end_after(entries: &[Entry], image: &Image, grow: bool) -> Outcome<u64> {
         if image.kind == Kind::Device {
             return wrong(format!("ends past the device's end, {}, and a device does not grow", both(image.size)));
         }
-        if matches!(job.verb, Verb::Write | Verb::Zero | Verb::Alloc) {
+        if matches!(job.verb, Verb::Write | Verb::Zero | Verb::Alloc) && job.range.length > 0 {
             end = end.max(job_end);
         }
     }
@@ -249,8 +271,8 @@ fn check_device(entries: &[Entry], image: &Image, settings: &Settings) -> Outcom
 
 /// Opens the image and a runner for it, and runs the jobs. Nothing is refused after that.
 fn carry_out(asked: Asked) -> Outcome<()> {
-    let session = Session::open(&asked)?;
-    let settings = &session.settings;
+    let opened = Opened::open(&asked)?;
+    let settings = &opened.settings;
     let mut room = Room::new(settings, usize::try_from(settings.bounce).unwrap_or(0).min(1 << 20));
     let (data, scratch) = room.parts();
     let mut runner = match Runner::open(settings, data, scratch) {
@@ -261,46 +283,46 @@ fn carry_out(asked: Asked) -> Outcome<()> {
             return refused(format!("{typed}: {}", refusal_text(refusal)));
         }
     };
-    runner.set_order(session.means.order.unwrap_or_default());
-    if asked.manner.no_lock && !session.plan {
+    runner.set_order(opened.means.order.unwrap_or_default());
+    if asked.manner.no_lock && !opened.plan {
         say("--no-lock: another process may change the image meanwhile, and either's edits may be lost");
     }
-    run_jobs(&asked, &session, &mut runner)
+    run_jobs(&asked, &opened, &mut runner)
 }
 
 /// Runs the jobs, and says what they came to. An edit shows its bytes before and after.
-fn run_jobs(asked: &Asked, session: &Session, runner: &mut Runner<'_>) -> Outcome<()> {
-    let mut report = Report::new(asked.manner.json, asked.manner.trace, session.plan);
-    announce(asked, session, &mut report);
-    let edited = match asked.command {
-        "edit" if !session.plan => jobs(&asked.entries).next().map(|job| job.range),
-        _ => None,
-    };
+fn run_jobs(asked: &Asked, opened: &Opened, runner: &mut Runner<'_>) -> Outcome<()> {
+    let mut report = Report::new(asked.manner.json, asked.manner.trace, opened.plan);
+    announce(asked, opened, &mut report);
+    let is_edit = asked.name == Name::Edit && !opened.plan;
+    let edited = jobs(&asked.entries).next().filter(|_| is_edit).map(|job| job.range);
     if let Some(range) = edited {
-        session.show(runner, &mut report, "before", range)?;
+        opened.show(runner, &mut report, When::Before, range)?;
     }
     // From here on the image is changed: who would not hear of it is told now.
     report.out.settle("nothing was begun")?;
     if system::is_interrupted() {
         return Err(Trouble::Interrupted("nothing was begun".into()));
     }
-    session.grow()?;
-    let print = if session.plan { Print::Nothing } else { asked.print };
+    opened.grow()?;
+    let print = if opened.plan { Print::Nothing } else { asked.print };
     let work = Work::new(&asked.entries, &asked.bytes, &mut report, print, runner.longest());
-    let (end, tally) = session.run(runner, work, session.end);
-    let synced = sync(asked, session);
+    let (end, tally) = opened.run(runner, work, opened.end);
+    let synced = sync(asked, opened);
     // After an edit that failed too, where each byte is old or new; that it cannot be shown then is no news.
     let edited = edited.filter(|_| !system::is_interrupted());
-    let shown = edited.map_or(Ok(()), |range| session.show(runner, &mut report, "after", range));
+    let shown = edited.map_or(Ok(()), |range| opened.show(runner, &mut report, When::After, range));
     conclude(asked, &mut report, end, tally, synced.and(shown))
 }
 
 /// The first line or object.
-fn announce(asked: &Asked, session: &Session, report: &mut Report) {
+fn announce(asked: &Asked, opened: &Opened, report: &mut Report) {
     let count = jobs(&asked.entries).count();
-    let text = match asked.command {
-        "fleet" => Some(format!("fleet {}: {count} job{}", name_of(&asked.image), if count == 1 { "" } else { "s" })),
-        "zero" | "discard" if !session.plan => {
+    let text = match asked.name {
+        Name::Fleet => {
+            Some(format!("fleet {}: {count} job{}", name_of(&asked.image), if count == 1 { "" } else { "s" }))
+        }
+        Name::Zero | Name::Discard if !opened.plan => {
             jobs(&asked.entries).next().map(|job| format!("{}: begun", job_text(job)))
         }
         _ => None,
@@ -308,27 +330,27 @@ fn announce(asked: &Asked, session: &Session, report: &mut Report) {
     if asked.print == Print::Raw {
         return;
     }
-    let Settings { mem, req, zero, discard, bounce } = session.settings;
+    let Settings { mem, req, zero, discard, bounce } = opened.settings;
     let fields = json!({
-        "command": asked.command, "image": asked.image.to_string_lossy(), "kind": session.image.kind.word(),
-        "size": session.image.size, "align": [mem, req, zero, discard], "share": bounce, "out": session.out,
-        "jobs": count, "plan": session.plan,
+        "command": asked.name.word(), "image": asked.image.to_string_lossy(), "kind": opened.image.kind.word(),
+        "size": opened.image.size, "align": [mem, req, zero, discard], "share": bounce, "out": opened.out,
+        "jobs": count, "plan": opened.plan,
     });
     report.start(text.as_deref(), fields);
 }
 
 /// What was changed reaches the drive.
-fn sync(asked: &Asked, session: &Session) -> Outcome<()> {
+fn sync(asked: &Asked, opened: &Opened) -> Outcome<()> {
     let is_change = jobs(&asked.entries).any(|job| job.verb.is_change());
-    if !is_change || session.plan {
+    if !is_change || opened.plan {
         return Ok(());
     }
-    session.image.file.sync_all().or_else(|error| failed(format!("fsync: {}", reason(&error))))
+    opened.image.file.sync_all().or_else(|error| failed(format!("fsync: {}", reason(&error))))
 }
 
 /// The end of a run: its last lines, and its outcome.
 fn conclude(asked: &Asked, report: &mut Report, end: End, tally: Tally, synced: Outcome<()>) -> Outcome<()> {
-    let is_fleet = asked.command == "fleet";
+    let is_fleet = asked.name == Name::Fleet;
     if !end.is_whole && (is_fleet || !end.lines.partly.is_empty()) {
         report.lines(&end.lines);
     }

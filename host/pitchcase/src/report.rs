@@ -2,7 +2,7 @@
 
 use crate::numbers::Range;
 use crate::out::Out;
-use crate::script::Verb;
+use crate::script::JobLine;
 use crate::trouble::reason_of;
 use pitch_dock::{Answer, Code, Kind, Request, Tally};
 use serde_json::{json, Map, Value};
@@ -20,14 +20,6 @@ pub struct Report {
     plan: bool,
     /// A row of a dump that is not full yet, and its offset.
     row: (u64, Vec<u8>),
-}
-
-/// A job as it is told of: its line in the script, 0 where it has none, and what was asked.
-#[derive(Clone, Copy, Debug)]
-pub struct Told {
-    pub line: u64,
-    pub verb: Verb,
-    pub range: Range,
 }
 
 /// Which lines of a script came to what.
@@ -94,7 +86,7 @@ impl Report {
     }
 
     /// A job that has ended. Text says so in a trace or a plan, where it failed, and where `is_told`.
-    pub fn ended(&mut self, job: Told, answer: Result<(), &str>, number: u8, tally: Tally, is_told: bool) {
+    pub fn ended(&mut self, job: JobLine, answer: Result<(), &str>, number: u8, tally: Tally, is_told: bool) {
         if self.json {
             let mut fields = ranged(job.line, "verb", job.verb.word(), job.range);
             fields["code"] = number.into();
@@ -115,7 +107,7 @@ impl Report {
     }
 
     /// The bytes that a line of a script has read, or a part of them.
-    pub fn script_bytes(&mut self, job: Told, bytes: &[u8]) {
+    pub fn script_bytes(&mut self, job: JobLine, bytes: &[u8]) {
         if !self.json {
             self.out.line(&job_text(job));
         }
@@ -246,7 +238,7 @@ fn at_line(line: u64) -> String {
 }
 
 /// A job: its line, what, and which range.
-pub fn job_text(job: Told) -> String {
+pub fn job_text(job: JobLine) -> String {
     format!("{}{} {}", at_line(job.line), job.verb.word(), job.range)
 }
 

@@ -52,6 +52,24 @@ pub enum Entry {
     Barrier,
 }
 
+/// A job as it was asked for: its line in the script, 0 where it has none, what, and which range.
+#[derive(Clone, Copy, Debug, PartialEq, Eq)]
+pub struct JobLine {
+    pub line: u64,
+    pub verb: Verb,
+    pub range: Range,
+}
+
+impl Entry {
+    /// The job that it asks for; None for a barrier.
+    pub fn job(&self) -> Option<JobLine> {
+        match *self {
+            Entry::Job { verb, range, line, .. } => Some(JobLine { line, verb, range }),
+            Entry::Barrier => None,
+        }
+    }
+}
+
 /// A script that was looked over.
 #[derive(Debug, Default)]
 pub struct Script {

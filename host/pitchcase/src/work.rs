@@ -2,8 +2,8 @@
 
 use crate::numbers::Range;
 use crate::progress::Progress;
-use crate::report::{answer_text, job_text, Lines, Report, Told};
-use crate::script::{Entry, Script, Verb};
+use crate::report::{answer_text, job_text, Lines, Report};
+use crate::script::{Entry, JobLine, Script, Verb};
 use crate::system;
 use crate::trouble::{reason, refusal_text};
 use pitch_dock::{Answer, Code, Ended, Job, Kind, Next, Source, Tally};
@@ -108,6 +108,8 @@ pub struct Work<'a> {
     /// Parts of a look that were read before their turn, and up to where it is printed.
     held: BTreeMap<u64, Vec<u8>>,
     printed: u64,
+    /// Whether a job has failed: then nothing new is begun.
+    is_failed: bool,
     /// The first failure.
     failure: Option<String>,
 }
@@ -122,14 +124,6 @@ pub struct End {
     pub ended: u64,
     /// Which lines came to what.
     pub lines: Lines,
-}
-
-/// What an entry asks; None for a barrier.
-fn asked(entry: &Entry) -> Option<Told> {
-    match *entry {
-        Entry::Job { verb, range, line, .. } => Some(Told { line, verb, range }),
-        Entry::Barrier => None,
-    }
 }
 
 fn kind_of(verb: Verb) -> Kind {
@@ -152,7 +146,7 @@ fn part(range: Range, from: u64, unit: u64) -> Range {
 impl<'a> Work<'a> {
     /// The work of these entries, which were looked over: every range ends below 2^63.
     pub fn new(entries: &'a [Entry], bytes: &'a Bytes, report: &'a mut Report, print: Print, longest: u64) -> Work<'a> {
-        let total = entries.iter().filter_map(asked).fold(0u64, |sum, job| sum.saturating_add(job.range.length));
+        let total = entries.iter().filter_map(Entry::job).fold(0u64, |sum, job| sum.saturating_add(job.range.length));
         let is_printing = matches!(print, Print::Rows | Print::Raw) && report.out.is_terminal();
         Work {
             entries,
@@ -170,17 +164,18 @@ impl<'a> Work<'a> {
             ready: Vec::new(),
             held: BTreeMap::new(),
             printed: 0,
+            is_failed: false,
             failure: None,
         }
     }
 
     /// Whether nothing new is to be begun.
     fn is_stopped(&self) -> bool {
-        self.failure.is_some() || system::is_interrupted() || self.report.out.is_broken()
+        self.is_failed || system::is_interrupted() || self.report.out.is_broken()
     }
 
     /// Hands out the next part of a job.
-    fn hand_out(&mut self, job: Told, digits: usize) -> Next {
+    fn hand_out(&mut self, job: JobLine, digits: usize) -> Next {
         let unit = if matches!(job.verb, Verb::Read | Verb::Write) { self.longest } else { LONGEST_ZERO };
         if job.verb == Verb::Read && self.is_ordered() && self.from >= self.printed + AHEAD * self.longest {
             return Next::Later;
@@ -194,6 +189,7 @@ impl<'a> Work<'a> {
                     _ => reason(&error),
                 };
                 self.failure = Some(format!("--from: {why}"));
+                self.is_failed = true;
                 return Next::End;
             }
         }
@@ -236,7 +232,7 @@ impl<'a> Work<'a> {
     /// The line of the job of this number.
     fn line_of(&self, number: u64) -> u64 {
         let seat = self.seats.iter().find(|seat| seat.number == number);
-        seat.and_then(|seat| asked(&self.entries[seat.entry])).map_or(0, |job| job.line)
+        seat.and_then(|seat| self.entries[seat.entry].job()).map_or(0, |job| job.line)
     }
 
     /// A part has ended: its entry too, where it was the last.
@@ -262,7 +258,7 @@ impl<'a> Work<'a> {
 
     /// An entry has ended.
     fn close(&mut self, open: Open) {
-        let Some(job) = asked(&self.entries[open.entry]) else { return };
+        let Some(job) = self.entries[open.entry].job() else { return };
         let is_told = self.print == Print::Rows && job.verb.is_change();
         if self.is_ordered() {
             self.report.end_bytes();
@@ -283,13 +279,13 @@ impl<'a> Work<'a> {
 
     /// The bytes of a read that has ended, from `from` of its entry on.
     fn show(&mut self, seat: &Seat, offset: u64, bytes: &[u8]) {
-        let Some(job) = asked(&self.entries[seat.entry]) else { return };
+        let Some(job) = self.entries[seat.entry].job() else { return };
         match self.print {
             Print::Nothing => {}
             Print::Lines => {
                 let range = Range { offset, length: bytes.len() as u64 };
                 let report = &mut *self.report;
-                self.progress.aside(|| report.script_bytes(Told { range, ..job }, bytes));
+                self.progress.aside(|| report.script_bytes(JobLine { range, ..job }, bytes));
             }
             Print::Rows | Print::Raw if seat.from == self.printed => {
                 self.print_next(job.range.offset, bytes);
@@ -319,7 +315,7 @@ impl<'a> Work<'a> {
         }
         let mut lines = Lines::default();
         for (i, entry) in self.entries.iter().enumerate() {
-            let Some(job) = asked(entry) else { continue };
+            let Some(job) = entry.job() else { continue };
             match self.states[i] {
                 State::Unbegun => lines.unbegun.push(job.line),
                 State::Done => lines.done.push(job.line),
@@ -348,7 +344,7 @@ impl Source for Work<'_> {
                 self.at += 1;
                 Next::Barrier
             }
-            Some(&Entry::Job { verb, range, line, digits }) => self.hand_out(Told { line, verb, range }, digits),
+            Some(&Entry::Job { verb, range, line, digits }) => self.hand_out(JobLine { line, verb, range }, digits),
         }
     }
 
@@ -376,15 +372,16 @@ impl Source for Work<'_> {
                 self.show(&seat, ended.job.offset, bytes);
             }
         }
+        self.is_failed |= failure.is_some();
         self.note_ended(&seat, ended, failure);
     }
 
     fn told(&mut self, told: &pitch_dock::Told<'_>) {
-        let is_zeroing = |job: &Told| matches!(job.verb, Verb::Zero | Verb::Alloc);
+        let is_zeroing = |job: &JobLine| matches!(job.verb, Verb::Zero | Verb::Alloc);
         let entries = self.entries;
         if told.request.kind == Kind::Write && told.code == Code::DONE {
             let seat = self.seats.iter_mut().find(|seat| seat.number == told.number);
-            if let Some(seat) = seat.filter(|seat| asked(&entries[seat.entry]).as_ref().is_some_and(is_zeroing)) {
+            if let Some(seat) = seat.filter(|seat| entries[seat.entry].job().as_ref().is_some_and(is_zeroing)) {
                 seat.told += told.request.length;
                 self.progress.add(told.request.length);
             }
