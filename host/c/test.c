@@ -265,7 +265,9 @@ static void refused_opening(unsigned number, const struct dock_settings *setting
 /* A refused opening leaves an open dock and its job, which goes on. */
 static void test_refused_opening_of_open_dock(void)
 {
-    static const struct wanted wanted[] = { { DOCK_READ, 0, 512, 0 }, { DOCK_READ, 0, 512, 0 }, { DOCK_WRITE, 0, 512, 0 } };
+    static const struct wanted wanted[] = {
+        { DOCK_READ, 0, 512, 0 }, { DOCK_READ, 0, 512, 0 }, { DOCK_WRITE, 0, 512, 0 },
+    };
     struct dock_settings unfit = { 3, 512, 512, 512, BOUNCE };
     size_t slot;
     open_row(ROW, BOUNCE);

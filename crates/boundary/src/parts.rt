@@ -23,6 +23,7 @@ ghost use Rattle.blockers.specs.Blockers.{enteredOf, leftOf, waitsOf};
 ghost use Rattle.dock.specs.Begin.{strength};
 ghost use Rattle.dock.specs.Slots.{whenDone};
 ghost use Rattle.words.specs.View.{flagOf, flagWord, vectorFrom, blockersOf};
+ghost use Rattle.words.specs.Kept.{isDone, sameUnless};
 ghost use Rattle.boundary.specs.Replies.{replyOf, alignmentPaper};
 
 // The vector with a segment more at its end.
@@ -197,7 +198,9 @@ pub extern "C" fn dock_words_blockers_enter(
     end: u64,
 ) -> u8
     ensures { λ r. ⌜ (r ≡ outcomeNumber (enteredOf (strength (flagOf strong)) slot (rangeOf start end) (blockersOf (now (blockers .entry))) .outcome))
-        × (blockersOf (now (blockers .exit)) ≡ enteredOf (strength (flagOf strong)) slot (rangeOf start end) (blockersOf (now (blockers .entry))) .blockers) ⌝ }
+        × (blockersOf (now (blockers .exit)) ≡ enteredOf (strength (flagOf strong)) slot (rangeOf start end) (blockersOf (now (blockers .entry))) .blockers)
+        × sameUnless (isDone (enteredOf (strength (flagOf strong)) slot (rangeOf start end) (blockersOf (now (blockers .entry))) .outcome))
+        (now (blockers .entry)) (now (blockers .exit)) ⌝ }
 {
     let range = Range {
         start: StoreOffset(start),
@@ -212,7 +215,8 @@ pub extern "C" fn dock_words_blockers_enter(
 #[no_mangle]
 pub extern "C" fn dock_words_blockers_leave(blockers: &mut [u64; 88], slot: usize) -> u8
     ensures { λ r. ⌜ (r ≡ outcomeNumber (leftOf slot (blockersOf (now (blockers .entry))) .outcome))
-        × (blockersOf (now (blockers .exit)) ≡ leftOf slot (blockersOf (now (blockers .entry))) .blockers) ⌝ }
+        × (blockersOf (now (blockers .exit)) ≡ leftOf slot (blockersOf (now (blockers .entry))) .blockers)
+        × sameUnless (isDone (leftOf slot (blockersOf (now (blockers .entry))) .outcome)) (now (blockers .entry)) (now (blockers .exit)) ⌝ }
 {
     let outcome = leave(blockers, slot);
     outcome.number()

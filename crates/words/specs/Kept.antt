@@ -54,7 +54,8 @@ sameThree t a b c a′ b′ c′ = sameUnless t a a′ × sameUnless t b b′ ×
 -- an opening over words of settings, blockers, states and vectors: the dock that it makes, or every word as it was
 abbrev pub opensOver : Opened → List ℕ → List ℕ → List ℕ → List ℕ → List ℕ → List ℕ → List ℕ → List ℕ → Type 0
 opensOver o s b x v s′ b′ x′ v′ =
-    opensAs (isDone (o .outcome)) (dockOf s′ b′ x′ v′) (o .dock) × sameUnless (isDone (o .outcome)) s s′ × sameThree (isDone (o .outcome)) b x v b′ x′ v′
+    opensAs (isDone (o .outcome)) (dockOf s′ b′ x′ v′) (o .dock)
+    × sameUnless (isDone (o .outcome)) s s′ × sameThree (isDone (o .outcome)) b x v b′ x′ v′
 
 -- ---- tell
 

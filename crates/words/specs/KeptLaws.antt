@@ -31,7 +31,8 @@ use Rattle.dock.specs.declared.open.Opened.{Opened}
 use Rattle.dock.specs.declared.begin.Begun.{Begun}
 use Rattle.dock.specs.declared.begin.Begun.the-variants.{Done as NoRequest, Placed, Refused as BeginRefused}
 use Rattle.words.specs.View.{blockersOf, statesOf, vectorsOf, settingsOf, buffersOf, dockOf}
-use Rattle.words.specs.Kept.{isDone, sameUnless, opensAs, opensOver, changes, Kept, keeps, keptBy, kept, Seats, seats, placedBy, placedIn}
+use Rattle.words.specs.Kept.{isDone, sameUnless, opensAs, opensOver}
+use Rattle.words.specs.Kept.{changes, Kept, keeps, keptBy, kept, Seats, seats, placedBy, placedIn}
 
 -- ---- what a call leaves in every word
 
@@ -62,7 +63,8 @@ module _ (made : Opened) (o : Outcome) (e : o ≡ made .outcome) (s b x v : List
   pub refused-opening : (r : Refusal) → o ≡ Refused r → (o ≡ made .outcome) × opensOver made s b x v s b x v
   refused-opening r f = (e, (not-opened _ _ _ (ap isDone (sym e ∙ f)), same-words _ _, (same-words _ _, same-words _ _, same-words _ _)))
 
-  pub done-opening : o ≡ Done → (s′ b′ x′ v′ : List ℕ) → dockOf s′ b′ x′ v′ ≡ made .dock → (Done ≡ made .outcome) × opensOver made s b x v s′ b′ x′ v′
+  pub done-opening : o ≡ Done → (s′ b′ x′ v′ : List ℕ) → dockOf s′ b′ x′ v′ ≡ made .dock
+      → (Done ≡ made .outcome) × opensOver made s b x v s′ b′ x′ v′
   done-opening f s′ b′ x′ v′ d =
       let k = ap isDone (sym e ∙ f) in
       (sym f ∙ e, (opened-as _ _ _ d, done-words _ _ _ k, (done-words _ _ _ k, done-words _ _ _ k, done-words _ _ _ k)))

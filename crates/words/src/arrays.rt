@@ -20,7 +20,7 @@ ghost use Rattle.dock.specs.Begin.{begins, beginOf};
 ghost use Rattle.dock.specs.Next.{nextOf, pieceOf};
 ghost use Rattle.dock.specs.Tell.{tells, tellOf, collectOf};
 ghost use Rattle.words.specs.View.{settingsOf, vectorFrom, blockersOf, dockOf};
-ghost use Rattle.words.specs.Kept.{isDone, isPlaced, isFinal, sameTwo, sameThree, opensOver};
+ghost use Rattle.words.specs.Kept.{isDone, isPlaced, isFinal, sameUnless, sameTwo, sameThree, opensOver};
 
 // The settings that the dock was opened with.
 pub fn settings_of(settings: &[u64; 9]) -> Settings
@@ -197,7 +197,8 @@ pub fn put_vector_of(vector: &mut [u64; 34], v: IoVector)
 // Enter a blocker of this kind. Refused (208) past slot 7 and where one is entered.
 pub fn enter(blockers: &mut [u64; 88], kind: Kind, slot: usize, range: Range) -> Outcome
     ensures { λ r. ⌜ (r ≡ enteredOf kind slot range (blockersOf (now (blockers .entry))) .outcome)
-        × (blockersOf (now (blockers .exit)) ≡ enteredOf kind slot range (blockersOf (now (blockers .entry))) .blockers) ⌝ }
+        × (blockersOf (now (blockers .exit)) ≡ enteredOf kind slot range (blockersOf (now (blockers .entry))) .blockers)
+        × sameUnless (isDone r) (now (blockers .entry)) (now (blockers .exit)) ⌝ }
 {
     crate::blocker_words::enter(blockers, kind, slot, range)
 }
@@ -205,7 +206,8 @@ pub fn enter(blockers: &mut [u64; 88], kind: Kind, slot: usize, range: Range) ->
 // The slot's blocker is gone, and nobody notes it any more. Refused (208) past slot 7 and where none is entered.
 pub fn leave(blockers: &mut [u64; 88], slot: usize) -> Outcome
     ensures { λ r. ⌜ (r ≡ leftOf slot (blockersOf (now (blockers .entry))) .outcome)
-        × (blockersOf (now (blockers .exit)) ≡ leftOf slot (blockersOf (now (blockers .entry))) .blockers) ⌝ }
+        × (blockersOf (now (blockers .exit)) ≡ leftOf slot (blockersOf (now (blockers .entry))) .blockers)
+        × sameUnless (isDone r) (now (blockers .entry)) (now (blockers .exit)) ⌝ }
 {
     crate::blocker_words::leave(blockers, slot)
 }
