@@ -699,6 +699,13 @@ def json_lines():
     events = [json.loads(line) for line in pitchcase(*CHANGES["fleet"], "--json").stdout.splitlines()]
     check([e["hex"] for e in events if e["event"] == "bytes" and e["line"] == 5] in (["ffff"], ["0000"]), events)
     check(seen == set(fields) - {"lines"}, "events seen:", seen)
+    if FAULTS:
+        write("script", b"write 600 ffff\nbarrier\nwrite 100 ff\nbarrier\nread 0 1\n")
+        ran = pitchcase(*CHANGES["fleet"], "--json", status=1, faults={"FAULT_WRITE": "2,5"})
+        events = {e["event"]: e for e in map(json.loads, ran.stdout.splitlines())}
+        wanted = {"event": "lines", "done": [[1, 1]], "failed": [[3, 3]], "partly": [], "not_begun": [[5, 5]]}
+        check(events["lines"] == wanted and events["end"]["status"] == 1, events)
+        check(events["job"]["code"] == 5 and events["job"]["reason"] == "input/output error (5)", events["job"])
 
 
 def progress():
