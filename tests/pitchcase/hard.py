@@ -155,34 +155,57 @@ def two_processes():
     return "%d of 120 refused" % refused
 
 
+def started(*words, faults=None, **more):
+    """Starts it, and waits until it notes signals."""
+    environment = dict(os.environ, **(dict(faults, LD_PRELOAD=FAULTS) if faults else {}))
+    more = {"stdout": subprocess.DEVNULL, "stderr": subprocess.DEVNULL, **more}
+    process = subprocess.Popen([PROGRAM, *map(str, words)], env=environment, **more)
+
+    def is_noting():
+        with open("/proc/%d/status" % process.pid) as f:
+            caught = next(line for line in f if line.startswith("SigCgt:"))
+        return int(caught.split()[1], 16) >> (signal.SIGINT - 1) & 1
+
+    wait_until(lambda: process.poll() is not None or is_noting(), "no signal is noted")
+    return process
+
+
+def wait_until(holds, what):
+    deadline = time.monotonic() + 30
+    while not holds():
+        check(time.monotonic() < deadline, what, "in 30 seconds")
+        time.sleep(0.005)
+
+
+def lock_of(path):
+    return json.loads(pitchcase("info", path, "--json").stdout)["lock"]
+
+
+def end(process):
+    process.kill()
+    process.wait()
+
+
 def locks():
+    """Readers share; one who changes is alone; a lock ends with its process."""
     write("image", bytes(512))
-    slow = {"FAULT_DELAY_US": "700000"}
-
-    def hold(*words):
-        process = subprocess.Popen([PROGRAM, *words], env=dict(os.environ, LD_PRELOAD=FAULTS, **slow), stdout=subprocess.DEVNULL,
-                                   stderr=subprocess.DEVNULL)
-        deadline = time.monotonic() + 20
-        while b"lock:       free" in pitchcase("info", "image").stdout:
-            check(time.monotonic() < deadline, "no lock was taken in 20 seconds")
-            time.sleep(0.01)
-        return process
-
-    reader = hold("look", "image", "0", "1")
-    check(b"held to read" in pitchcase("info", "image").stdout, "info does not see the reader's lock")
+    slow = {"FAULT_DELAY_US": "60000000"}
+    reader = started("look", "image", 0, 1, faults=slow)
+    wait_until(lambda: lock_of("image") == "held to read", "no lock to read")
     pitchcase("look", "image", 0, 1)
     ran = pitchcase("edit", "image", 0, "--hex", "aa", status=2)
     check(b"another process has it open under a lock" in ran.stderr, ran.stderr)
     pitchcase("edit", "image", 0, "--hex", "aa", "--plan")
-    check(reader.wait() == 0, "the reader")
-    changer = hold("edit", "image", "1", "--hex", "bb")
-    check(b"held to change" in pitchcase("info", "image").stdout, "info does not see the lock to change")
+    end(reader)
+    changer = started("edit", "image", 1, "--hex", "bb", faults=slow)
+    wait_until(lambda: lock_of("image") == "held to change", "no lock to change")
     ran = pitchcase("look", "image", 0, 1, status=2)
     check(b"another process is changing it" in ran.stderr, ran.stderr)
+    pitchcase("edit", "image", 0, "--hex", "aa", status=2)
     ran = pitchcase("look", "image", 0, 1, "--no-lock")
     check(b"either's edits may be lost" in ran.stderr, ran.stderr)
-    check(changer.wait() == 0, "the one who changes")
-    check(b"free" in pitchcase("info", "image").stdout, "a lock is left")
+    end(changer)
+    check(lock_of("image") == "free" and read("image") == bytes(512), "a lock is left, or a byte has changed")
 
 
 def peers_lock():
@@ -190,14 +213,18 @@ def peers_lock():
     if not shutil.which("qemu-io"):
         return "no qemu-io: left out"
     write("image", bytes(65536))
-    holder = subprocess.Popen(["qemu-io", "-f", "raw", "-c", "sleep 2500", "image"], stdout=subprocess.DEVNULL)
-    deadline = time.monotonic() + 20
-    while b"lock:       free" in pitchcase("info", "image").stdout:
-        check(time.monotonic() < deadline and holder.poll() is None, "qemu-io took no lock")
-        time.sleep(0.01)
+    holder = subprocess.Popen(["qemu-io", "-f", "raw", "-c", "sleep 60000", "image"], stdout=subprocess.DEVNULL)
+    wait_until(lambda: lock_of("image") != "free", "qemu-io took no lock")
     ran = pitchcase("edit", "image", 0, "--hex", "aa", status=2)
     check(b"another process has it open under a lock" in ran.stderr, ran.stderr)
-    holder.wait()
+    end(holder)
+    changer = started("edit", "image", 0, "--hex", "aa", faults={"FAULT_DELAY_US": "60000000"}) if FAULTS else None
+    if changer:
+        wait_until(lambda: lock_of("image") == "held to change", "no lock to change")
+        ran = subprocess.run(["qemu-io", "-f", "raw", "-c", "write 0 512", "image"], stdout=subprocess.PIPE, stderr=subprocess.STDOUT)
+        check(b"lock" in ran.stdout, "qemu-io takes an image that is being changed:", ran.stdout)
+        check(read("image") == bytes(65536), "qemu-io changed an image that is being changed")
+        end(changer)
     pitchcase("edit", "image", 0, "--hex", "aa")
     return None
 
@@ -312,21 +339,20 @@ def lines_of(text, what):
 def interrupted():
     """On SIGINT, SIGTERM and SIGHUP nothing new is begun, what is out is finished, and the lines done and not done are listed."""
     rng = random.Random(3)
-    for i, (sign, out) in enumerate(itertools.product((signal.SIGINT, signal.SIGTERM, signal.SIGHUP), ("1", "8"))):
+    jobs = 1500
+    for sign, out in itertools.product((signal.SIGINT, signal.SIGTERM, signal.SIGHUP), (1, 8)):
         before = random_bytes(rng, 65536)
-        edits = scattered_edits(rng, 65536, 400)
+        edits = scattered_edits(rng, 65536, jobs)
         write("image", before)
         write_script("script", edits)
-        process = subprocess.Popen([PROGRAM, "fleet", "image", "script", "--out", out], stdout=subprocess.PIPE, stderr=subprocess.PIPE,
-                                   env=dict(os.environ, LD_PRELOAD=FAULTS, FAULT_DELAY_US="4000"))
-        while read("image") == before:
-            time.sleep(0.005)
-        time.sleep(0.05)
+        process = started("fleet", "image", "script", "--out", out, faults={"FAULT_DELAY_US": "4000"}, stdout=subprocess.PIPE,
+                          stderr=subprocess.PIPE)
+        wait_until(lambda: read("image") != before, "nothing was written")
         process.send_signal(sign)
         said, messages = process.communicate(timeout=30)
-        check(process.returncode == 130 and messages.startswith(b"pitchcase: interrupted: "), sign, process.returncode, messages)
+        check(process.returncode == 130 and b"pitchcase: interrupted: " in messages, sign, process.returncode, messages)
         done, unbegun = lines_of(said, "done"), lines_of(said, "not begun")
-        check(done and unbegun and not done & unbegun and len(done | unbegun) == 400, "lines listed:", said[-500:])
+        check(done and unbegun and not done & unbegun and len(done | unbegun) == jobs, "lines listed:", said[-500:])
         after = read("image")
         old_or_new(before, after, edits, {line - 1 for line in done})
         left = [edits[line - 1][0] for line in unbegun]
@@ -336,18 +362,17 @@ def interrupted():
 def interrupted_twice():
     """The second one ends it at once; one while nothing is begun ends it with nothing touched."""
     write("image", IMAGE)
-    process = subprocess.Popen([PROGRAM, "edit", "image", "0", "--hex", "ff"], stdout=subprocess.DEVNULL, stderr=subprocess.DEVNULL,
-                               env=dict(os.environ, LD_PRELOAD=FAULTS, FAULT_DELAY_US="20000000"))
-    time.sleep(0.5)
+    process = started("edit", "image", 0, "--hex", "ff", faults={"FAULT_DELAY_US": "60000000"})
+    wait_until(lambda: lock_of("image") == "held to change", "no lock to change")
     start = time.monotonic()
     process.send_signal(signal.SIGINT)
     time.sleep(0.1)
     process.send_signal(signal.SIGINT)
-    check(process.wait() == 130 and time.monotonic() - start < 10, "a second SIGINT:", process.returncode)
-    process = subprocess.Popen([PROGRAM, "fleet", "image", "-"], stdin=subprocess.PIPE, stdout=subprocess.DEVNULL, stderr=subprocess.PIPE)
+    check(process.wait() == 130 and time.monotonic() - start < 30, "a second SIGINT:", process.returncode)
+    process = started("fleet", "image", "-", stdin=subprocess.PIPE, stderr=subprocess.PIPE)
     process.stdin.write(b"write 0 ff\n")
     process.stdin.flush()
-    time.sleep(0.5)
+    time.sleep(0.1)
     process.send_signal(signal.SIGINT)
     said = process.stderr.read()
     check(process.wait() == 130 and b"nothing was begun" in said and read("image") == IMAGE, "SIGINT while a script is typed:", said)
@@ -355,13 +380,12 @@ def interrupted_twice():
 
 def long_zeroing():
     """A long zeroing that is interrupted says how far it came."""
-    size = 200 << 20
+    size = 1 << 30
     with open("long", "wb") as f:
         f.truncate(size)
-    process = subprocess.Popen([PROGRAM, "zero", "long", "0", str(size), "--alloc", "--share", "4K"],
-                               stdout=subprocess.PIPE, stderr=subprocess.PIPE,
-                               env=dict(os.environ, LD_PRELOAD=FAULTS, FAULT_FALLOCATE="0,95", FAULT_DELAY_US="1"))
-    time.sleep(1)
+    process = started("zero", "long", 0, size, "--alloc", "--share", "4K", faults={"FAULT_FALLOCATE": "0,95", "FAULT_DELAY_US": "1"},
+                      stdout=subprocess.PIPE, stderr=subprocess.PIPE)
+    wait_until(lambda: os.stat("long").st_blocks > 0, "nothing was written")
     process.send_signal(signal.SIGINT)
     said, messages = process.communicate(timeout=60)
     check(process.returncode == 130 and b"partly done: " in said, process.returncode, said, messages)
@@ -675,6 +699,13 @@ def json_lines():
     events = [json.loads(line) for line in pitchcase(*CHANGES["fleet"], "--json").stdout.splitlines()]
     check([e["hex"] for e in events if e["event"] == "bytes" and e["line"] == 5] in (["ffff"], ["0000"]), events)
     check(seen == set(fields) - {"lines"}, "events seen:", seen)
+    if FAULTS:
+        write("script", b"write 600 ffff\nbarrier\nwrite 100 ff\nbarrier\nread 0 1\n")
+        ran = pitchcase(*CHANGES["fleet"], "--json", status=1, faults={"FAULT_WRITE": "2,5"})
+        events = {e["event"]: e for e in map(json.loads, ran.stdout.splitlines())}
+        wanted = {"event": "lines", "done": [[1, 1]], "failed": [[3, 3]], "partly": [], "not_begun": [[5, 5]]}
+        check(events["lines"] == wanted and events["end"]["status"] == 1, events)
+        check(events["job"]["code"] == 5 and events["job"]["reason"] == "input/output error (5)", events["job"])
 
 
 def progress():

@@ -5,7 +5,9 @@ use crate::system::{self, Change};
 use pitch_dock::{Code, Store};
 use std::fs::File;
 use std::io::{self, IoSlice, IoSliceMut};
+use std::ops::Range;
 use std::sync::atomic::{AtomicBool, Ordering};
+use std::sync::{Mutex, PoisonError};
 
 /// An image as a store.
 ///
@@ -21,12 +23,14 @@ pub struct Drive<'a> {
     /// Whether its file system has said that it makes no zeroes, only holes: to be asked once, for tmpfs finds holes
     /// slowly.
     only_holes: AtomicBool,
+    /// A part of a file that was found to be in no hole: finding where it ends is slow in a file of many parts.
+    data: Mutex<Range<u64>>,
 }
 
 impl<'a> Drive<'a> {
     /// The store of an image that has `end` bytes.
     pub fn new(file: &'a File, kind: Kind, end: u64) -> Drive<'a> {
-        Drive { file, kind, end, only_holes: AtomicBool::new(false) }
+        Drive { file, kind, end, only_holes: AtomicBool::new(false), data: Mutex::new(0..0) }
     }
 
     /// Reads until all pieces are full or the file ends; how many bytes.
@@ -102,15 +106,26 @@ impl<'a> Drive<'a> {
     fn zero_data(&self, offset: u64, length: u64) -> io::Result<()> {
         let end = offset + length;
         let mut at = offset;
-        while let Some(start) = system::next_data(self.file, at).filter(|&start| start < end) {
-            let stop = system::next_hole(self.file, start).min(end);
+        while let Some(data) = self.next_data(at).filter(|data| data.start < end) {
+            let stop = data.end.min(end);
             // A discard that is out together with this may have made a hole of it meanwhile.
-            if start < stop {
-                retried(|| system::fallocate(self.file, Change::Zero, start, stop - start))?;
+            if data.start < stop {
+                retried(|| system::fallocate(self.file, Change::Zero, data.start, stop - data.start))?;
             }
             at = stop;
         }
         Ok(())
+    }
+
+    /// The next part from `at` on that is in no hole.
+    fn next_data(&self, at: u64) -> Option<Range<u64>> {
+        let mut data = self.data.lock().unwrap_or_else(PoisonError::into_inner);
+        if data.contains(&at) {
+            return Some(at..data.end);
+        }
+        let start = system::next_data(self.file, at)?;
+        *data = start..system::next_hole(self.file, start);
+        Some(data.clone())
     }
 
     /// Zeroes that take up space: by one call, or where the file system has it not, a hole that is then allocated.
@@ -128,6 +143,7 @@ impl<'a> Drive<'a> {
 
     /// Forgets a range. What lies past the end has no content.
     fn forget(&self, offset: u64, length: u64) -> io::Result<()> {
+        *self.data.lock().unwrap_or_else(PoisonError::into_inner) = 0..0;
         match self.kind {
             _ if length == 0 => Ok(()),
             Kind::Device => retried(|| system::discard(self.file, offset, length)),

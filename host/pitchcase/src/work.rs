@@ -14,7 +14,7 @@ use std::os::unix::fs::FileExt;
 
 /// A zero or discard is cut at the multiples of this, a multiple of every alignment: so that it can be interrupted, and
 /// progress shown.
-const LONGEST_ZERO: u64 = 16 << 20;
+const LONGEST_ZERO: u64 = 4 << 20;
 /// How many parts of a look may be read ahead of the one that is printed next.
 const AHEAD: u64 = 16;
 
