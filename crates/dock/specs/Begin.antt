@@ -22,7 +22,7 @@ use Rattle.blockers.specs.declared.Kind.{Kind}
 use Rattle.blockers.specs.declared.Kind.the-variants.{Weak, Strong}
 use Rattle.blockers.specs.declared.Blockers.{Blockers}
 use Rattle.blockers.specs.declared.Changed.{Changed}
-use Rattle.stages.specs.Stages.{sizeOf, isBlocking, usesBounce, zeroJob, readPlan, writePlan, zeroPlan, discardPlan}
+use Rattle.stages.specs.Stages.{sizeOf, blockedOf, isBlocking, usesBounce, zeroJob, readPlan, writePlan, zeroPlan, discardPlan}
 use Rattle.stages.specs.declared.state.Job.{Job}
 use Rattle.stages.specs.declared.state.Job.the-variants.{Read, Write, Zeroes, AllocatedZeroes, Discard}
 use Rattle.stages.specs.declared.state.Phase.{Phase}
@@ -102,7 +102,8 @@ strength false = Weak
 -- "Direct writes, zero requests and discard requests enter a weak blocker over their range, padded writes a strong one over the padded range;
 -- reads enter none."
 unfoldable pub blockersWith : Blockers → ℕ → State → Changed
-blockersWith b p x = pick (isBlocking (x .phase)) (enteredOf (strength (x .stage .strong)) p (x .stage .request) b) (record { blockers = b; outcome = Done })
+blockersWith b p x =
+    pick (isBlocking (x .phase)) (enteredOf (strength (x .stage .strong)) p (blockedOf (x .stage)) b) (record { blockers = b; outcome = Done })
 
 abbrev pub withJob : Dock → ℕ → Blockers → State → IoVector → Dock
 withJob d p b x v = record { settings = d .settings; buffers = d .buffers; blockers = b; states = set (d .states) p x; vectors = set (d .vectors) p v }
@@ -212,6 +213,13 @@ planOf Write s b o n v = writePlan s o (v .total) (isAligned (alignmentOf (s .al
 planOf Zeroes s b o n v = zeroPlan s false o n
 planOf AllocatedZeroes s b o n v = zeroPlan s true o n
 planOf Discard s b o n v = discardPlan s o n
+
+-- the vector and the plan of what is asked
+abbrev pub vectorFor : Asked → IoVector
+vectorFor q = movedOf (q .job) (q .vector)
+
+abbrev pub planFor : Settings → Buffers → Asked → Plan
+planFor s b q = planOf (q .job) s b (q .offset) (q .length) (q .vector)
 
 -- begin, by the kind of the job
 abbrev pub beginBy : Job → Dock → StoreOffset → ℕ → IoVector → List ℕ → List ℕ → Begins

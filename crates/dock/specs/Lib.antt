@@ -1,4 +1,4 @@
--- What the contracts of dock cite, in document 01's order; the same for one slot; then the numbers of its answers, and a law on its refusals.
+-- What the contracts of dock cite, in document 01's order; the same for one slot; then the numbers of its answers, laws, and what computes.
 pub mod Dock
 pub mod Begin
 pub mod Next
@@ -8,3 +8,4 @@ pub mod SlotLaws
 pub mod Numbers
 pub mod RefusalLaws
 pub mod SeatLaws
+pub mod Computing

@@ -3,20 +3,19 @@ use mathlib.Core.Path.{_≡_, refl}
 use mathlib.Core.Bool.{true}
 use lib.ListN.{length}
 use Rattle.arithmetic.specs.declared.refusals.Outcome.the-variants.{Done}
-use Rattle.arithmetic.specs.Rounding.{fits, isMultiple}
-use Rattle.arithmetic.specs.Settings.{isAlignment, alignmentsFit, lengthAlign, bounceFits, settingsFit, buffersFit, openingOf}
-use Rattle.dock.specs.Dock.{fresh, openOf, lentFits}
+use Rattle.dock.specs.Dock.{openOf, lentFits}
+use Rattle.dock.specs.Computing.{computing}
 use Rattle.histories.specs.Histories.{Claim}
 use Rattle.histories.specs.Acts.{eventsOf}
 use Rattle.histories.specs.Example.{settings, buffers, world, plain, whole-list, example}
 use Rattle.histories.proofs.Theorem.{every-list}
 
 opens : openOf settings buffers .outcome ≡ Done
-unfolding fits isMultiple isAlignment alignmentsFit lengthAlign bounceFits settingsFit buffersFit openingOf fresh openOf
+unfolding computing
 opens = refl
 
 lends : lentFits buffers (length (world .memory)) (length (world .scratch)) ≡ true
-unfolding lentFits
+unfolding computing
 lends = refl
 
 pub claimed : Claim world plain (eventsOf world whole-list)

@@ -31,16 +31,17 @@ use Rattle.stages.specs.declared.state.State.{State}
 use Rattle.dock.specs.Dock.{noState, noVector, stateAt, vectorAt, isReadJob, meetsOf, meetsAt, overlapsOf, firstFree}
 use Rattle.dock.specs.Begin.{isWriteJob, isBouncedWrite, sourceOf, sourceFits, mergedAt, filled, placed}
 use Rattle.dock.specs.declared.dock.Dock.{Dock}
+use Rattle.dock.specs.declared.begin.Asked.{Asked}
 use Rattle.histories.specs.Courses.{isZeroJob, puts, isRegular, suited, never}
 use Rattle.histories.specs.Calls.{Ready, free-idle, write-vector, copied, first-free, free-there, place-held}
 use Rattle.histories.specs.MadeLaws.{data-long}
 use Rattle.histories.specs.Store.{Bytes}
-use Rattle.histories.specs.PlainStore.{Tracked, Plain, newBytes, setAt}
-use Rattle.histories.specs.Histories.{World}
+use Rattle.histories.specs.PlainStore.{Tracked, Plain, newBytes, putJob}
+use Rattle.histories.specs.Histories.{World, called}
 use Rattle.histories.proofs.Lists.{share-put-length, share-put-other, share-put-on}
 use Rattle.histories.proofs.Geometry.{Geo, Unread, Shaped}
 use Rattle.histories.proofs.Progress.{Before}
-use Rattle.histories.proofs.Invariant.{share, Fact, Flight, within, no-padding}
+use Rattle.histories.proofs.Invariant.{share, Fact, AskedFor, Flight, within, no-padding}
 use Rattle.histories.proofs.World.{Taken, SlotInv, Inv, room, enter-waits}
 use Rattle.histories.proofs.Renewing.{set-same, set-other, renewed-inv}
 
@@ -139,13 +140,13 @@ module _ (n p : ℕ) (h : p < 8) (x : State) (v : IoVector) (memory scratch : Li
 
 -- ---- the job comes to its slot
 
--- what a begin's plan and its vector give: bs are the vector's bytes, as the plain byte store is fed them
-pub record Start (d : Dock) (j : Job) (v : IoVector) (memory bs : List ℕ) (x : State) : Type 0 where
+-- what a begin's plan and its vector give
+pub record Start (d : Dock) (q : Asked) (j : Job) (v : IoVector) (x : State) : Type 0 where
+  pub asked : AskedFor q x v
   pub ready : Ready (d .settings) (d .buffers .«data» .length) v x
   pub shaped : Shaped x
   pub reads : isReadJob (x .job) ≡ isReadJob j
   pub before : isZeroJob (x .job) ≡ true → Before (x .course) (x .stage .asked) (x .range) (x .middle) []
-  pub source : isWriteJob (x .job) ≡ true → bytesOf memory (segmentsOf v) ≡ bs
 
 pub bounced-puts : (x : State) (ph : Phase) → x .phase ≡ ph → isRegular x ≡ true → isBouncedWrite ph ≡ true → isWriteJob (x .job) ≡ true ⊎ isZeroJob (x .job) ≡ true
 bounced-puts x BouncedWrite p k e = by (x .course) (suited x k BouncedWrite p)
@@ -188,21 +189,25 @@ opened-fact s memory sh x v j g u p f = by (x .phase) refl u p f
     by ZeroRequest e u p f = λ c. no c
     by DiscardRequest e u p f = tt
 
-module _ (w : World) (m : Plain) (I : Inv w m) (j : Job) (v : IoVector) (bs : List ℕ) (x : State) (k : Start (w .dock) j v (w .memory) bs x) (clear : overlapsOf (w .dock .states) (w .dock .vectors) j v ≡ false) (h : firstFree (w .dock .states) < 8) where
+module _ (w : World) (m : Plain) (I : Inv w m) (ask : Asked) (j : Job) (v : IoVector) (x : State) (k : Start (w .dock) ask j v x) (clear : overlapsOf (w .dock .states) (w .dock .vectors) j v ≡ false) (h : firstFree (w .dock .states) < 8) where
   abbrev d : Dock
   d = w .dock
 
   abbrev p : ℕ
   p = firstFree (w .dock .states)
 
+  -- the vector's bytes, as the plain byte store is fed them
+  abbrev bs : List ℕ
+  bs = bytesOf (w .memory) (segmentsOf v)
+
   abbrev job : Tracked
-  job = record { first = x; bytes = bs; codes = []; steps = [] }
+  job = record { asked = ask; bytes = bs; first = x; codes = []; steps = [] }
 
   abbrev begun : World
-  begun = record { dock = placed d p x v (w .memory) (w .scratch) .dock; store = w .store; memory = w .memory; scratch = placed d p x v (w .memory) (w .scratch) .scratch; carried = w .carried }
+  begun = called w (placed d p x v (w .memory) (w .scratch) .dock) (w .memory) (placed d p x v (w .memory) (w .scratch) .scratch)
 
   abbrev entered : Plain
-  entered = record { settings = m .settings; buffers = m .buffers; bytes = m .bytes; jobs = setAt (m .jobs) p (some job) }
+  entered = putJob m p (some job)
 
   long : length (w .memory) ≡ d .buffers .«data» .length
   long = data-long (d .buffers) (length (w .memory)) (length (w .scratch)) (I .long)
@@ -228,9 +233,8 @@ module _ (w : World) (m : Plain) (I : Inv w m) (j : Job) (v : IoVector) (bs : Li
   flies : Flight (d .settings) (w .store) (w .memory) (share (begun .scratch) (d .settings .bounce) p) x v none (waitsOf p (begun .dock .blockers)) job
   flies = record {
     stands = refl;
-    job = refl;
-    range = refl;
-    source = k .source;
+    asked = k .asked;
+    source = λ u. refl;
     geo = k .shaped .geo;
     zoned = λ e. k .shaped .zoned;
     as-asked = k .shaped .as-asked;
@@ -238,7 +242,7 @@ module _ (w : World) (m : Plain) (I : Inv w m) (j : Job) (v : IoVector) (bs : Li
     fact =
         opened-fact (w .store) (w .memory) (share (begun .scratch) (d .settings .bounce) p) x v job (k .shaped .geo) (k .shaped .unread) (k .ready .pending)
         (λ e i l.
-        fill-own (d .settings .bounce) p h x v (w .memory) (w .scratch) (room w m I) inside fits e bs (k .source) (bounced-puts x (x .phase) refl (k .ready .regular) e) (x .stage .asked .start .0) i l);
+        fill-own (d .settings .bounce) p h x v (w .memory) (w .scratch) (room w m I) inside fits e bs (λ u. refl) (bounced-puts x (x .phase) refl (k .ready .regular) e) (x .stage .asked .start .0) i l);
     fresh = λ a. (refl, k .shaped .unread);
   }
 

@@ -35,8 +35,8 @@ use Rattle.dock.specs.declared.next.Piece.the-variants.{InData, InScratch}
 use Rattle.histories.specs.Courses.{hasVector, never}
 use Rattle.histories.specs.MadeLaws.{kept-held}
 use Rattle.histories.specs.Store.{Bytes, piecesFrom, gathered, landed}
-use Rattle.histories.specs.PlainStore.{Did, Tracked, Plain, setAt}
-use Rattle.histories.specs.Histories.{World, unless, made, outIn, putBy}
+use Rattle.histories.specs.PlainStore.{Did, Tracked, Plain, putJob, putBytes, withSteps}
+use Rattle.histories.specs.Histories.{World, unless, made, outIn, putBy, acted}
 use Rattle.histories.proofs.Progress.{Before}
 use Rattle.histories.proofs.Invariant.{share, Fact}
 use Rattle.histories.proofs.World.{Taken, Tracks, Inv}
@@ -152,13 +152,13 @@ before-grows Chunks a r m ds es f b = λ y h k. f y (b y h k)
 module _ (w : World) (m : Plain) (I : Inv w m) (p : ℕ) (h : p < 8) (pending : isPending (stateAt (w .dock) p .phase) ≡ true) (free : waitsOf p (w .dock .blockers) ≡ false) (T : Tracks w m p) (code : ℕ)
     (store' : Bytes) (memory' scratch' : List ℕ) (bytes' : Bytes) (steps' : List Did) where
   abbrev job' : Tracked
-  job' = record { first = T .j .first; bytes = T .j .bytes; codes = T .j .codes; steps = steps' }
+  job' = withSteps (T .j) steps'
 
   abbrev after : World
-  after = record { dock = w .dock; store = store'; memory = memory'; scratch = scratch'; carried = setAt (w .carried) p (some code) }
+  after = acted w p code store' memory' scratch'
 
   abbrev stepped : Plain
-  stepped = record { settings = m .settings; buffers = m .buffers; bytes = bytes'; jobs = setAt (m .jobs) p (some job') }
+  stepped = putJob (putBytes m bytes') p (some job')
 
   pub carry-inv : ((y : ℕ) → putBy (T .j .steps) y ≡ true → putBy steps' y ≡ true)
       → ((q : ℕ) → q < 8 → q ≢ p → Taken (w .dock) q → hasVector (stateAt (w .dock) q .job) ≡ true → bytesOf memory' (segmentsOf (vectorAt (w .dock) q)) ≡ bytesOf (w .memory) (segmentsOf (vectorAt (w .dock) q)))
@@ -182,8 +182,7 @@ module _ (w : World) (m : Plain) (I : Inv w m) (p : ℕ) (h : p < 8) (pending : 
                   rw (set-same (w .carried) p (some code))
                   (record {
                     stands = T .flight .stands;
-                    job = T .flight .job;
-                    range = T .flight .range;
+                    asked = T .flight .asked;
                     source = source;
                     geo = T .flight .geo;
                     zoned = T .flight .zoned;

@@ -10,6 +10,7 @@ use lib.Dec.{leb}
 use lib.ListN.{length, getD}
 use borrow.Author.Tests.{leb-true}
 use Rattle.arithmetic.specs.SettingsLaws.{and-left, and-right}
+use Rattle.arithmetic.specs.declared.offsets.Range.{Range}
 use Rattle.arithmetic.specs.declared.settings.Settings.{Settings}
 use Rattle.vectors.specs.Vectors.{segmentsOf, bytesOf}
 use Rattle.vectors.specs.declared.vector.IoVector.{IoVector}
@@ -21,11 +22,12 @@ use Rattle.stages.specs.declared.state.Phase.{Phase}
 use Rattle.stages.specs.declared.state.Phase.the-variants.{Free, Ended, DirectRead, BouncedRead, FirstRead, SecondRead, BouncedWrite, DirectWrite, ZeroRequest, DiscardRequest}
 use Rattle.stages.specs.declared.state.Stage.{Stage}
 use Rattle.stages.specs.declared.state.State.{State}
-use Rattle.dock.specs.Begin.{isWriteJob}
+use Rattle.dock.specs.Begin.{isWriteJob, vectorFor}
+use Rattle.dock.specs.declared.begin.Asked.{Asked}
 use Rattle.histories.specs.Courses.{isZeroJob, hasVector, isRegular}
 use Rattle.histories.specs.Calls.{write-vector, read-vector, direct-reads}
 use Rattle.histories.specs.Store.{Bytes}
-use Rattle.histories.specs.PlainStore.{yielded, wrote, zeroed, Tracked, newBytes, standing}
+use Rattle.histories.specs.PlainStore.{yielded, wrote, zeroed, rangeFor, Tracked, newBytes, standing}
 use Rattle.histories.specs.Histories.{Among, OwedBy}
 use Rattle.histories.proofs.Geometry.{Beside, ReadBy, Geo, Unread, AsAsked, Zoned}
 use Rattle.histories.proofs.Progress.{Before}
@@ -47,10 +49,10 @@ Fetched s sh x i = sh i ≡ s (x .stage .request .start .0 + i)
 -- by which request is out: sh is the slot's share, car the code with which the request was carried out
 abbrev pub Fact : Phase → Bytes → List ℕ → (ℕ → ℕ) → State → IoVector → Option ℕ → Tracked → Type 0
 Fact Free s memory sh x v car j = Unit {0}
-Fact Ended s memory sh x v car j = x .answer ≡ 0 → OwedBy (x .job) j v memory
-Fact DirectRead s memory sh x v car j = car ≡ some 0 → OwedBy Read j v memory
+Fact Ended s memory sh x v car j = x .answer ≡ 0 → OwedBy (x .job) (x .range) v j memory
+Fact DirectRead s memory sh x v car j = car ≡ some 0 → OwedBy Read (x .range) v j memory
 Fact BouncedRead s memory sh x v car j =
-    car ≡ some 0 → (bs : List ℕ) × Among (yielded (j .first .range) bs) (j .steps) × (length bs ≡ sizeOf (x .stage .asked))
+    car ≡ some 0 → (bs : List ℕ) × Among (yielded (x .range) bs) (j .steps) × (length bs ≡ sizeOf (x .stage .asked))
     × ((i : ℕ) → i < sizeOf (x .stage .asked) → sh (x .stage .head .0 + i) ≡ getD bs i 0)
 Fact FirstRead s memory sh x v car j = car ≡ some 0 → (i : ℕ) → i < sizeOf (x .stage .first) → Fetched s sh x i
 Fact SecondRead s memory sh x v car j =
@@ -64,11 +66,19 @@ Fact DirectWrite s memory sh x v car j = car ≡ some 0 → Wrote x j
 Fact ZeroRequest s memory sh x v car j = car ≡ some 0 → Among (zeroed (x .stage .request) 0) (j .steps)
 Fact DiscardRequest s memory sh x v car j = Unit {0}
 
+-- the job x with the vector v is what was asked
+pub record AskedFor (q : Asked) (x : State) (v : IoVector) : Type 0 where
+  pub job : q .job ≡ x .job
+  pub range : rangeFor q ≡ x .range
+  pub vector : vectorFor q ≡ v
+
+pub asked-on : {q : Asked} {x y : State} {v : IoVector} → AskedFor q x v → y .job ≡ x .job → y .range ≡ x .range → AskedFor q y v
+asked-on k e f = record { job = k .job ∙ sym e; range = k .range ∙ sym f; vector = k .vector }
+
 -- a job in flight, and what the plain byte store has of it
 pub record Flight (t : Settings) (s : Bytes) (memory : List ℕ) (sh : ℕ → ℕ) (x : State) (v : IoVector) (car : Option ℕ) (wait : Bool) (j : Tracked) : Type 0 where
   pub stands : standing t (j .first) (j .codes) ≡ x
-  pub job : j .first .job ≡ x .job
-  pub range : j .first .range ≡ x .range
+  pub asked : AskedFor (j .asked) x v
   pub source : isWriteJob (x .job) ≡ true → bytesOf memory (segmentsOf v) ≡ j .bytes
   pub geo : Geo (x .stage)
   pub zoned : isPending (x .phase) ≡ true → Zoned x
@@ -109,12 +119,12 @@ within n x e u =
       second = leb-true _ n (and-right (a && b && c) d l);
     }
 
-owed-frame : (k : Job) (j : Tracked) (v : IoVector) (memory memory' : List ℕ) → (hasVector k ≡ true → bytesOf memory' (segmentsOf v) ≡ bytesOf memory (segmentsOf v)) → OwedBy k j v memory → OwedBy k j v memory'
-owed-frame Read j v memory memory' e o = (o .0, o .1, e refl ∙ o .2)
-owed-frame Write j v memory memory' e o = o
-owed-frame Zeroes j v memory memory' e o = o
-owed-frame AllocatedZeroes j v memory memory' e o = o
-owed-frame Discard j v memory memory' e o = o
+owed-frame : (k : Job) (r : Range) (v : IoVector) (j : Tracked) (memory memory' : List ℕ) → (hasVector k ≡ true → bytesOf memory' (segmentsOf v) ≡ bytesOf memory (segmentsOf v)) → OwedBy k r v j memory → OwedBy k r v j memory'
+owed-frame Read r v j memory memory' e o = (o .0, o .1, e refl ∙ o .2)
+owed-frame Write r v j memory memory' e o = o
+owed-frame Zeroes r v j memory memory' e o = o
+owed-frame AllocatedZeroes r v j memory memory' e o = o
+owed-frame Discard r v j memory memory' e o = o
 
 module _ (t : Settings) (s s' : Bytes) (memory memory' : List ℕ) (sh sh' : ℕ → ℕ) (x : State) (v : IoVector) (car : Option ℕ) (wait wait' : Bool) (j : Tracked)
     (sound : isSound (t .bounce) x ≡ true) (placed : isPending (x .phase) ≡ true → Placed (x .stage)) (regular : isRegular x ≡ true)
@@ -137,8 +147,8 @@ module _ (t : Settings) (s s' : Bytes) (memory memory' : List ℕ) (sh sh' : ℕ
 
   by-phase : (ph : Phase) → x .phase ≡ ph → Fact ph s memory sh x v car j → Fact ph s' memory' sh' x v car j
   by-phase Free e f = tt
-  by-phase Ended e f = λ a. owed-frame (x .job) j v memory memory' data-same (f a)
-  by-phase DirectRead e f = λ c. owed-frame Read j v memory memory' (λ u. data-same (reads e)) (f c)
+  by-phase Ended e f = λ a. owed-frame (x .job) (x .range) v j memory memory' data-same (f a)
+  by-phase DirectRead e f = λ c. owed-frame Read (x .range) v j memory memory' (λ u. data-same (reads e)) (f c)
     where
       reads : x .phase ≡ DirectRead → hasVector (x .job) ≡ true
       reads e = read-vector (x .job) (direct-reads x regular e)
@@ -186,8 +196,7 @@ module _ (t : Settings) (s s' : Bytes) (memory memory' : List ℕ) (sh sh' : ℕ
   pub flight-frame : Flight t s' memory' sh' x v car wait' j
   flight-frame = record {
     stands = F .stands;
-    job = F .job;
-    range = F .range;
+    asked = F .asked;
     source = λ u. data-same (write-vector (x .job) u) ∙ F .source u;
     geo = F .geo;
     zoned = F .zoned;

@@ -27,8 +27,8 @@ use Rattle.histories.specs.Held.{Held}
 use Rattle.histories.specs.Keeping.{fresh-held}
 use Rattle.histories.specs.Calls.{freed-held}
 use Rattle.histories.specs.Store.{Bytes}
-use Rattle.histories.specs.PlainStore.{Plain, plainOpened, setAt}
-use Rattle.histories.specs.Histories.{World, opened, Same}
+use Rattle.histories.specs.PlainStore.{Plain, plainOpened, setAt, putJob}
+use Rattle.histories.specs.Histories.{World, opened, Same, called}
 use Rattle.histories.proofs.Invariant.{share}
 use Rattle.histories.proofs.World.{Taken, SlotInv, Inv, slot-frame}
 
@@ -135,10 +135,10 @@ ended-idle DiscardRequest e = never e
 
 module _ (w : World) (m : Plain) (I : Inv w m) (p : ℕ) (h : p < 8) (e : hasEnded (stateAt (w .dock) p .phase) ≡ true) where
   abbrev freed : World
-  freed = record { dock = withJob (w .dock) p (w .dock .blockers) vacant (vectorOf []); store = w .store; memory = w .memory; scratch = w .scratch; carried = w .carried }
+  freed = called w (withJob (w .dock) p (w .dock .blockers) vacant (vectorOf [])) (w .memory) (w .scratch)
 
   abbrev removed : Plain
-  removed = record { settings = m .settings; buffers = m .buffers; bytes = m .bytes; jobs = setAt (m .jobs) p none }
+  removed = putJob m p none
 
   now-free : isFree (stateAt (freed .dock) p .phase) ≡ true
   unfolding vacant

@@ -42,8 +42,8 @@ use Rattle.histories.specs.Held.{SlotOf}
 use Rattle.histories.specs.Calls.{read-no-write, pending-taken, read-vector, write-vector, direct-reads}
 use Rattle.histories.specs.MadeLaws.{data-long}
 use Rattle.histories.specs.Store.{Bytes, Choice, Buffered, inRange, changed, becomesNew, window, laidAt, piecesFrom, gathered, landed, yields, stored, fetched}
-use Rattle.histories.specs.PlainStore.{Did, yielded, wrote, zeroed, discarded, Tracked, Plain, newBytes, standing, withStep, noStep, stepBy, carriedOut, carriedBy, Carried, setAt}
-use Rattle.histories.specs.Histories.{World, carriesOut, puts, putBy, Among, here, OwedBy}
+use Rattle.histories.specs.PlainStore.{Did, yielded, wrote, zeroed, discarded, Tracked, Plain, newBytes, standing, withStep, noStep, stepBy, carriedOut, carriedBy, Stepped, afterStep, putJob, putBytes, withSteps}
+use Rattle.histories.specs.Histories.{World, carriesOut, puts, putBy, Among, here, OwedBy, acted}
 use Rattle.histories.proofs.Lists.{window-length, window-at, share-room, share-put-length, share-put-other, share-put-off, share-put-on}
 use Rattle.histories.proofs.Geometry.{Beside, ReadBy, AsAsked}
 use Rattle.histories.proofs.Invariant.{share, Fact, within}
@@ -147,16 +147,13 @@ fetched-zero Discard q ps code c s memory scratch = refl
 -- the plain byte store's step is that of the state in which its job stands
 carried-is : (m : Plain) (p code : ℕ) (c : Choice) (t : Settings) (j : Tracked) (x : State) (ph : Phase) → m .jobs p ≡ some j → m .settings ≡ t → standing t (j .first) (j .codes) ≡ x → x .phase ≡ ph
     → carriedBy (m .jobs p) m p code c
-    ≡ record { settings = m .settings; buffers = m .buffers; bytes = stepBy ph code c x (m .bytes) j .bytes; jobs = setAt (m .jobs) p (some (stepBy ph code c x (m .bytes) j .job)) }
+    ≡ afterStep m p (stepBy ph code c x (m .bytes) j)
 unfolding carriedOut
 carried-is m p code c t j x ph is st stands e =
     ap (λ (o : Option Tracked). carriedBy o m p code c) is
-    ∙ ap (λ (r : Carried). with r)
+    ∙ ap (λ (r : Stepped). afterStep m p r)
     (ap (λ (u : Settings). stepBy (standing u (j .first) (j .codes) .phase) code c (standing u (j .first) (j .codes)) (m .bytes) j) st
     ∙ ap (λ (y : State). stepBy (y .phase) code c y (m .bytes) j) stands ∙ ap (λ (k : Phase). stepBy k code c x (m .bytes) j) e)
-  where
-    with : Carried → Plain
-    with r = record { settings = m .settings; buffers = m .buffers; bytes = r .bytes; jobs = setAt (m .jobs) p (some (r .job)) }
 
 -- ---- the slot whose request is carried out
 
@@ -183,7 +180,7 @@ module _ (w : World) (m : Plain) (I : Inv w m) (p : ℕ) (q : Request) (O : Out 
   place = S .placed (O .pending)
 
   plain-is : (ph : Phase) → x .phase ≡ ph → carriedBy (m .jobs p) m p code c
-      ≡ record { settings = m .settings; buffers = m .buffers; bytes = stepBy ph code c x (m .bytes) (T .j) .bytes; jobs = setAt (m .jobs) p (some (stepBy ph code c x (m .bytes) (T .j) .job)) }
+      ≡ afterStep m p (stepBy ph code c x (m .bytes) (T .j))
   plain-is ph e = carried-is m p code c (w .dock .settings) (T .j) x ph (T .is) (I .settings) (T .flight .stands) e
 
   request-is : (ph : Phase) → x .phase ≡ ph → q ≡ requestBy ph x (v .count)
@@ -201,15 +198,21 @@ module _ (w : World) (m : Plain) (I : Inv w m) (p : ℕ) (q : Request) (O : Out 
       U : SlotOf (w .dock) o
       U = I .held .slots o h
 
-      clear : overlaps (x .stage .request) (stateAt (w .dock) o .stage .request) ≡ false
+      B : ℕ → Range
+      B k = blockerAt (w .dock .blockers) k .range
+
+      clear : overlaps (B p) (B o) ≡ false
       clear =
-          subst (λ (r : Range). overlaps r (stateAt (w .dock) o .stage .request) ≡ false) (S .blocker b .1)
-          (subst (λ (r : Range). overlaps (blockerAt (w .dock .blockers) p .range) r ≡ false) (U .blocker blocks .1)
-          (free-apart (w .dock .blockers) (I .held .rank) (I .held .clock) (I .held .blockers) p o (O .slot) h (λ e. n (sym e)) (S .entered ∙ b) (U .entered ∙ blocks)
-          (inr (U .blocker blocks .0 ∙ ap strength strong)) (O .free) free))
+          free-apart (w .dock .blockers) (I .held .rank) (I .held .clock) (I .held .blockers) p o (O .slot) h (λ e. n (sym e)) (S .entered ∙ b) (U .entered ∙ blocks)
+          (inr (U .blocker blocks .0 ∙ ap strength strong)) (O .free) free
 
       outside : (t : Bool) → inRange (x .stage .request) y ≡ t → t ≡ false
-      outside true e = sym (shared-overlap (x .stage .request) (stateAt (w .dock) o .stage .request) y e (in-range (stateAt (w .dock) o .stage .request) y (omega arith) (omega arith))) ∙ clear
+      outside true e =
+          let a = leb-true (x .stage .request .start .0) y (and-left _ _ e) in
+          let z = ltb-true y (x .stage .request .end .0) (and-right (leb (x .stage .request .start .0) y) _ e) in
+          let own = S .blocker b .1 in
+          let its = U .blocker blocks .1 in
+          sym (shared-overlap (B p) (B o) y (in-range (B p) y (omega (arith, own .from, a)) (omega (arith, own .to, z))) (in-range (B o) y (omega (arith, its .from)) (omega (arith, its .to, l)))) ∙ clear
       outside false e = refl
 
   -- ---- a read into the share, of the range r, from a on
@@ -225,14 +228,14 @@ module _ (w : World) (m : Plain) (I : Inv w m) (p : ℕ) (q : Request) (O : Out 
     scratch' = put (w .scratch) (p * N + a) bs
 
     abbrev fetching : World
-    fetching = record { dock = w .dock; store = w .store; memory = w .memory; scratch = scratch'; carried = setAt (w .carried) p (some code) }
+    fetching = acted w p code (w .store) (w .memory) scratch'
 
     share-world : carriesOut w p code c q ≡ fetching
     unfolding landed
     share-world =
         ap (λ (k : Request). carriesOut w p code c k) is
-        ∙ ap (λ (ps : List Piece). record { dock = w .dock; store = w .store; memory = landed ps bs (w .memory) (w .scratch) .memory; scratch = landed ps bs (w .memory) (w .scratch) .scratch; carried = setAt (w .carried) p (some code) }) pieces
-        ∙ ap (λ (l : List ℕ). record { dock = w .dock; store = w .store; memory = w .memory; scratch = put (w .scratch) (p * N + a) l; carried = setAt (w .carried) p (some code) }) whole
+        ∙ ap (λ (ps : List Piece). acted w p code (w .store) (landed ps bs (w .memory) (w .scratch) .memory) (landed ps bs (w .memory) (w .scratch) .scratch)) pieces
+        ∙ ap (λ (l : List ℕ). acted w p code (w .store) (w .memory) (put (w .scratch) (p * N + a) l)) whole
       where
         whole : take (sizeOf r) bs ≡ bs
         whole = ap (λ (n : ℕ). take n bs) (sym bs-long) ∙ take-length bs
@@ -251,10 +254,10 @@ module _ (w : World) (m : Plain) (I : Inv w m) (p : ℕ) (q : Request) (O : Out 
     read-off i o = share-put-off (w .scratch) N p a bs (O .slot) (room w m I) inside i (⊎-elim (λ k. inl k) (λ k. inr (omega (arith, bs-long))) o)
 
     share-inv : (steps' : List Did) → ((y : ℕ) → putBy (T .j .steps) y ≡ true → putBy steps' y ≡ true)
-        → Fact (x .phase) (w .store) (w .memory) (share scratch' N p) x v (some code) (record { first = T .j .first; bytes = T .j .bytes; codes = T .j .codes; steps = steps' })
-        → Inv (carriesOut w p code c q) (record { settings = m .settings; buffers = m .buffers; bytes = m .bytes; jobs = setAt (m .jobs) p (some (record { first = T .j .first; bytes = T .j .bytes; codes = T .j .codes; steps = steps' })) })
+        → Fact (x .phase) (w .store) (w .memory) (share scratch' N p) x v (some code) (withSteps (T .j) steps')
+        → Inv (carriesOut w p code c q) (putJob m p (some (withSteps (T .j) steps')))
     share-inv steps' grows fact =
-        subst (λ (z : World). Inv z (record { settings = m .settings; buffers = m .buffers; bytes = m .bytes; jobs = setAt (m .jobs) p (some (record { first = T .j .first; bytes = T .j .bytes; codes = T .j .codes; steps = steps' })) })) (sym share-world)
+        subst (λ (z : World). Inv z (putJob m p (some (withSteps (T .j) steps')))) (sym share-world)
         (carry-inv w m I p (O .slot) (O .pending) (O .free) T code (w .store) (w .memory) scratch' (m .bytes) steps' grows
         (λ o g n f u. refl) (λ o i n k. share-put-other (w .scratch) N p a bs (O .slot) (room w m I) inside o i (λ z. n (sym z)) k) (λ o g n f s b i k. refl)
         (rw (share-put-length (w .scratch) N p a bs (O .slot) (room w m I) inside) (I .long)) (I .same) (T .flight .source) fact)
@@ -354,8 +357,8 @@ module _ (w : World) (m : Plain) (I : Inv w m) (p : ℕ) (q : Request) (O : Out 
       fits : 0 + sizeOf (x .stage .request) ≤ N
       fits = let k = within N x (S .sound) (ap usesBounce e) .size in omega (arith, k)
 
-      range-same : T .j .first .range ≡ x .stage .asked
-      range-same = T .flight .range ∙ sym (sole (read-vector (x .job) (bounced-read e)))
+      range-same : x .range ≡ x .stage .asked
+      range-same = sym (sole (read-vector (x .job) (bounced-read e)))
 
       sh : ℕ → ℕ
       sh = share (put (w .scratch) (p * N + 0) (window (yields code c (w .store)) (r .start .0) (sizeOf r))) N p
@@ -373,7 +376,7 @@ module _ (w : World) (m : Plain) (I : Inv w m) (p : ℕ) (q : Request) (O : Out 
           ∙ I .same (g .start .0 + i) ∙ sym (window-at (m .bytes) (g .start .0) (sizeOf g) i h)
 
       go : (t : Bool) → eqb code 0 ≡ t
-          → Inv (carriesOut w p code c q) (record { settings = m .settings; buffers = m .buffers; bytes = pick t (record { bytes = m .bytes; job = withStep (T .j) (yielded g ys) }) (noStep (m .bytes) (T .j)) .bytes; jobs = setAt (m .jobs) p (some (pick t (record { bytes = m .bytes; job = withStep (T .j) (yielded g ys) }) (noStep (m .bytes) (T .j)) .job)) })
+          → Inv (carriesOut w p code c q) (afterStep m p (pick t (record { bytes = m .bytes; job = withStep (T .j) (yielded g ys) }) (noStep (m .bytes) (T .j))))
       go true z =
           share-inv r 0 is pieces fits (yielded g ys ∷ T .j .steps) (λ y k. k)
           (subst (λ (ph : Phase). Fact ph (w .store) (w .memory) sh x v (some code) (withStep (T .j) (yielded g ys))) (sym e)
@@ -421,14 +424,14 @@ module _ (w : World) (m : Plain) (I : Inv w m) (p : ℕ) (q : Request) (O : Out 
       memory' = scatterOf (w .memory) (segmentsOf v) got
 
       plainly : Bool → Plain
-      plainly t = record { settings = m .settings; buffers = m .buffers; bytes = pick t (record { bytes = m .bytes; job = withStep (T .j) (yielded g ys) }) (noStep (m .bytes) (T .j)) .bytes; jobs = setAt (m .jobs) p (some (pick t (record { bytes = m .bytes; job = withStep (T .j) (yielded g ys) }) (noStep (m .bytes) (T .j)) .job)) }
+      plainly t = afterStep m p (pick t (record { bytes = m .bytes; job = withStep (T .j) (yielded g ys) }) (noStep (m .bytes) (T .j)))
 
-      world : carriesOut w p code c q ≡ record { dock = w .dock; store = w .store; memory = memory'; scratch = w .scratch; carried = setAt (w .carried) p (some code) }
+      world : carriesOut w p code c q ≡ acted w p code (w .store) memory' (w .scratch)
       world =
           ap (λ (k : Request). carriesOut w p code c k) (request-is DirectRead e)
-          ∙ ap (λ (ps : List Piece). record { dock = w .dock; store = w .store; memory = landed ps got (w .memory) (w .scratch) .memory; scratch = landed ps got (w .memory) (w .scratch) .scratch; carried = setAt (w .carried) p (some code) })
+          ∙ ap (λ (ps : List Piece). acted w p code (w .store) (landed ps got (w .memory) (w .scratch) .memory) (landed ps got (w .memory) (w .scratch) .scratch))
           (data-pieces w m I p q O DirectRead e (λ i k. refl) (valid-vector has))
-          ∙ ap (λ (b : Buffered). record { dock = w .dock; store = w .store; memory = b .memory; scratch = b .scratch; carried = setAt (w .carried) p (some code) }) (landed-data (v .count) (v .segments) got (w .memory) (w .scratch))
+          ∙ ap (λ (b : Buffered). acted w p code (w .store) (b .memory) (b .scratch)) (landed-data (v .count) (v .segments) got (w .memory) (w .scratch))
 
       size : length got ≡ sizeOfAll (segmentsOf v)
       size =
@@ -439,15 +442,15 @@ module _ (w : World) (m : Plain) (I : Inv w m) (p : ℕ) (q : Request) (O : Out 
           ap (λ (f : Bytes). window f (r .start .0) (sizeOf r)) (yields-is code c (w .store) z) ∙ window-same (w .store) (m .bytes) (r .start .0) (sizeOf r) (I .same)
           ∙ ap (λ (k : Range). window (m .bytes) (k .start .0) (sizeOf k)) (sym as-asked)
 
-      range-same : T .j .first .range ≡ x .stage .asked
-      range-same = T .flight .range ∙ sym (sole has)
+      range-same : x .range ≡ x .stage .asked
+      range-same = sym (sole has)
 
       holds : bytesOf memory' (segmentsOf v) ≡ got
       holds = gather-scatter (w .memory) (segmentsOf v) got lie (I .alone p (O .slot) taken reads) size
 
       inv : (steps' : List Did) → ((y : ℕ) → putBy (T .j .steps) y ≡ true → putBy steps' y ≡ true)
-          → (_≡_ {A = Option ℕ} (some code) (some 0) → OwedBy Read (record { first = T .j .first; bytes = T .j .bytes; codes = T .j .codes; steps = steps' }) v memory')
-          → Inv (record { dock = w .dock; store = w .store; memory = memory'; scratch = w .scratch; carried = setAt (w .carried) p (some code) }) (record { settings = m .settings; buffers = m .buffers; bytes = m .bytes; jobs = setAt (m .jobs) p (some (record { first = T .j .first; bytes = T .j .bytes; codes = T .j .codes; steps = steps' })) })
+          → (_≡_ {A = Option ℕ} (some code) (some 0) → OwedBy Read (x .range) v (withSteps (T .j) steps') memory')
+          → Inv (acted w p code (w .store) memory' (w .scratch)) (putJob m p (some (withSteps (T .j) steps')))
       inv steps' grows owed =
           carry-inv w m I p (O .slot) (O .pending) (O .free) T code (w .store) memory' (w .scratch) (m .bytes) steps' grows
           (λ o k n f u.
@@ -455,16 +458,16 @@ module _ (w : World) (m : Plain) (I : Inv w m) (p : ℕ) (q : Request) (O : Out 
           (overlap-sym (segmentsOf (vectorAt (w .dock) o)) (segmentsOf v) ∙ I .apart p o (O .slot) k (λ z. n (sym z)) taken f reads))
           (λ o i n k. refl) (λ o k n f s b i l. refl) (rw (scatter-length (w .memory) (segmentsOf v) got lie) (I .long)) (I .same)
           (λ u. never (sym (read-no-write (x .job) reads) ∙ u))
-          (subst (λ (ph : Phase). Fact ph (w .store) memory' (share (w .scratch) N p) x v (some code) (record { first = T .j .first; bytes = T .j .bytes; codes = T .j .codes; steps = steps' })) (sym e) owed)
+          (subst (λ (ph : Phase). Fact ph (w .store) memory' (share (w .scratch) N p) x v (some code) (withSteps (T .j) steps')) (sym e) owed)
 
-      go : (t : Bool) → eqb code 0 ≡ t → Inv (record { dock = w .dock; store = w .store; memory = memory'; scratch = w .scratch; carried = setAt (w .carried) p (some code) }) (plainly t)
+      go : (t : Bool) → eqb code 0 ≡ t → Inv (acted w p code (w .store) memory' (w .scratch)) (plainly t)
       go true z = inv (yielded g ys ∷ T .j .steps) (λ y k. k) (λ k. (ys, subst (λ (o : Range). Among (yielded o ys) (yielded g ys ∷ T .j .steps)) (sym range-same) here, holds ∙ same-bytes (code-is code k)))
       go false z = inv (T .j .steps) (λ y k. k) (λ k. never (sym z ∙ eq-eqb code 0 (code-is code k)))
 
   -- ---- what a request puts on the store
 
   abbrev writing : Bytes → World
-  writing s = record { dock = w .dock; store = s; memory = w .memory; scratch = w .scratch; carried = setAt (w .carried) p (some code) }
+  writing s = acted w p code s (w .memory) (w .scratch)
 
   abbrev which : ℕ → Bool
   which = becomesNew code c
@@ -475,7 +478,7 @@ module _ (w : World) (m : Plain) (I : Inv w m) (p : ℕ) (q : Request) (O : Out 
   -- a change in the request's range, tracked as one step
   put-inv : isBlocking (x .phase) ≡ true → (test : ℕ → Bool) (new bytes' : Bytes) (d : Did) → ((y : ℕ) → changed (w .store) (x .stage .request) test new y ≡ bytes' y)
       → Fact (x .phase) (changed (w .store) (x .stage .request) test new) (w .memory) (share (w .scratch) N p) x v (some code) (withStep (T .j) d)
-      → Inv (writing (changed (w .store) (x .stage .request) test new)) (record { settings = m .settings; buffers = m .buffers; bytes = bytes'; jobs = setAt (m .jobs) p (some (withStep (T .j) d)) })
+      → Inv (writing (changed (w .store) (x .stage .request) test new)) (putJob (putBytes m bytes') p (some (withStep (T .j) d)))
   put-inv b test new bytes' d same fact =
       carry-inv w m I p (O .slot) (O .pending) (O .free) T code (changed (w .store) (x .stage .request) test new) (w .memory) (w .scratch) bytes' (d ∷ T .j .steps) (λ y k. put-more d (T .j .steps) y k)
       (λ o g n f u. refl) (λ o i n k. refl) (λ o g n f s k i l. others-stay b test new o g n f s k i l) (I .long) same (T .flight .source) fact
@@ -491,12 +494,12 @@ module _ (w : World) (m : Plain) (I : Inv w m) (p : ℕ) (q : Request) (O : Out 
       r = x .stage .request
 
       plainly : Plain
-      plainly = record { settings = m .settings; buffers = m .buffers; bytes = changed (m .bytes) r which (λ y. 0); jobs = setAt (m .jobs) p (some (withStep (T .j) (zeroed r code))) }
+      plainly = putJob (putBytes m (changed (m .bytes) r which (λ y. 0))) p (some (withStep (T .j) (zeroed r code)))
 
       world : carriesOut w p code c q ≡ writing (changed (w .store) r which (λ y. 0))
       world =
           ap (λ (k : Request). carriesOut w p code c k) (request-is ZeroRequest e)
-          ∙ ap (λ (b : Buffered). record { dock = w .dock; store = stored (zeroKind (x .job)) (rangeOf (r .start .0) (r .start .0 + sizeOf r)) code c (gathered (piecesFrom (w .dock) p (length (w .memory)) (length (w .scratch)) 0 0) (w .memory) (w .scratch)) (w .store); memory = b .memory; scratch = b .scratch; carried = setAt (w .carried) p (some code) })
+          ∙ ap (λ (b : Buffered). acted w p code (stored (zeroKind (x .job)) (rangeOf (r .start .0) (r .start .0 + sizeOf r)) code c (gathered (piecesFrom (w .dock) p (length (w .memory)) (length (w .scratch)) 0 0) (w .memory) (w .scratch)) (w .store)) (b .memory) (b .scratch))
           (fetched-zero (x .job) (request (zeroKind (x .job)) r 0) (piecesFrom (w .dock) p (length (w .memory)) (length (w .scratch)) 0 0) code c (w .store) (w .memory) (w .scratch))
           ∙ ap (λ (s : Bytes). writing s)
           (stored-zero (x .job) (rangeOf (r .start .0) (r .start .0 + sizeOf r)) code c (gathered (piecesFrom (w .dock) p (length (w .memory)) (length (w .scratch)) 0 0) (w .memory) (w .scratch)) (w .store)
@@ -512,7 +515,7 @@ module _ (w : World) (m : Plain) (I : Inv w m) (p : ℕ) (q : Request) (O : Out 
       r = x .stage .request
 
       plainly : Plain
-      plainly = record { settings = m .settings; buffers = m .buffers; bytes = changed (m .bytes) r (λ y. true) (c .left); jobs = setAt (m .jobs) p (some (withStep (T .j) (discarded r))) }
+      plainly = putJob (putBytes m (changed (m .bytes) r (λ y. true) (c .left))) p (some (withStep (T .j) (discarded r)))
 
       world : carriesOut w p code c q ≡ writing (changed (w .store) r (λ y. true) (c .left))
       world =
@@ -544,7 +547,7 @@ module _ (w : World) (m : Plain) (I : Inv w m) (p : ℕ) (q : Request) (O : Out 
       has = write-vector (x .job) writes
 
       plainly : Plain
-      plainly = record { settings = m .settings; buffers = m .buffers; bytes = changed (m .bytes) (x .stage .asked) which new; jobs = setAt (m .jobs) p (some (withStep (T .j) (wrote (x .stage .asked) code new))) }
+      plainly = putJob (putBytes m (changed (m .bytes) (x .stage .asked) which new)) p (some (withStep (T .j) (wrote (x .stage .asked) code new)))
 
       payload : gathered (piecesFrom (w .dock) p (length (w .memory)) (length (w .scratch)) 0 (v .count)) (w .memory) (w .scratch) ≡ T .j .bytes
       payload =
@@ -578,7 +581,7 @@ module _ (w : World) (m : Plain) (I : Inv w m) (p : ℕ) (q : Request) (O : Out 
       g = x .stage .asked
 
       plainly : Plain
-      plainly = record { settings = m .settings; buffers = m .buffers; bytes = changed (m .bytes) g which new; jobs = setAt (m .jobs) p (some (withStep (T .j) (wrote g code new))) }
+      plainly = putJob (putBytes m (changed (m .bytes) g which new)) p (some (withStep (T .j) (wrote g code new)))
 
       old : Fact BouncedWrite (w .store) (w .memory) (share (w .scratch) N p) x v (w .carried p) (T .j)
       old = subst (λ (ph : Phase). Fact ph (w .store) (w .memory) (share (w .scratch) N p) x v (w .carried p) (T .j)) e (T .flight .fact)

@@ -49,12 +49,12 @@ use Rattle.histories.specs.Calls.{read-no-write, write-vector, read-vect
 use Rattle.histories.specs.Keeping.{Changes, leave-changes}
 use Rattle.histories.specs.MadeLaws.{data-long}
 use Rattle.histories.specs.Store.{Bytes}
-use Rattle.histories.specs.PlainStore.{Did, yielded, wrote, zeroed, Tracked, Plain, newBytes, standing, stateOf, setAt}
-use Rattle.histories.specs.Histories.{World, Among, here, later, puts as putsAt, putBy, OwedBy}
+use Rattle.histories.specs.PlainStore.{Did, yielded, wrote, zeroed, Tracked, Plain, newBytes, standing, stateOf, putJob, withCode}
+use Rattle.histories.specs.Histories.{World, Among, here, later, puts as putsAt, putBy, OwedBy, answered}
 use Rattle.histories.proofs.Lists.{list-ext, share-room, share-put-off}
 use Rattle.histories.proofs.Geometry.{Beside, AsAsked, Zone}
 use Rattle.histories.proofs.Progress.{Put, Before, Follows, Goes as Leads, done-goes, chunk-goes}
-use Rattle.histories.proofs.Invariant.{share, Fact, Flight, within}
+use Rattle.histories.proofs.Invariant.{share, Fact, asked-on, Flight, within}
 use Rattle.histories.proofs.World.{Taken, Tracks, SlotInv, Inv, room, segments-lie, leave-waits, enter-waits}
 use Rattle.histories.proofs.Renewing.{set-same, set-other, renewed-inv}
 use Rattle.histories.proofs.Beginning.{source-long, fill-length, fill-other, fill-own, filled-none, filled-put, bounced-puts, opened-fact}
@@ -101,12 +101,12 @@ unfolding vacant
 vacant-unblocked = refl
 
 -- what a zero job that has put its whole range is owed
-zero-owed : (k : Job) (j : Tracked) (v : IoVector) (memory : List ℕ) → isZeroJob k ≡ true → Put (j .steps) (j .first .range .start .0) (j .first .range .end .0) → OwedBy k j v memory
-zero-owed Zeroes j v memory e f = λ y i. f y (leb-true (j .first .range .start .0) y (and-left _ _ i)) (ltb-true y (j .first .range .end .0) (and-right (leb (j .first .range .start .0) y) _ i))
-zero-owed AllocatedZeroes j v memory e f = λ y i. f y (leb-true (j .first .range .start .0) y (and-left _ _ i)) (ltb-true y (j .first .range .end .0) (and-right (leb (j .first .range .start .0) y) _ i))
-zero-owed Read j v memory e f = never e
-zero-owed Write j v memory e f = never e
-zero-owed Discard j v memory e f = never e
+zero-owed : (k : Job) (r : Range) (v : IoVector) (j : Tracked) (memory : List ℕ) → isZeroJob k ≡ true → Put (j .steps) (r .start .0) (r .end .0) → OwedBy k r v j memory
+zero-owed Zeroes r v j memory e f = λ y i. f y (leb-true (r .start .0) y (and-left _ _ i)) (ltb-true y (r .end .0) (and-right (leb (r .start .0) y) _ i))
+zero-owed AllocatedZeroes r v j memory e f = λ y i. f y (leb-true (r .start .0) y (and-left _ _ i)) (ltb-true y (r .end .0) (and-right (leb (r .start .0) y) _ i))
+zero-owed Read r v j memory e f = never e
+zero-owed Write r v j memory e f = never e
+zero-owed Discard r v j memory e f = never e
 
 -- a step with code 0 has put its range
 more-put : (t : Bool) (ds : List Did) (y : ℕ) → putBy ds y ≡ true → pick t true (putBy ds y) ≡ true
@@ -192,7 +192,7 @@ module _ (w : World) (m : Plain) (I : Inv w m) (p : ℕ) (h : p < 8) (pending : 
   fit = opened (w .dock .settings) (w .dock .buffers) (I .held .opened) .fit
 
   abbrev job' : Tracked
-  job' = record { first = T .j .first; bytes = T .j .bytes; codes = code ∷ T .j .codes; steps = T .j .steps }
+  job' = withCode (T .j) code
 
   -- the fact of the phase
   fact-at : (ph : Phase) → x .phase ≡ ph → code ≡ 0 → Fact ph (w .store) (w .memory) (share (w .scratch) N p) x v (some 0) (T .j)
@@ -208,7 +208,7 @@ module _ (w : World) (m : Plain) (I : Inv w m) (p : ℕ) (h : p < 8) (pending : 
 
   abbrev Good : Step → Type 0
   Good (Stays y) = AsAsked (y .phase) (y .stage) × Fact (y .phase) (w .store) (w .memory) (share (filling y) N p) y v none job'
-  Good (Ends y) = y .answer ≡ 0 → OwedBy (x .job) job' v handing
+  Good (Ends y) = y .answer ≡ 0 → OwedBy (x .job) (x .range) v job' handing
   Good (Enters y) = Follows (T .j .steps) y
 
   not-handed : isBouncedRead (x .phase) ≡ false → handing ≡ w .memory
@@ -234,14 +234,14 @@ module _ (w : World) (m : Plain) (I : Inv w m) (p : ℕ) (h : p < 8) (pending : 
 
   -- ---- a read is done
 
-  owed-read : isReadJob (x .job) ≡ true → (memory : List ℕ) → OwedBy Read job' v memory → OwedBy (x .job) job' v memory
-  owed-read r memory o = subst (λ (k : Job). OwedBy k job' v memory) (sym (read-is (x .job) r)) o
+  owed-read : isReadJob (x .job) ≡ true → (memory : List ℕ) → OwedBy Read (x .range) v job' memory → OwedBy (x .job) (x .range) v job' memory
+  owed-read r memory o = subst (λ (k : Job). OwedBy k (x .range) v job' memory) (sym (read-is (x .job) r)) o
 
-  good-direct-read : x .phase ≡ DirectRead → code ≡ 0 → OwedBy (x .job) job' v handing
+  good-direct-read : x .phase ≡ DirectRead → code ≡ 0 → OwedBy (x .job) (x .range) v job' handing
   good-direct-read e z =
-      owed-read (direct-reads x (S .regular) e) handing (subst (λ (l : List ℕ). OwedBy Read job' v l) (sym (not-handed (ap isBouncedRead e))) (fact-at DirectRead e z refl))
+      owed-read (direct-reads x (S .regular) e) handing (subst (λ (l : List ℕ). OwedBy Read (x .range) v job' l) (sym (not-handed (ap isBouncedRead e))) (fact-at DirectRead e z refl))
 
-  good-read : x .phase ≡ BouncedRead → code ≡ 0 → OwedBy (x .job) job' v handing
+  good-read : x .phase ≡ BouncedRead → code ≡ 0 → OwedBy (x .job) (x .range) v job' handing
   good-read e z = owed-read reads handing (f .0, f .1, ap (λ (l : List ℕ). bytesOf l (segmentsOf v)) (is-handed (ap isBouncedRead e) z has) ∙ gather-scatter (w .memory) (segmentsOf v) src lie (I .alone p h taken reads) size ∙ same)
     where
       reads : isReadJob (x .job) ≡ true
@@ -250,7 +250,7 @@ module _ (w : World) (m : Plain) (I : Inv w m) (p : ℕ) (h : p < 8) (pending : 
       has : hasVector (x .job) ≡ true
       has = read-vector (x .job) reads
 
-      f : (bs : List ℕ) × Among (yielded (T .j .first .range) bs) (T .j .steps) × (length bs ≡ sizeOf (x .stage .asked)) × ((i : ℕ) → i < sizeOf (x .stage .asked) → share (w .scratch) N p (x .stage .head .0 + i) ≡ getD bs i 0)
+      f : (bs : List ℕ) × Among (yielded (x .range) bs) (T .j .steps) × (length bs ≡ sizeOf (x .stage .asked)) × ((i : ℕ) → i < sizeOf (x .stage .asked) → share (w .scratch) N p (x .stage .head .0 + i) ≡ getD bs i 0)
       f = fact-at BouncedRead e z refl
 
       src : List ℕ
@@ -277,15 +277,15 @@ module _ (w : World) (m : Plain) (I : Inv w m) (p : ℕ) (h : p < 8) (pending : 
 
   -- ---- a write is done
 
-  owed-write : isWriteJob (x .job) ≡ true → Among (wrote (x .stage .asked) 0 (newBytes (x .job) (x .stage .asked .start .0) (T .j .bytes))) (T .j .steps) → (memory : List ℕ) → OwedBy (x .job) job' v memory
+  owed-write : isWriteJob (x .job) ≡ true → Among (wrote (x .stage .asked) 0 (newBytes (x .job) (x .stage .asked .start .0) (T .j .bytes))) (T .j .steps) → (memory : List ℕ) → OwedBy (x .job) (x .range) v job' memory
   owed-write u k memory =
-      subst (λ (o : Job). OwedBy o job' v memory) (sym (write-is (x .job) u))
+      subst (λ (o : Job). OwedBy o (x .range) v job' memory) (sym (write-is (x .job) u))
       (newBytes (x .job) (x .stage .asked .start .0) (T .j .bytes), subst (λ (r : Range). Among (wrote r 0 (newBytes (x .job) (x .stage .asked .start .0) (T .j .bytes))) (T .j .steps)) (sym range-same) k, λ y i. byte y)
     where
-      range-same : T .j .first .range ≡ x .stage .asked
-      range-same = T .flight .range ∙ sym (S .sole taken (write-vector (x .job) u))
+      range-same : x .range ≡ x .stage .asked
+      range-same = sym (S .sole taken (write-vector (x .job) u))
 
-      byte : (y : ℕ) → newBytes (x .job) (x .stage .asked .start .0) (T .j .bytes) y ≡ getD (T .j .bytes) (y - T .j .first .range .start .0) 0
+      byte : (y : ℕ) → newBytes (x .job) (x .stage .asked .start .0) (T .j .bytes) y ≡ getD (T .j .bytes) (y - x .range .start .0) 0
       byte y =
           ap (λ (o : Job). newBytes o (x .stage .asked .start .0) (T .j .bytes) y) (write-is (x .job) u)
           ∙ ap (λ (r : Range). getD (T .j .bytes) (y - r .start .0) 0) (sym range-same)
@@ -295,8 +295,8 @@ module _ (w : World) (m : Plain) (I : Inv w m) (p : ℕ) (h : p < 8) (pending : 
   zone : isZeroJob (x .job) ≡ true → Zone (x .course) (x .stage .asked) (x .range) (x .middle)
   zone z = T .flight .zoned pending (zero-no-discard (x .job) z)
 
-  owed-zero : isZeroJob (x .job) ≡ true → Put (T .j .steps) (x .range .start .0) (x .range .end .0) → (memory : List ℕ) → OwedBy (x .job) job' v memory
-  owed-zero z f memory = zero-owed (x .job) job' v memory z (subst (λ (r : Range). Put (T .j .steps) (r .start .0) (r .end .0)) (sym (T .flight .range)) f)
+  owed-zero : isZeroJob (x .job) ≡ true → Put (T .j .steps) (x .range .start .0) (x .range .end .0) → (memory : List ℕ) → OwedBy (x .job) (x .range) v job' memory
+  owed-zero z f memory = zero-owed (x .job) (x .range) v job' memory z f
 
   good-of : isZeroJob (x .job) ≡ true → (t : Step) → Leads (T .j .steps) x t → noStay t ≡ true → Good t
   good-of z (Stays y) k e = never e
@@ -339,8 +339,8 @@ module _ (w : World) (m : Plain) (I : Inv w m) (p : ℕ) (h : p < 8) (pending : 
       good-zero (zero-phase e) (x .course) refl
       (subst (λ (r : Range). Put (T .j .steps) (r .start .0) (r .end .0)) (sym as-asked) (zeroed-put (T .j .steps) (x .stage .request) (fact-at ZeroRequest e z refl)))
 
-  owed-discard : x .phase ≡ DiscardRequest → (memory : List ℕ) → OwedBy (x .job) job' v memory
-  owed-discard e memory = subst (λ (o : Job). OwedBy o job' v memory) (sym (discard-is (x .job) (and-right (isLast (x .course)) _ (suited x (S .regular) DiscardRequest e)))) tt
+  owed-discard : x .phase ≡ DiscardRequest → (memory : List ℕ) → OwedBy (x .job) (x .range) v job' memory
+  owed-discard e memory = subst (λ (o : Job). OwedBy o (x .range) v job' memory) (sym (discard-is (x .job) (and-right (isLast (x .course)) _ (suited x (S .regular) DiscardRequest e)))) tt
 
   -- ---- a padded write has read
 
@@ -443,10 +443,10 @@ module _ (w : World) (m : Plain) (I : Inv w m) (p : ℕ) (h : p < 8) (pending : 
   -- ---- the two sides after it
 
   abbrev toldWorld : Step → World
-  toldWorld t = record { dock = after (w .dock) p x code (w .memory) (w .scratch) t .dock; store = w .store; memory = after (w .dock) p x code (w .memory) (w .scratch) t .memory; scratch = after (w .dock) p x code (w .memory) (w .scratch) t .scratch; carried = setAt (w .carried) p none }
+  toldWorld t = answered w p (after (w .dock) p x code (w .memory) (w .scratch) t .dock) (after (w .dock) p x code (w .memory) (w .scratch) t .memory) (after (w .dock) p x code (w .memory) (w .scratch) t .scratch)
 
   abbrev toldPlain : Plain
-  toldPlain = record { settings = m .settings; buffers = m .buffers; bytes = m .bytes; jobs = setAt (m .jobs) p (some job') }
+  toldPlain = putJob m p (some job')
 
   stands : (t : Step) → toldOf (w .dock .settings) x code ≡ t → standing (w .dock .settings) (T .j .first) (code ∷ T .j .codes) ≡ stateOf t
   stands t e = ap (λ (y : State). stateOf (toldOf (w .dock .settings) y code)) (T .flight .stands) ∙ ap stateOf e
@@ -503,8 +503,7 @@ module _ (w : World) (m : Plain) (I : Inv w m) (p : ℕ) (h : p < 8) (pending : 
       (rw (fill-length N p h y v (w .memory) (w .scratch) (room w m I) inside y-fits) (I .long))
       (record {
         stands = stands (Stays y) e;
-        job = T .flight .job ∙ sym (C .job);
-        range = T .flight .range ∙ sym (C .range);
+        asked = asked-on (T .flight .asked) (C .job) (C .range);
         source = λ u. T .flight .source (rw (C .job) at u);
         geo = rw (C .stage) (T .flight .geo);
         zoned = λ a d. rw (C .course, C .stage, C .range, C .middle) (T .flight .zoned pending (rw (C .job) at d));
@@ -555,8 +554,7 @@ module _ (w : World) (m : Plain) (I : Inv w m) (p : ℕ) (h : p < 8) (pending : 
       (handed-cases (λ (l : List ℕ). lentFits (w .dock .buffers) (length l) (length (w .scratch)) ≡ true) (I .long) (λ r src. rw (scatter-length (w .memory) (segmentsOf v) src (segments-lie w m I p h taken (read-vector (x .job) r))) (I .long)))
       (record {
         stands = stands (Ends y) e;
-        job = T .flight .job ∙ sym (F .job);
-        range = T .flight .range ∙ sym (F .range);
+        asked = asked-on (T .flight .asked) (F .job) (F .range);
         source = λ u.
             let writes : isWriteJob (x .job) ≡ true = rw (F .job) at u in
             handed-cases (λ (l : List ℕ). bytesOf l (segmentsOf v) ≡ T .j .bytes) (T .flight .source writes) (λ r src. never (sym (read-no-write (x .job) r) ∙ writes));
@@ -564,7 +562,7 @@ module _ (w : World) (m : Plain) (I : Inv w m) (p : ℕ) (h : p < 8) (pending : 
         zoned = λ a. never (sym (ap isPending (F .phase)) ∙ a);
         as-asked = rw (F .phase) tt;
         before = λ a. never (sym (ap isPending (F .phase)) ∙ a);
-        fact = subst (λ (ph : Phase). Fact ph (w .store) handing (share (w .scratch) N p) y v none job') (sym (F .phase)) (λ a. subst (λ (o : Job). OwedBy o job' v handing) (sym (F .job)) (k a));
+        fact = subst (λ (ph : Phase). Fact ph (w .store) handing (share (w .scratch) N p) y v none job') (sym (F .phase)) (λ a. subst (λ (o : Job). OwedBy o (y .range) v job' handing) (sym (F .job)) (subst (λ (r : Range). OwedBy (x .job) r v job' handing) (sym (F .range)) (k a)));
         fresh = λ a. (refl, rw (F .phase) tt);
       })
     where
@@ -579,8 +577,7 @@ module _ (w : World) (m : Plain) (I : Inv w m) (p : ℕ) (h : p < 8) (pending : 
       (rw (fill-length N p h y v (w .memory) (w .scratch) (room w m I) inside y-fits) (I .long))
       (record {
         stands = stands (Enters y) e;
-        job = T .flight .job ∙ sym (O .job);
-        range = T .flight .range ∙ sym (O .range);
+        asked = asked-on (T .flight .asked) (O .job) (O .range);
         source = λ u. T .flight .source (rw (O .job) at u);
         geo = k .shaped .geo;
         zoned = λ a. k .shaped .zoned;

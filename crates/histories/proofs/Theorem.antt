@@ -18,15 +18,16 @@ use Rattle.arithmetic.specs.declared.refusals.Refusal.the-variants.{Segment, Ov
 use Rattle.arithmetic.specs.declared.refusals.Outcome.{Outcome}
 use Rattle.arithmetic.specs.declared.refusals.Outcome.the-variants.{Done, Refused}
 use Rattle.arithmetic.specs.declared.offsets.StoreOffset.{StoreOffset}
+use Rattle.arithmetic.specs.declared.offsets.Range.{Range}
 use Rattle.arithmetic.specs.declared.settings.Settings.{Settings}
 use Rattle.arithmetic.specs.declared.zeroes.ZeroCut.{ZeroCut}
 use Rattle.arithmetic.specs.declared.zeroes.ZeroCut.the-variants.{Nothing as NoCut, Whole, Split, Refused as CutRefused}
 use Rattle.vectors.specs.Vectors.{segmentsOf, bytesOf, isValid, vectorOf, alignmentOf}
 use Rattle.vectors.specs.declared.vector.IoVector.{IoVector}
-use Rattle.stages.specs.Stages.{isFree, hasEnded, isPending, readPlan, writePlan, zeroJob, zeroBy, zeroPlan, discardPlan, zeroesPlan, toldOf}
+use Rattle.stages.specs.Stages.{asked, isFree, hasEnded, isPending, readPlan, writePlan, zeroJob, zeroBy, zeroPlan, discardPlan, zeroesPlan, toldOf}
 use Rattle.stages.specs.Laws.{Starts, read-opens, write-opens, zero-opens, discard-opens}
 use Rattle.stages.specs.declared.state.Job.{Job}
-use Rattle.stages.specs.declared.state.Job.the-variants.{Read, Write, Zeroes, Discard}
+use Rattle.stages.specs.declared.state.Job.the-variants.{Read, Write, Zeroes, AllocatedZeroes, Discard}
 use Rattle.stages.specs.declared.state.Phase.{Phase}
 use Rattle.stages.specs.declared.state.Phase.the-variants.{Free, Ended, DirectRead, BouncedRead, FirstRead, SecondRead, BouncedWrite, DirectWrite, ZeroRequest, DiscardRequest}
 use Rattle.stages.specs.declared.state.Course.the-variants.{Last}
@@ -38,9 +39,10 @@ use Rattle.blockers.specs.Blockers.{waitsOf}
 use Rattle.stages.specs.declared.told.Step.{Step}
 use Rattle.stages.specs.declared.told.Step.the-variants.{Stays, Ends, Enters}
 use Rattle.dock.specs.Dock.{stateAt, vectorAt, vacant, lentOf, isOutBy, isOut, overlapsOf, firstFree, isReadJob, openOf}
-use Rattle.dock.specs.Begin.{isWriteJob, isAligned, Begins, withJob, placedAt, onlyIf, refusedBegin, vectorThen, begunBy, beginReadOf, beginWriteOf, beginZeroesOf, beginDiscardOf}
+use Rattle.dock.specs.Begin.{isAligned, Begins, withJob, placedAt, onlyIf, refusedBegin, vectorThen, begunBy, movedOf, planOf, vectorFor, planFor, beginOf}
 use Rattle.dock.specs.Tell.{Told, after, refusedTell, tellOf, collectOf}
 use Rattle.dock.specs.declared.dock.Dock.{Dock}
+use Rattle.dock.specs.declared.begin.Asked.{Asked}
 use Rattle.dock.specs.declared.begin.Begun.{Begun}
 use Rattle.dock.specs.declared.begin.Begun.the-variants.{Refused as BeginRefused}
 use Rattle.dock.specs.declared.tell.Collects.{Collects}
@@ -48,10 +50,10 @@ use Rattle.dock.specs.declared.tell.Collected.{Collected}
 use Rattle.dock.specs.declared.tell.Collected.the-variants.{Final, Refused as NotCollected}
 use Rattle.histories.specs.Courses.{never}
 use Rattle.histories.specs.Calls.{starts-from, read-ready, write-ready, zero-ready, discard-ready, place-done}
-use Rattle.histories.specs.MadeLaws.{data-long, tell-is}
+use Rattle.histories.specs.MadeLaws.{judgedAs, begin-is, data-long, tell-is}
 use Rattle.histories.specs.Store.{Bytes, Choice}
-use Rattle.histories.specs.PlainStore.{Tracked, Plain, plainOpened, plainStep, entersBy, alignedIn, toldBy, tellBy, collectBy}
-use Rattle.histories.specs.Histories.{Lends, Event, begins-read, begins-write, begins-zeroes, begins-discard, carries, tells, collects, World, opened, fitsLent, afterBegin, told, afterTell, afterCollect, outIn, afterCarry, step, carryItem, fed, LentOf, Allowed, Lawful, OwedBy, OwedTo, Owed, Claim, EveryList}
+use Rattle.histories.specs.PlainStore.{rangeFor, Tracked, Plain, plainOpened, plainStep, entersBy, broughtBy, toldBy, tellBy, collectBy}
+use Rattle.histories.specs.Histories.{Lends, Event, begins, carries, tells, collects, World, opened, called, fitsLent, afterBegin, told, afterTell, afterCollect, outIn, afterCarry, step, carryItem, fed, LentOf, CodeOf, HandsIn, Allowed, Lawful, OwedBy, OwedTo, Owed, Claim, EveryList}
 use Rattle.histories.proofs.Geometry.{read-shaped, write-shaped, zero-shaped, discard-shaped}
 use Rattle.histories.proofs.Progress.{Before, Follows, Opening, zeroes-follow}
 use Rattle.histories.proofs.Invariant.{Fact}
@@ -84,60 +86,60 @@ zero-reads : (t : Bool) → isReadJob (zeroJob t) ≡ false
 zero-reads true = refl
 zero-reads false = refl
 
-zero-writes : (t : Bool) → isWriteJob (zeroJob t) ≡ false
-zero-writes true = refl
-zero-writes false = refl
-
-module _ (d : Dock) (fit : settingsFit (d .settings) ≡ true) (memory : List ℕ) (o : StoreOffset) where
+module _ (d : Dock) (fit : settingsFit (d .settings) ≡ true) (o : StoreOffset) where
   abbrev M : ℕ
   M = d .buffers .«data» .length
 
-  read-start : (v : IoVector) (t : Bool) → isValid M v ≡ true → Starts (Start d Read v memory []) (readPlan (d .settings) o (v .total) t)
-  read-start v t e = starts-from (Start d Read v memory []) (readPlan (d .settings) o (v .total) t) (λ x i.
-      let k = read-opens (d .settings) o (v .total) t x i in
-      record {
-        ready = rw i at (read-ready (d .settings) M o v e t);
-        shaped = rw i at (read-shaped (d .settings) fit o (v .total) t);
-        reads = ap isReadJob (k .job);
-        before = λ z. never (rw (k .job) at z);
-        source = λ z. never (rw (k .job) at z);
-      })
+  abbrev al : IoVector → Bool
+  al v = isAligned (alignmentOf (d .settings .align) (d .buffers .«data») v)
 
-  write-start : (v : IoVector) (t : Bool) → isValid M v ≡ true → Starts (Start d Write v memory (bytesOf memory (segmentsOf v))) (writePlan (d .settings) o (v .total) t)
-  write-start v t e = starts-from (Start d Write v memory (bytesOf memory (segmentsOf v))) (writePlan (d .settings) o (v .total) t) (λ x i.
-      let k = write-opens (d .settings) o (v .total) t x i in
-      record {
-        ready = rw i at (write-ready (d .settings) M o v e t);
-        shaped = rw i at (write-shaped (d .settings) fit o (v .total) t);
-        reads = ap isReadJob (k .job);
-        before = λ z. never (rw (k .job) at z);
-        source = λ z. refl;
-      })
+  abbrev ask : Job → ℕ → IoVector → Asked
+  ask j n v = record { job = j; offset = o; length = n; vector = v }
 
-  zero-start : (t : Bool) (n : ℕ) → Starts (Start d Zeroes (vectorOf []) memory []) (zeroPlan (d .settings) t o n)
-  zero-start t n = starts-from (Start d Zeroes (vectorOf []) memory []) (zeroPlan (d .settings) t o n) (λ x i.
+  zero-start : (t : Bool) (n : ℕ) (q : Asked) → q .job ≡ zeroJob t → rangeFor q ≡ asked o n → vectorFor q ≡ vectorOf [] → Starts (Start d q Zeroes (vectorOf [])) (zeroPlan (d .settings) t o n)
+  zero-start t n q a b c = starts-from (Start d q Zeroes (vectorOf [])) (zeroPlan (d .settings) t o n) (λ x i.
       let k = zero-opens (d .settings) o n t x i in
       record {
+        asked = record { job = a ∙ sym (k .job); range = b ∙ sym (k .range); vector = c };
         ready = rw i at (zero-ready (d .settings) M o (vectorOf []) t n);
         shaped = rw i at (zero-shaped (d .settings) fit t o n);
         reads = ap isReadJob (k .job) ∙ zero-reads t;
         before = λ z. rw i at (zero-before (d .settings) fit t o n);
-        source = λ z. never (sym (zero-writes t) ∙ (rw (k .job) at z));
       })
 
-  discard-start : (n : ℕ) → Starts (Start d Discard (vectorOf []) memory []) (discardPlan (d .settings) o n)
-  discard-start n = starts-from (Start d Discard (vectorOf []) memory []) (discardPlan (d .settings) o n) (λ x i.
+  starts : (j : Job) (n : ℕ) (v : IoVector) → isValid M (movedOf j v) ≡ true → Starts (Start d (ask j n v) (judgedAs j) (movedOf j v)) (planOf j (d .settings) (d .buffers) o n v)
+  starts Read n v e = starts-from (Start d (ask Read n v) Read v) (readPlan (d .settings) o (v .total) (al v)) (λ x i.
+      let k = read-opens (d .settings) o (v .total) (al v) x i in
+      record {
+        asked = record { job = sym (k .job); range = sym (k .range); vector = refl };
+        ready = rw i at (read-ready (d .settings) M o v e (al v));
+        shaped = rw i at (read-shaped (d .settings) fit o (v .total) (al v));
+        reads = ap isReadJob (k .job);
+        before = λ z. never (rw (k .job) at z);
+      })
+  starts Write n v e = starts-from (Start d (ask Write n v) Write v) (writePlan (d .settings) o (v .total) (al v)) (λ x i.
+      let k = write-opens (d .settings) o (v .total) (al v) x i in
+      record {
+        asked = record { job = sym (k .job); range = sym (k .range); vector = refl };
+        ready = rw i at (write-ready (d .settings) M o v e (al v));
+        shaped = rw i at (write-shaped (d .settings) fit o (v .total) (al v));
+        reads = ap isReadJob (k .job);
+        before = λ z. never (rw (k .job) at z);
+      })
+  starts Zeroes n v e = zero-start false n (ask Zeroes n v) refl refl refl
+  starts AllocatedZeroes n v e = zero-start true n (ask AllocatedZeroes n v) refl refl refl
+  starts Discard n v e = starts-from (Start d (ask Discard n v) Discard (vectorOf [])) (discardPlan (d .settings) o n) (λ x i.
       let k = discard-opens (d .settings) o n x i in
       record {
+        asked = record { job = sym (k .job); range = sym (k .range); vector = refl };
         ready = rw i at (discard-ready (d .settings) M o (vectorOf []) n);
         shaped = rw i at (discard-shaped (d .settings) fit o n);
         reads = ap isReadJob (k .job);
         before = λ z. never (rw (k .job) at z);
-        source = λ z. never (rw (k .job) at z);
       })
 
 abbrev begunWorld : World → Begins → World
-begunWorld w b = record { dock = b .dock; store = w .store; memory = w .memory; scratch = b .scratch; carried = w .carried }
+begunWorld w b = called w (b .dock) (w .memory) (b .scratch)
 
 module _ (w : World) (m : Plain) (I : Inv w m) where
   long : length (w .memory) ≡ w .dock .buffers .«data» .length
@@ -146,85 +148,47 @@ module _ (w : World) (m : Plain) (I : Inv w m) where
   fits : settingsFit (w .dock .settings) ≡ true
   fits = opened-facts (w .dock .settings) (w .dock .buffers) (I .held .opened) .fit
 
+  abbrev Keeps : Asked → Begins → Plan → List ℕ → Type 0
+  Keeps q b plan bs = Inv (begunWorld w b) (entersBy (b .answer) m q bs plan)
+
   -- a planned job
-  begun-keeps : (j : Job) (v : IoVector) (bs : List ℕ) (plan : Plan) → Starts (Start (w .dock) j v (w .memory) bs) plan
-      → Inv (begunWorld w (begunBy (w .dock) j v (w .memory) (w .scratch) plan)) (entersBy (begunBy (w .dock) j v (w .memory) (w .scratch) plan .answer) m plan bs)
-  begun-keeps j v bs NothingToDo k = I
-  begun-keeps j v bs (PlanRefused r) k = I
-  begun-keeps j v bs (Started x) k = go (overlapsOf (w .dock .states) (w .dock .vectors) j v) (ltb (firstFree (w .dock .states)) 8) refl refl
+  begun-keeps : (q : Asked) (j : Job) (v : IoVector) (plan : Plan) → Starts (Start (w .dock) q j v) plan
+      → Keeps q (begunBy (w .dock) j v (w .memory) (w .scratch) plan) plan (bytesOf (w .memory) (segmentsOf v))
+  begun-keeps q j v NothingToDo k = I
+  begun-keeps q j v (PlanRefused r) k = I
+  begun-keeps q j v (Started x) k = go (overlapsOf (w .dock .states) (w .dock .vectors) j v) (ltb (firstFree (w .dock .states)) 8) refl refl
     where
       p : ℕ
       p = firstFree (w .dock .states)
 
       go : (a b : Bool) → overlapsOf (w .dock .states) (w .dock .vectors) j v ≡ a → ltb (firstFree (w .dock .states)) 8 ≡ b
-          → Inv (begunWorld w (pick a (refusedBegin (w .dock) (w .scratch) Overlap) (pick b (placedAt (w .dock) p x v (w .memory) (w .scratch)) (refusedBegin (w .dock) (w .scratch) Full))))
-          (entersBy (pick a (refusedBegin (w .dock) (w .scratch) Overlap) (pick b (placedAt (w .dock) p x v (w .memory) (w .scratch)) (refusedBegin (w .dock) (w .scratch) Full)) .answer) m (Started x) bs)
+          → Keeps q (pick a (refusedBegin (w .dock) (w .scratch) Overlap) (pick b (placedAt (w .dock) p x v (w .memory) (w .scratch)) (refusedBegin (w .dock) (w .scratch) Full))) (Started x) (bytesOf (w .memory) (segmentsOf v))
       go true b e f = I
       go false true e f =
           let h = ltb-true (firstFree (w .dock .states)) 8 f in
-          subst (λ (z : Begins). Inv (begunWorld w z) (entersBy (z .answer) m (Started x) bs)) (sym (place-done (w .dock) (I .held) v (w .memory) (w .scratch) long x (k .ready) h)) (begun-inv w m I j v bs x k e h)
+          subst (λ (z : Begins). Keeps q z (Started x) (bytesOf (w .memory) (segmentsOf v))) (sym (place-done (w .dock) (I .held) v (w .memory) (w .scratch) long x (k .ready) h)) (begun-inv w m I q j v x k e h)
       go false false e f = I
 
   lent-ok : lentOf (w .dock .settings) (w .dock .buffers) (length (w .memory)) (length (w .scratch)) ≡ Done
   unfolding lentOf
   lent-ok = simp (I .held .opened, I .long)
 
-  -- 202, then the plan
-  vector-keeps : (j : Job) (v : IoVector) (bs : List ℕ) (plan : Plan) → (isValid (length (w .memory)) v ≡ true → Starts (Start (w .dock) j v (w .memory) bs) plan)
-      → Inv (begunWorld w (vectorThen (w .dock) v (w .memory) (w .scratch) (begunBy (w .dock) j v (w .memory) (w .scratch) plan))) (entersBy (vectorThen (w .dock) v (w .memory) (w .scratch) (begunBy (w .dock) j v (w .memory) (w .scratch) plan) .answer) m plan bs)
-  vector-keeps j v bs plan f = go (isValid (length (w .memory)) v) refl
+  -- 205, 202, then the plan
+  begin-keeps : (q : Asked) → Keeps q (beginOf (w .dock) q (w .memory) (w .scratch)) (planFor (w .dock .settings) (w .dock .buffers) q) (broughtBy q (w .memory))
+  begin-keeps q = subst (λ (b : Begins). Keeps q b (planFor (w .dock .settings) (w .dock .buffers) q) (broughtBy q (w .memory))) (sym (begin-is (w .dock) q (w .memory) (w .scratch)))
+      (subst (λ (o : Outcome). Keeps q (onlyIf (w .dock) (w .scratch) o (past (isValid (length (w .memory)) (vectorFor q)))) (planFor (w .dock .settings) (w .dock .buffers) q) (broughtBy q (w .memory))) (sym lent-ok) (go (isValid (length (w .memory)) (vectorFor q)) refl))
     where
-      go : (t : Bool) → isValid (length (w .memory)) v ≡ t
-          → Inv (begunWorld w (pick t (begunBy (w .dock) j v (w .memory) (w .scratch) plan) (refusedBegin (w .dock) (w .scratch) Segment))) (entersBy (pick t (begunBy (w .dock) j v (w .memory) (w .scratch) plan) (refusedBegin (w .dock) (w .scratch) Segment) .answer) m plan bs)
-      go true e = begun-keeps j v bs plan (f e)
+      past : Bool → Begins
+      past t = pick t (begunBy (w .dock) (judgedAs (q .job)) (vectorFor q) (w .memory) (w .scratch) (planFor (w .dock .settings) (w .dock .buffers) q)) (refusedBegin (w .dock) (w .scratch) Segment)
+
+      go : (t : Bool) → isValid (length (w .memory)) (vectorFor q) ≡ t → Keeps q (past t) (planFor (w .dock .settings) (w .dock .buffers) q) (broughtBy q (w .memory))
+      go true e = begun-keeps q (judgedAs (q .job)) (vectorFor q) (planFor (w .dock .settings) (w .dock .buffers) q) (starts (w .dock) fits (q .offset) (q .job) (q .length) (q .vector) (rw long at e))
       go false e = I
-
-  abbrev Keeps : Begins → Plan → List ℕ → Type 0
-  Keeps b plan bs = Inv (begunWorld w b) (entersBy (b .answer) m plan bs)
-
-  past-lent : (b : Begins) (plan : Plan) (bs : List ℕ) → Keeps b plan bs → Keeps (onlyIf (w .dock) (w .scratch) (lentOf (w .dock .settings) (w .dock .buffers) (length (w .memory)) (length (w .scratch))) b) plan bs
-  past-lent b plan bs k = subst (λ (o : Outcome). Keeps (onlyIf (w .dock) (w .scratch) o b) plan bs) (sym lent-ok) k
-
-  abbrev al : IoVector → Bool
-  al v = isAligned (alignmentOf (w .dock .settings .align) (w .dock .buffers .«data») v)
-
-  read-keeps : (o : StoreOffset) (v : IoVector) → Keeps (beginReadOf (w .dock) o v (w .memory) (w .scratch)) (readPlan (w .dock .settings) o (v .total) (al v)) []
-  unfolding beginReadOf
-  read-keeps o v = past-lent _ _ [] (vector-keeps Read v [] (readPlan (w .dock .settings) o (v .total) (al v)) (λ e. read-start (w .dock) fits (w .memory) o v (al v) (rw long at e)))
-
-  write-keeps : (o : StoreOffset) (v : IoVector) → Keeps (beginWriteOf (w .dock) o v (w .memory) (w .scratch)) (writePlan (w .dock .settings) o (v .total) (al v)) (bytesOf (w .memory) (segmentsOf v))
-  unfolding beginWriteOf
-  write-keeps o v = past-lent _ _ (bytesOf (w .memory) (segmentsOf v)) (vector-keeps Write v (bytesOf (w .memory) (segmentsOf v)) (writePlan (w .dock .settings) o (v .total) (al v)) (λ e. write-start (w .dock) fits (w .memory) o v (al v) (rw long at e)))
-
-  zeroes-keeps : (t : Bool) (o : StoreOffset) (n : ℕ) → Keeps (beginZeroesOf (w .dock) t o n (w .memory) (w .scratch)) (zeroPlan (w .dock .settings) t o n) []
-  unfolding beginZeroesOf
-  zeroes-keeps t o n = past-lent _ _ [] (begun-keeps Zeroes (vectorOf []) [] (zeroPlan (w .dock .settings) t o n) (zero-start (w .dock) fits (w .memory) o t n))
-
-  discard-keeps : (o : StoreOffset) (n : ℕ) → Keeps (beginDiscardOf (w .dock) o n (w .memory) (w .scratch)) (discardPlan (w .dock .settings) o n) []
-  unfolding beginDiscardOf
-  discard-keeps o n = past-lent _ _ [] (begun-keeps Discard (vectorOf []) [] (discardPlan (w .dock .settings) o n) (discard-start (w .dock) fits (w .memory) o n))
 
 -- ---- an event
 
-module _ (d : Dock) (memory scratch : List ℕ) (e : lentOf (d .settings) (d .buffers) (length memory) (length scratch) ≡ Refused Buffer) where
-  refuses-lent : (k : Begins) → onlyIf d scratch (lentOf (d .settings) (d .buffers) (length memory) (length scratch)) k .answer ≡ BeginRefused Buffer
-  refuses-lent k = ap (λ (o : Outcome). onlyIf d scratch o k .answer) e
-
-  read-refused : (o : StoreOffset) (v : IoVector) → beginReadOf d o v memory scratch .answer ≡ BeginRefused Buffer
-  unfolding beginReadOf
-  read-refused o v = refuses-lent _
-
-  write-refused : (o : StoreOffset) (v : IoVector) → beginWriteOf d o v memory scratch .answer ≡ BeginRefused Buffer
-  unfolding beginWriteOf
-  write-refused o v = refuses-lent _
-
-  zeroes-refused : (t : Bool) (o : StoreOffset) (n : ℕ) → beginZeroesOf d t o n memory scratch .answer ≡ BeginRefused Buffer
-  unfolding beginZeroesOf
-  zeroes-refused t o n = refuses-lent _
-
-  discard-refused : (o : StoreOffset) (n : ℕ) → beginDiscardOf d o n memory scratch .answer ≡ BeginRefused Buffer
-  unfolding beginDiscardOf
-  discard-refused o n = refuses-lent _
+begin-refused : (d : Dock) (memory scratch : List ℕ) (q : Asked) → lentOf (d .settings) (d .buffers) (length memory) (length scratch) ≡ Refused Buffer → beginOf d q memory scratch .answer ≡ BeginRefused Buffer
+begin-refused d memory scratch q e = ap (λ (b : Begins). b .answer) (begin-is d q memory scratch) ∙ ap (λ (o : Outcome). onlyIf d scratch o (vectorThen d (vectorFor q) memory scratch (begunBy d (judgedAs (q .job)) (vectorFor q) memory scratch (planFor (d .settings) (d .buffers) q))) .answer) e
 
 after-done : (d : Dock) (p : ℕ) (x : State) (code : ℕ) (memory scratch : List ℕ) (t : Step) → after d p x code memory scratch t .outcome ≡ Done
 after-done d p x code memory scratch (Stays y) = refl
@@ -243,7 +207,7 @@ ended-taken DirectWrite e = refl
 ended-taken ZeroRequest e = refl
 ended-taken DiscardRequest e = refl
 
-ended-owes : (s : Bytes) (memory : List ℕ) (sh : ℕ → ℕ) (x : State) (v : IoVector) (car : Option ℕ) (j : Tracked) → x .phase ≡ Ended → Fact (x .phase) s memory sh x v car j → x .answer ≡ 0 → OwedBy (x .job) j v memory
+ended-owes : (s : Bytes) (memory : List ℕ) (sh : ℕ → ℕ) (x : State) (v : IoVector) (car : Option ℕ) (j : Tracked) → x .phase ≡ Ended → Fact (x .phase) s memory sh x v car j → x .answer ≡ 0 → OwedBy (x .job) (x .range) v j memory
 ended-owes s memory sh x v car j e f z = (subst (λ (ph : Phase). Fact ph s memory sh x v car j) e f) z
 
 final-zero : (a : ℕ) → _≡_ {A = Collected} (Final a) (Final 0) → a ≡ 0
@@ -258,53 +222,30 @@ module _ (w : World) (m : Plain) (I : Inv w m) (l : Lends) (lent : LentOf w l) w
   unfolding lentOf
   lent-other e = simp (I .held .opened, e)
 
-  begin-event : (call : List ℕ → List ℕ → Begins) (plan asked-plan : Plan) (bs : List ℕ) → (fitsLent w l ≡ false → call (l .memory) (l .scratch) .answer ≡ BeginRefused Buffer)
-      → (Inv (withData w (l .memory)) m → Inv (begunWorld (withData w (l .memory)) (call (l .memory) (w .scratch))) (entersBy (call (l .memory) (w .scratch) .answer) m plan bs)) → asked-plan ≡ plan
-      → Inv (afterBegin w l (call (l .memory) (l .scratch))) (entersBy (call (l .memory) (l .scratch) .answer) m asked-plan bs)
-  begin-event call plan asked-plan bs other own e = go (fitsLent w l) refl
+  begin-event : (q : Asked) → Inv (afterBegin w l (beginOf (w .dock) q (l .memory) (l .scratch))) (entersBy (beginOf (w .dock) q (l .memory) (l .scratch) .answer) m q (broughtBy q (l .memory)) (planFor (m .settings) (m .buffers) q))
+  begin-event q = subst (λ (k : Plan). Inv (afterBegin w l b) (entersBy (b .answer) m q (broughtBy q (l .memory)) k)) (sym plan-of) (go (fitsLent w l) refl)
     where
-      fitting : fitsLent w l ≡ true → Inv (begunWorld (withData w (l .memory)) (call (l .memory) (l .scratch))) (entersBy (call (l .memory) (l .scratch) .answer) m asked-plan bs)
-      fitting f =
-          subst (λ (k : Plan). Inv (begunWorld (withData w (l .memory)) (call (l .memory) (l .scratch))) (entersBy (call (l .memory) (l .scratch) .answer) m k bs)) (sym e)
-          (subst (λ (s : List ℕ). Inv (begunWorld (withData w (l .memory)) (call (l .memory) s)) (entersBy (call (l .memory) s .answer) m plan bs)) (sym (lent-scratch w m I l f lent)) (own (lent-keeps w m I l f lent)))
+      b : Begins
+      b = beginOf (w .dock) q (l .memory) (l .scratch)
 
-      go : (t : Bool) → fitsLent w l ≡ t
-          → Inv (pick t (record { dock = call (l .memory) (l .scratch) .dock; store = w .store; memory = l .memory; scratch = call (l .memory) (l .scratch) .scratch; carried = w .carried }) w) (entersBy (call (l .memory) (l .scratch) .answer) m asked-plan bs)
-      go true f = fitting f
-      go false f = subst (λ (a : Begun). Inv w (entersBy a m asked-plan bs)) (sym (other f)) I
+      plan-of : planFor (m .settings) (m .buffers) q ≡ planFor (w .dock .settings) (w .dock .buffers) q
+      plan-of = let a = I .settings in let c = I .buffers in λ i. planFor (a i) (c i) q
 
-  plan-of : (plan : Settings → Bool → Plan) (v : IoVector) → plan (m .settings) (alignedIn m v) ≡ plan (w .dock .settings) (isAligned (alignmentOf (w .dock .settings .align) (w .dock .buffers .«data») v))
-  plan-of plan v = let a = I .settings in let b = I .buffers in λ i. plan (a i) (isAligned (alignmentOf (a i .align) (b i .«data») v))
-
-  read-event : (o : StoreOffset) (v : IoVector) → Inv (afterBegin w l (beginReadOf (w .dock) o v (l .memory) (l .scratch))) (entersBy (beginReadOf (w .dock) o v (l .memory) (l .scratch) .answer) m (readPlan (m .settings) o (v .total) (alignedIn m v)) [])
-  read-event o v =
-      begin-event (λ memory scratch. beginReadOf (w .dock) o v memory scratch) (readPlan (w .dock .settings) o (v .total) (isAligned (alignmentOf (w .dock .settings .align) (w .dock .buffers .«data») v))) _ []
-      (λ e. read-refused (w .dock) (l .memory) (l .scratch) (lent-other e) o v) (λ J. read-keeps (withData w (l .memory)) m J o v) (plan-of (λ s t. readPlan s o (v .total) t) v)
-
-  write-event : (o : StoreOffset) (v : IoVector) → Inv (afterBegin w l (beginWriteOf (w .dock) o v (l .memory) (l .scratch))) (entersBy (beginWriteOf (w .dock) o v (l .memory) (l .scratch) .answer) m (writePlan (m .settings) o (v .total) (alignedIn m v)) (bytesOf (l .memory) (segmentsOf v)))
-  write-event o v =
-      begin-event (λ memory scratch. beginWriteOf (w .dock) o v memory scratch) (writePlan (w .dock .settings) o (v .total) (isAligned (alignmentOf (w .dock .settings .align) (w .dock .buffers .«data») v))) _ (bytesOf (l .memory) (segmentsOf v))
-      (λ e. write-refused (w .dock) (l .memory) (l .scratch) (lent-other e) o v) (λ J. write-keeps (withData w (l .memory)) m J o v) (plan-of (λ s t. writePlan s o (v .total) t) v)
-
-  zeroes-event : (t : Bool) (o : StoreOffset) (n : ℕ) → Inv (afterBegin w l (beginZeroesOf (w .dock) t o n (l .memory) (l .scratch))) (entersBy (beginZeroesOf (w .dock) t o n (l .memory) (l .scratch) .answer) m (zeroPlan (m .settings) t o n) [])
-  zeroes-event t o n =
-      begin-event (λ memory scratch. beginZeroesOf (w .dock) t o n memory scratch) (zeroPlan (w .dock .settings) t o n) _ []
-      (λ e. zeroes-refused (w .dock) (l .memory) (l .scratch) (lent-other e) t o n) (λ J. zeroes-keeps (withData w (l .memory)) m J t o n) (ap (λ (s : Settings). zeroPlan s t o n) (I .settings))
-
-  discard-event : (o : StoreOffset) (n : ℕ) → Inv (afterBegin w l (beginDiscardOf (w .dock) o n (l .memory) (l .scratch))) (entersBy (beginDiscardOf (w .dock) o n (l .memory) (l .scratch) .answer) m (discardPlan (m .settings) o n) [])
-  discard-event o n =
-      begin-event (λ memory scratch. beginDiscardOf (w .dock) o n memory scratch) (discardPlan (w .dock .settings) o n) _ []
-      (λ e. discard-refused (w .dock) (l .memory) (l .scratch) (lent-other e) o n) (λ J. discard-keeps (withData w (l .memory)) m J o n) (ap (λ (s : Settings). discardPlan s o n) (I .settings))
+      go : (t : Bool) → fitsLent w l ≡ t → Inv (pick t (called w (b .dock) (l .memory) (b .scratch)) w) (entersBy (b .answer) m q (broughtBy q (l .memory)) (planFor (w .dock .settings) (w .dock .buffers) q))
+      go true f =
+          subst (λ (s : List ℕ). Inv (begunWorld (withData w (l .memory)) (beginOf (w .dock) q (l .memory) s)) (entersBy (beginOf (w .dock) q (l .memory) s .answer) m q (broughtBy q (l .memory)) (planFor (w .dock .settings) (w .dock .buffers) q)))
+          (sym (lent-scratch w m I l f lent)) (begin-keeps (withData w (l .memory)) m (lent-keeps w m I l f lent) q)
+      go false f = subst (λ (a : Begun). Inv w (entersBy a m q (broughtBy q (l .memory)) (planFor (w .dock .settings) (w .dock .buffers) q))) (sym (begin-refused (w .dock) (l .memory) (l .scratch) q (lent-other f))) I
 
   -- ---- tell
 
   abbrev after-tell : ℕ → ℕ → Told → Type 0
   after-tell p code t = Inv (afterTell w p l t) (tellBy (t .outcome) m p code)
 
-  tell-event : (p code : ℕ) → (tellOf (w .dock) p code (l .memory) (l .scratch) .outcome ≡ Done → w .carried p ≡ some code) → Inv (afterTell w p l (tellOf (w .dock) p code (l .memory) (l .scratch))) (tellBy (tellOf (w .dock) p code (l .memory) (l .scratch) .outcome) m p code)
+  tell-event : (p code : ℕ) → HandsIn w p code l → Inv (afterTell w p l (tellOf (w .dock) p code (l .memory) (l .scratch))) (tellBy (tellOf (w .dock) p code (l .memory) (l .scratch) .outcome) m p code)
   unfolding isOut isOutBy
   tell-event p code hands =
-      subst (λ (t : Told). (t .outcome ≡ Done → w .carried p ≡ some code) → after-tell p code t) (sym (tell-is (w .dock) (I .held) p code (l .memory) (l .scratch)))
+      subst (λ (t : Told). (t .outcome ≡ Done → CodeOf (w .carried p) code) → after-tell p code t) (sym (tell-is (w .dock) (I .held) p code (l .memory) (l .scratch)))
       (go (fitsLent w l) (ltb p 8) (isPending (stateAt (w .dock) p .phase)) (waitsOf p (w .dock .blockers)) (ltb code 200) refl refl refl refl) hands
     where
       x : State
@@ -319,23 +260,28 @@ module _ (w : World) (m : Plain) (I : Inv w m) (l : Lends) (lent : LentOf w l) w
           (told-inv (withData w (l .memory)) m J p h k n code c))
 
       refused : (r : Refusal) → fitsLent w l ≡ true → Inv (told (Refused r) w p (refusedTell (w .dock) (l .memory) (l .scratch) r)) m
-      refused r f = subst (λ (s : List ℕ). Inv (record { dock = w .dock; store = w .store; memory = l .memory; scratch = s; carried = w .carried }) m) (sym (lent-scratch w m I l f lent)) (lent-keeps w m I l f lent)
+      refused r f = subst (λ (s : List ℕ). Inv (called w (w .dock) (l .memory) s) m) (sym (lent-scratch w m I l f lent)) (lent-keeps w m I l f lent)
 
       rule : Bool → Bool → Bool → Bool → Bool → Told
       rule a b c g u =
           pick a (pick (b && (c && not g)) (pick u (after (w .dock) p x code (l .memory) (l .scratch) (toldOf (w .dock .settings) x code)) (refusedTell (w .dock) (l .memory) (l .scratch) NoAnswer)) (refusedTell (w .dock) (l .memory) (l .scratch) Slot)) (refusedTell (w .dock) (l .memory) (l .scratch) Buffer)
 
+      -- the premise of an accepted tell: its request was carried out, with this code
+      carried-with : (o : Option ℕ) → CodeOf o code → o ≡ some code
+      carried-with none c = absurd c
+      carried-with (some k) c = ap some c
+
       done : after (w .dock) p x code (l .memory) (l .scratch) (toldOf (w .dock .settings) x code) .outcome ≡ Done
       done = after-done (w .dock) p x code (l .memory) (l .scratch) (toldOf (w .dock .settings) x code)
 
       yes-case : fitsLent w l ≡ true → p < 8 → isPending (x .phase) ≡ true → waitsOf p (w .dock .blockers) ≡ false
-          → (after (w .dock) p x code (l .memory) (l .scratch) (toldOf (w .dock .settings) x code) .outcome ≡ Done → w .carried p ≡ some code)
+          → (after (w .dock) p x code (l .memory) (l .scratch) (toldOf (w .dock .settings) x code) .outcome ≡ Done → CodeOf (w .carried p) code)
           → Inv (told (after (w .dock) p x code (l .memory) (l .scratch) (toldOf (w .dock .settings) x code) .outcome) w p (after (w .dock) p x code (l .memory) (l .scratch) (toldOf (w .dock .settings) x code))) (tellBy (after (w .dock) p x code (l .memory) (l .scratch) (toldOf (w .dock .settings) x code) .outcome) m p code)
       yes-case f h k n c =
-          subst (λ (o : Outcome). Inv (told o w p (after (w .dock) p x code (l .memory) (l .scratch) (toldOf (w .dock .settings) x code))) (tellBy o m p code)) (sym done) (accepted f h k n (c done))
+          subst (λ (o : Outcome). Inv (told o w p (after (w .dock) p x code (l .memory) (l .scratch) (toldOf (w .dock .settings) x code))) (tellBy o m p code)) (sym done) (accepted f h k n (carried-with (w .carried p) (c done)))
 
       go : (a b c g u : Bool) → fitsLent w l ≡ a → ltb p 8 ≡ b → isPending (x .phase) ≡ c → waitsOf p (w .dock .blockers) ≡ g
-          → (rule a b c g u .outcome ≡ Done → w .carried p ≡ some code) → Inv (pick a (told (rule a b c g u .outcome) w p (rule a b c g u)) w) (tellBy (rule a b c g u .outcome) m p code)
+          → (rule a b c g u .outcome ≡ Done → CodeOf (w .carried p) code) → Inv (pick a (told (rule a b c g u .outcome) w p (rule a b c g u)) w) (tellBy (rule a b c g u .outcome) m p code)
       go true true true false true f h k n c = yes-case f (ltb-true p 8 h) k n c
       go true true true false false f h k n c = refused NoAnswer f
       go true true true true u f h k n c = refused Slot f
@@ -354,7 +300,7 @@ module _ (w : World) (m : Plain) (I : Inv w m) (l : Lends) (lent : LentOf w l) w
   collect-event p = go (fitsLent w l) (ltb p 8) (hasEnded (stateAt (w .dock) p .phase)) refl refl refl
     where
       go : (a b c : Bool) → fitsLent w l ≡ a → ltb p 8 ≡ b → hasEnded (stateAt (w .dock) p .phase) ≡ c
-          → Inv (pick a (record { dock = answerOf a (b && c) p .dock; store = w .store; memory = l .memory; scratch = w .scratch; carried = w .carried }) w) (collectBy (answerOf a (b && c) p .answer) m p)
+          → Inv (pick a (called w (answerOf a (b && c) p .dock) (l .memory) (w .scratch)) w) (collectBy (answerOf a (b && c) p .answer) m p)
       go true true true f h k = freed-inv (withData w (l .memory)) m (lent-keeps w m I l f lent) p (ltb-true p 8 h) k
       go true true false f h k = lent-keeps w m I l f lent
       go true false c f h k = lent-keeps w m I l f lent
@@ -373,22 +319,25 @@ module _ (w : World) (m : Plain) (I : Inv w m) (l : Lends) (lent : LentOf w l) w
   ended-phase ZeroRequest e = never e
   ended-phase DiscardRequest e = never e
 
-  owed-at-collect : (p : ℕ) → collectOf (w .dock) p (length (l .memory)) (length (l .scratch)) .answer ≡ Final 0 → OwedTo (m .jobs p) (vectorAt (w .dock) p) (l .memory)
+  owed-at-collect : (p : ℕ) → collectOf (w .dock) p (length (l .memory)) (length (l .scratch)) .answer ≡ Final 0 → OwedTo (m .jobs p) (l .memory)
   unfolding collectOf
   owed-at-collect p e = go (fitsLent w l) (ltb p 8) (hasEnded (stateAt (w .dock) p .phase)) refl refl refl e
     where
       x : State
       x = stateAt (w .dock) p
 
-      owed : fitsLent w l ≡ true → p < 8 → hasEnded (x .phase) ≡ true → x .answer ≡ 0 → OwedTo (m .jobs p) (vectorAt (w .dock) p) (l .memory)
+      owed : fitsLent w l ≡ true → p < 8 → hasEnded (x .phase) ≡ true → x .answer ≡ 0 → OwedTo (m .jobs p) (l .memory)
       owed f h k z =
           let ph = ended-phase (x .phase) k in
           let t = lent-keeps w m I l f lent .slots p h .tracks (ended-taken (x .phase) k) in
-          subst (λ (o : Option Tracked). OwedTo o (vectorAt (w .dock) p) (l .memory)) (sym (t .is))
-          (subst (λ (o : Job). OwedBy o (t .j) (vectorAt (w .dock) p) (l .memory)) (sym (t .flight .job))
-          (ended-owes (w .store) (l .memory) _ x (vectorAt (w .dock) p) (w .carried p) (t .j) ph (t .flight .fact) z))
+          let a = t .flight .asked in
+          subst (λ (o : Option Tracked). OwedTo o (l .memory)) (sym (t .is))
+          (subst (λ (o : Job). OwedBy o (rangeFor (t .j .asked)) (vectorFor (t .j .asked)) (t .j) (l .memory)) (sym (a .job))
+          (subst (λ (r : Range). OwedBy (x .job) r (vectorFor (t .j .asked)) (t .j) (l .memory)) (sym (a .range))
+          (subst (λ (v : IoVector). OwedBy (x .job) (x .range) v (t .j) (l .memory)) (sym (a .vector))
+          (ended-owes (w .store) (l .memory) _ x (vectorAt (w .dock) p) (w .carried p) (t .j) ph (t .flight .fact) z))))
 
-      go : (a b c : Bool) → fitsLent w l ≡ a → ltb p 8 ≡ b → hasEnded (x .phase) ≡ c → answerOf a (b && c) p .answer ≡ Final 0 → OwedTo (m .jobs p) (vectorAt (w .dock) p) (l .memory)
+      go : (a b c : Bool) → fitsLent w l ≡ a → ltb p 8 ≡ b → hasEnded (x .phase) ≡ c → answerOf a (b && c) p .answer ≡ Final 0 → OwedTo (m .jobs p) (l .memory)
       go true true true f h k e = owed f (ltb-true p 8 h) k (final-zero (x .answer) e)
       go true true false f h k e = refused-final e
       go true false c f h k e = refused-final e
@@ -405,19 +354,13 @@ carry-event w m I p code c (some q) e = carried-inv w m I p q (out-of w p q e) c
 
 step-keeps : (w : World) (m : Plain) → Inv w m → (e : Event) → Allowed w e → Inv (step w e) (plainStep m (fed w e))
 unfolding step fed plainStep
-step-keeps w m I (begins-read o v l) a = read-event w m I l a o v
-step-keeps w m I (begins-write o v l) a = write-event w m I l a o v
-step-keeps w m I (begins-zeroes t o n l) a = zeroes-event w m I l a t o n
-step-keeps w m I (begins-discard o n l) a = discard-event w m I l a o n
+step-keeps w m I (begins q l) a = begin-event w m I l a q
 step-keeps w m I (carries p code c) a = carry-event w m I p code c (outIn w p) refl
 step-keeps w m I (tells p code l) a = tell-event w m I l (a .0) p code (a .1)
 step-keeps w m I (collects p l) a = collect-event w m I l a p
 
 owed-at : (w : World) (m : Plain) → Inv w m → (e : Event) → Allowed w e → Owed w m e
-owed-at w m I (begins-read o v l) a = tt
-owed-at w m I (begins-write o v l) a = tt
-owed-at w m I (begins-zeroes t o n l) a = tt
-owed-at w m I (begins-discard o n l) a = tt
+owed-at w m I (begins q l) a = tt
 owed-at w m I (carries p code c) a = tt
 owed-at w m I (tells p code l) a = tt
 owed-at w m I (collects p l) a = owed-at-collect w m I l a p

@@ -22,7 +22,7 @@ use Rattle.blockers.specs.Reached.{Reached, Entered}
 use Rattle.blockers.specs.Laws.{entered-other, left-kind, left-note, left-notes, waits-here, waits-for}
 use Rattle.blockers.specs.declared.Blocker.{Blocker}
 use Rattle.blockers.specs.declared.Blockers.{Blockers}
-use Rattle.stages.specs.Stages.{sizeOf, isFree, isPending, isBlocking}
+use Rattle.stages.specs.Stages.{sizeOf, blockedOf, isFree, isPending, isBlocking}
 use Rattle.stages.specs.declared.state.State.{State}
 use Rattle.dock.specs.Dock.{stateAt, vectorAt, lentFits, isReadJob}
 use Rattle.dock.specs.Begin.{strength, blockersWith}
@@ -33,7 +33,7 @@ use Rattle.histories.specs.Held.{SlotOf, Held}
 use Rattle.histories.specs.MadeLaws.{data-long}
 use Rattle.histories.specs.Store.{inRange}
 use Rattle.histories.specs.PlainStore.{Tracked, Plain}
-use Rattle.histories.specs.Histories.{Lends, World, fitsLent, LentOf, Same}
+use Rattle.histories.specs.Histories.{Lends, World, fitsLent, LentOf, Same, called}
 use Rattle.histories.proofs.Lists.{bytes-agree}
 use Rattle.histories.proofs.Invariant.{share, Flight, flight-frame}
 
@@ -115,7 +115,7 @@ module _ (w w' : World) (m m' : Plain) (I : Inv w m) (q : ℕ) (h : q < 8)
 -- ---- a call is lent other data, but for that of jobs in flight
 
 abbrev pub withData : World → List ℕ → World
-withData w memory = record { dock = w .dock; store = w .store; memory = memory; scratch = w .scratch; carried = w .carried }
+withData w memory = called w (w .dock) memory (w .scratch)
 
 module _ (w : World) (m : Plain) (I : Inv w m) (l : Lends) (fit : fitsLent w l ≡ true) (lent : LentOf w l) where
   pub lent-scratch : l .scratch ≡ w .scratch
@@ -148,19 +148,19 @@ module _ (b : Blockers) (rank : ℕ → ℕ) (clock : ℕ) (R : Reached b rank c
   enter-waits v = go (isBlocking (y .phase))
     where
       c : Blockers
-      c = enteredOf (strength (y .stage .strong)) p (y .stage .request) b .blockers
+      c = enteredOf (strength (y .stage .strong)) p (blockedOf (y .stage)) b .blockers
 
       found : waitsOf q c ≡ true → waitsOf q b ≡ true
       found e =
           let o = waits-for c q e in
           let r = o .0 in
-          let noted : hasNoted b q r ≡ true = sym (ap (λ (x : Blocker). getD (x .noted) r false) (entered-other (strength (y .stage .strong)) p (y .stage .request) b q n)) ∙ o .2 in
+          let noted : hasNoted b q r ≡ true = sym (ap (λ (x : Blocker). getD (x .noted) r false) (entered-other (strength (y .stage .strong)) p (blockedOf (y .stage)) b q n)) ∙ o .2 in
           elim (ℕ-discrete r p) [
             | yes i ↦ never (sym v ∙ (rw i at (R .noted q r hq (o .1) noted .1)))
-            | no k ↦ waits-here b q r (o .1) noted (sym (ap isEntered (entered-other (strength (y .stage .strong)) p (y .stage .request) b r k)) ∙ o .3)
+            | no k ↦ waits-here b q r (o .1) noted (sym (ap isEntered (entered-other (strength (y .stage .strong)) p (blockedOf (y .stage)) b r k)) ∙ o .3)
           ]
 
-      go : (t : Bool) → waitsOf q (pick t (enteredOf (strength (y .stage .strong)) p (y .stage .request) b) (record { blockers = b; outcome = Done }) .blockers) ≡ true → waitsOf q b ≡ true
+      go : (t : Bool) → waitsOf q (pick t (enteredOf (strength (y .stage .strong)) p (blockedOf (y .stage)) b) (record { blockers = b; outcome = Done }) .blockers) ≡ true → waitsOf q b ≡ true
       go true e = found e
       go false e = e
 

@@ -1,27 +1,26 @@
--- Lists of events in which every call is lent the buffers as they are: each such list is lawful where its tells hand in the codes of their carries. Assumes nothing.
-use mathlib.Core.Path.{_≡_, refl}
-use mathlib.Core.Bool.{Bool, true, false, _&&_, false≢true}
+-- Lists of events in which every call is lent the buffers as they are, or a begin buffers that do not fit: each such list is lawful where its tells
+-- hand in the codes of their carries. Assumes nothing.
+use mathlib.Core.Path.{_≡_, refl, sym, ap, _∙_}
+use mathlib.Core.Bool.{Bool, true, false, _&&_, not, false≢true}
 use mathlib.Core.List.{List, [], _∷_, _++_}
 use mathlib.Core.Option.{Option, none, some}
 use Prim.Native.Nat.{ℕ}
 use lib.Dec.{eqb}
 use borrow.Author.Tests.{eqb-true}
 use Rattle.arithmetic.specs.SettingsLaws.{and-left, and-right}
-use Rattle.arithmetic.specs.declared.offsets.StoreOffset.{StoreOffset}
 use Rattle.arithmetic.specs.declared.refusals.Outcome.{Outcome}
 use Rattle.arithmetic.specs.declared.refusals.Outcome.the-variants.{Done, Refused}
-use Rattle.vectors.specs.declared.vector.IoVector.{IoVector}
+use Rattle.dock.specs.declared.begin.Asked.{Asked}
 use Rattle.dock.specs.Tell.{tellOf}
-use Rattle.histories.specs.Store.{Choice}
-use Rattle.histories.specs.PlainStore.{Plain, plainStep}
-use Rattle.histories.specs.Histories.{Lends, Event, begins-read, begins-write, begins-zeroes, begins-discard, carries, tells, collects, World, step, fed, LentOf, HandsIn, Allowed, Lawful}
+use Rattle.dock.specs.Computing.{computing}
+use Rattle.histories.specs.Store.{Choice, changed, window, piecesFrom, gathered, landed}
+use Rattle.histories.specs.PlainStore.{Plain, carriedOut, plainStep}
+use Rattle.histories.specs.Histories.{Lends, Event, begins, carries, tells, collects, World, fitsLent, step, fed, LentOf, CodeOf, HandsIn, Allowed, Lawful}
 
--- an event without its buffers
+-- an event without its buffers: they are lent as they are, but to a begin that names others
 pub data Act : Type 0 where
-  reads : StoreOffset → IoVector → Act
-  writes : StoreOffset → IoVector → Act
-  zeroes : Bool → StoreOffset → ℕ → Act
-  discards : StoreOffset → ℕ → Act
+  begin : Asked → Act
+  begin-lent : Lends → Asked → Act
   carry : ℕ → ℕ → Choice → Act
   tell : ℕ → ℕ → Act
   collect : ℕ → Act
@@ -30,10 +29,8 @@ abbrev pub own : World → Lends
 own w = record { memory = w .memory; scratch = w .scratch }
 
 abbrev pub eventOf : World → Act → Event
-eventOf w (reads o v) = begins-read o v (own w)
-eventOf w (writes o v) = begins-write o v (own w)
-eventOf w (zeroes t o n) = begins-zeroes t o n (own w)
-eventOf w (discards o n) = begins-discard o n (own w)
+eventOf w (begin q) = begins q (own w)
+eventOf w (begin-lent l q) = begins q l
 eventOf w (carry p code c) = carries p code c
 eventOf w (tell p code) = tells p code (own w)
 eventOf w (collect p) = collects p (own w)
@@ -67,10 +64,8 @@ matches true c = c
 matches false c = true
 
 abbrev pub isAllowed : World → Act → Bool
-isAllowed w (reads o v) = true
-isAllowed w (writes o v) = true
-isAllowed w (zeroes t o n) = true
-isAllowed w (discards o n) = true
+isAllowed w (begin q) = true
+isAllowed w (begin-lent l q) = not (fitsLent w l)
 isAllowed w (carry p code c) = true
 isAllowed w (tell p code) = matches (isDone (tellOf (w .dock) p code (w .memory) (w .scratch) .outcome)) (isCode (w .carried p) code)
 isAllowed w (collect p) = true
@@ -82,19 +77,21 @@ allAllowed w (a ∷ rest) = isAllowed w a && allAllowed (step w (eventOf w a)) r
 lent-own : (w : World) → LentOf w (own w)
 lent-own w e = (refl, λ p k h f c. refl)
 
-code-of : (o : Option ℕ) (code : ℕ) → isCode o code ≡ true → o ≡ some code
+code-of : (o : Option ℕ) (code : ℕ) → isCode o code ≡ true → CodeOf o code
 code-of none code e = absurd (false≢true e)
-code-of (some c) code e = let i = eqb-true c code e in rw i
+code-of (some c) code e = eqb-true c code e
+
+-- other buffers may be lent where they do not fit: 205
+lent-other : (w : World) (l : Lends) → not (fitsLent w l) ≡ true → LentOf w l
+lent-other w l e f = absurd (false≢true (sym (ap not f) ∙ e))
 
 hands-in : (w : World) (p code : ℕ) → isAllowed w (tell p code) ≡ true → HandsIn w p code (own w)
 hands-in w p code e d = code-of (w .carried p) code (rw d at e)
 
 -- a lawful list extends by each kind of event: a tell that is accepted by the code of its carry, every other in any state
 pub allowed : (w : World) (a : Act) → isAllowed w a ≡ true → Allowed w (eventOf w a)
-allowed w (reads o v) e = lent-own w
-allowed w (writes o v) e = lent-own w
-allowed w (zeroes t o n) e = lent-own w
-allowed w (discards o n) e = lent-own w
+allowed w (begin q) e = lent-own w
+allowed w (begin-lent l q) e = lent-other w l e
 allowed w (carry p code c) e = tt
 allowed w (tell p code) e = (lent-own w, hands-in w p code e)
 allowed w (collect p) e = lent-own w
@@ -113,3 +110,10 @@ after w (e ∷ es) = after (step w e) es
 pub extends : (w : World) (es : List Event) (e : Event) → Lawful w es → Allowed (after w es) e → Lawful w (es ++ (e ∷ []))
 extends w [] e k a = (a, tt)
 extends w (d ∷ es) e k a = (k .0, extends (step w d) es e (k .1) a)
+
+-- ---- lists by computation
+
+-- a declaration that says `unfolding computing-lists` sees through the dock, the store and both sides
+unfoldable pub computing-lists : Unit {0}
+unfolding computing changed window piecesFrom gathered landed carriedOut plainStep step fed
+computing-lists = tt

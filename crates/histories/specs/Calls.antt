@@ -15,7 +15,8 @@ use Rattle.arithmetic.specs.declared.refusals.Outcome.the-variants.{Done}
 use Rattle.arithmetic.specs.declared.offsets.StoreOffset.{StoreOffset}
 use Rattle.arithmetic.specs.declared.offsets.Range.{Range}
 use Rattle.arithmetic.specs.declared.settings.Settings.{Settings}
-use Rattle.vectors.specs.Vectors.{isValid, copies, vectorOf}
+use Rattle.arithmetic.specs.declared.settings.Buffers.{Buffers}
+use Rattle.vectors.specs.Vectors.{isValid, copies, vectorOf, alignmentOf}
 use Rattle.vectors.specs.declared.vector.IoVector.{IoVector}
 use Rattle.blockers.specs.Blockers.{isEntered, blockerAt}
 use Rattle.stages.specs.Stages.{sizeOf, isFree, hasEnded, isPending, isBlocking, isSound, asked, readPlan, writePlan, zeroJob, zeroPlan, discardPlan, toldOf}
@@ -30,7 +31,7 @@ use Rattle.stages.specs.declared.plan.Plan.the-variants.{Done as NothingToDo, S
 use Rattle.stages.specs.declared.told.Step.{Step}
 use Rattle.stages.specs.declared.told.Step.the-variants.{Stays, Ends, Enters}
 use Rattle.dock.specs.Dock.{noState, noVector, vacant, stateAt, vectorAt, shareAt, isReadJob, overlapsOf, firstFree}
-use Rattle.dock.specs.Begin.{isWriteJob, isBouncedWrite, sourceFits, mergedAt, filled, blockersWith, withJob, Begins, placed, placedAt, refusedBegin, begunBy}
+use Rattle.dock.specs.Begin.{isWriteJob, isBouncedWrite, sourceFits, mergedAt, filled, blockersWith, withJob, Begins, placed, placedAt, refusedBegin, begunBy, isAligned, movedOf, planOf}
 use Rattle.dock.specs.Tell.{blockersWithout, copiedAt, isBouncedRead, handed, stayed, ended, entered, staysOf, endsOf, entersOf, stepped, after}
 use Rattle.dock.specs.declared.dock.Dock.{Dock}
 use Rattle.histories.specs.Courses.{isZeroJob, hasVector, isLast, isRegular, suited, never, Sole, read-regular, write-regular, zero-regular, discard-regular, Goes, stays-regular, enters-regular}
@@ -208,6 +209,14 @@ module _ (s : Settings) (m : ℕ) (o : StoreOffset) where
 
   pub discard-ready : (v : IoVector) (n : ℕ) → Starts (Ready s m v) (discardPlan s o n)
   discard-ready v n = starts-from (Ready s m v) (discardPlan s o n) (λ x i. bare-ready Discard (asked o n) v x refl (discard-opens s o n x i) (rw i at (discard-regular s o n)))
+
+  -- every plan
+  pub planned-ready : (b : Buffers) (j : Job) (n : ℕ) (v : IoVector) → isValid m (movedOf j v) ≡ true → Starts (Ready s m (movedOf j v)) (planOf j s b o n v)
+  planned-ready b Read n v e = read-ready v e (isAligned (alignmentOf (s .align) (b .«data») v))
+  planned-ready b Write n v e = write-ready v e (isAligned (alignmentOf (s .align) (b .«data») v))
+  planned-ready b Zeroes n v e = zero-ready (vectorOf []) false n
+  planned-ready b AllocatedZeroes n v e = zero-ready (vectorOf []) true n
+  planned-ready b Discard n v e = discard-ready (vectorOf []) n
 
 -- the lowest free slot is free
 pub first-free : (xs : List State) → firstFree xs < length xs → isFree (getD xs (firstFree xs) noState .phase) ≡ true

@@ -7,7 +7,7 @@ use Prim.Native.Nat.{ℕ, _-_, _<_}
 use lib.Dec.{eqb}
 use lib.ListN.{length, getD}
 use Rattle.arithmetic.specs.Rounding.{pick}
-use Rattle.arithmetic.specs.declared.offsets.StoreOffset.{StoreOffset}
+use Rattle.arithmetic.specs.declared.offsets.Range.{Range}
 use Rattle.arithmetic.specs.declared.settings.Settings.{Settings}
 use Rattle.arithmetic.specs.declared.settings.Buffers.{Buffers}
 use Rattle.arithmetic.specs.declared.refusals.Outcome.{Outcome}
@@ -20,16 +20,17 @@ use Rattle.stages.specs.declared.state.Job.{Job}
 use Rattle.stages.specs.declared.state.Job.the-variants.{Read, Write, Zeroes, AllocatedZeroes, Discard}
 use Rattle.stages.specs.declared.state.Request.{Request}
 use Rattle.dock.specs.Dock.{openOf, stateAt, vectorAt, lentFits}
-use Rattle.dock.specs.Begin.{Begins, beginReadOf, beginWriteOf, beginZeroesOf, beginDiscardOf}
+use Rattle.dock.specs.Begin.{Begins, vectorFor, beginOf}
 use Rattle.dock.specs.Next.{nextOf}
 use Rattle.dock.specs.Tell.{Told, tellOf, collectOf}
 use Rattle.dock.specs.declared.dock.Dock.{Dock}
+use Rattle.dock.specs.declared.begin.Asked.{Asked}
 use Rattle.dock.specs.declared.next.Due.{Due}
 use Rattle.dock.specs.declared.next.Due.the-variants.{Waiting, Make, Answer, Refused as NotDue}
 use Rattle.dock.specs.declared.tell.Collects.{Collects}
 use Rattle.dock.specs.declared.tell.Collected.the-variants.{Final}
 use Rattle.histories.specs.Store.{Bytes, Choice, piecesFrom, gathered, rangeAsked, stored, fetched, inRange}
-use Rattle.histories.specs.PlainStore.{Item, read, write, zeroes, discard, carry, tell, collect, nothing, Did, yielded, wrote, zeroed, discarded, Tracked, Plain, plainOpened, plainStep, setAt}
+use Rattle.histories.specs.PlainStore.{Item, begin, carry, tell, collect, nothing, Did, yielded, wrote, zeroed, discarded, rangeFor, Tracked, Plain, plainOpened, plainStep, setAt}
 
 -- ---- events
 
@@ -39,10 +40,7 @@ pub record Lends : Type 0 where
   pub scratch : List ℕ
 
 pub data Event : Type 0 where
-  begins-read : StoreOffset → IoVector → Lends → Event
-  begins-write : StoreOffset → IoVector → Lends → Event
-  begins-zeroes : Bool → StoreOffset → ℕ → Lends → Event
-  begins-discard : StoreOffset → ℕ → Lends → Event
+  begins : Asked → Lends → Event
   carries : ℕ → ℕ → Choice → Event
   tells : ℕ → ℕ → Lends → Event
   collects : ℕ → Lends → Event
@@ -57,6 +55,20 @@ pub record World : Type 0 where
   pub scratch : List ℕ
   pub carried : ℕ → Option ℕ
 
+-- after a call: the dock that it returned, and the buffers as it left them
+abbrev pub called : World → Dock → List ℕ → List ℕ → World
+called w d memory scratch = record { dock = d; store = w .store; memory = memory; scratch = scratch; carried = w .carried }
+
+-- after an accepted tell: its request is out no more
+abbrev pub answered : World → ℕ → Dock → List ℕ → List ℕ → World
+answered w p d memory scratch =
+    record { dock = d; store = w .store; memory = memory; scratch = scratch; carried = setAt (w .carried) p none }
+
+-- after the store's act on a request of slot p, with this code
+abbrev pub acted : World → ℕ → ℕ → Bytes → List ℕ → List ℕ → World
+acted w p code store memory scratch =
+    record { dock = w .dock; store = store; memory = memory; scratch = scratch; carried = setAt (w .carried) p (some code) }
+
 abbrev pub opened : Settings → Buffers → Bytes → List ℕ → List ℕ → World
 opened s b content memory scratch = record { dock = openOf s b .dock; store = content; memory = memory; scratch = scratch; carried = λ p. none }
 
@@ -65,32 +77,24 @@ abbrev pub fitsLent : World → Lends → Bool
 fitsLent w l = lentFits (w .dock .buffers) (length (l .memory)) (length (l .scratch))
 
 abbrev pub afterBegin : World → Lends → Begins → World
-afterBegin w l b =
-    pick (fitsLent w l) (record { dock = b .dock; store = w .store; memory = l .memory; scratch = b .scratch; carried = w .carried }) w
+afterBegin w l b = pick (fitsLent w l) (called w (b .dock) (l .memory) (b .scratch)) w
 
--- an accepted tell: its request is out no more
 abbrev pub told : Outcome → World → ℕ → Told → World
-told Done w p t = record { dock = t .dock; store = w .store; memory = t .memory; scratch = t .scratch; carried = setAt (w .carried) p none }
-told (NotDone r) w p t = record { dock = t .dock; store = w .store; memory = t .memory; scratch = t .scratch; carried = w .carried }
+told Done w p t = answered w p (t .dock) (t .memory) (t .scratch)
+told (NotDone r) w p t = called w (t .dock) (t .memory) (t .scratch)
 
 abbrev pub afterTell : World → ℕ → Lends → Told → World
 afterTell w p l t = pick (fitsLent w l) (told (t .outcome) w p t) w
 
 abbrev pub afterCollect : World → Lends → Collects → World
-afterCollect w l c = pick (fitsLent w l) (record { dock = c .dock; store = w .store; memory = l .memory; scratch = w .scratch; carried = w .carried }) w
+afterCollect w l c = pick (fitsLent w l) (called w (c .dock) (l .memory) (w .scratch)) w
 
 -- "it carries out one request that is out, once, and fixes its code"
 abbrev pub carriesOut : World → ℕ → ℕ → Choice → Request → World
 carriesOut w p code c q =
     let ps = piecesFrom (w .dock) p (length (w .memory)) (length (w .scratch)) 0 (q .segments) in
     let b = fetched (q .kind) q ps code c (w .store) (w .memory) (w .scratch) in
-    record {
-      dock = w .dock;
-      store = stored (q .kind) (rangeAsked q) code c (gathered ps (w .memory) (w .scratch)) (w .store);
-      memory = b .memory;
-      scratch = b .scratch;
-      carried = setAt (w .carried) p (some code);
-    }
+    acted w p code (stored (q .kind) (rangeAsked q) code c (gathered ps (w .memory) (w .scratch)) (w .store)) (b .memory) (b .scratch)
 
 -- the request that is out in a slot and was not carried out yet
 abbrev pub unless : Option ℕ → Option Request → Option Request
@@ -111,10 +115,7 @@ afterCarry none w p code c = w
 afterCarry (some q) w p code c = carriesOut w p code c q
 
 unfoldable pub step : World → Event → World
-step w (begins-read o v l) = afterBegin w l (beginReadOf (w .dock) o v (l .memory) (l .scratch))
-step w (begins-write o v l) = afterBegin w l (beginWriteOf (w .dock) o v (l .memory) (l .scratch))
-step w (begins-zeroes t o n l) = afterBegin w l (beginZeroesOf (w .dock) t o n (l .memory) (l .scratch))
-step w (begins-discard o n l) = afterBegin w l (beginDiscardOf (w .dock) o n (l .memory) (l .scratch))
+step w (begins q l) = afterBegin w l (beginOf (w .dock) q (l .memory) (l .scratch))
 step w (carries p code c) = afterCarry (outIn w p) w p code c
 step w (tells p code l) = afterTell w p l (tellOf (w .dock) p code (l .memory) (l .scratch))
 step w (collects p l) = afterCollect w l (collectOf (w .dock) p (length (l .memory)) (length (l .scratch)))
@@ -126,10 +127,7 @@ carryItem none p code c = nothing
 carryItem (some q) p code c = carry p code c
 
 unfoldable pub fed : World → Event → Item
-fed w (begins-read o v l) = read o v (beginReadOf (w .dock) o v (l .memory) (l .scratch) .answer)
-fed w (begins-write o v l) = write o v (l .memory) (beginWriteOf (w .dock) o v (l .memory) (l .scratch) .answer)
-fed w (begins-zeroes t o n l) = zeroes t o n (beginZeroesOf (w .dock) t o n (l .memory) (l .scratch) .answer)
-fed w (begins-discard o n l) = discard o n (beginDiscardOf (w .dock) o n (l .memory) (l .scratch) .answer)
+fed w (begins q l) = begin q (l .memory) (beginOf (w .dock) q (l .memory) (l .scratch) .answer)
 fed w (carries p code c) = carryItem (outIn w p) p code c
 fed w (tells p code l) = tell p code (tellOf (w .dock) p code (l .memory) (l .scratch) .outcome)
 fed w (collects p l) = collect p (collectOf (w .dock) p (length (l .memory)) (length (l .scratch)) .answer)
@@ -143,15 +141,17 @@ LentOf w l =
     (l .scratch ≡ w .scratch)
     × ((p k : ℕ) → p < 8 → isFree (stateAt (w .dock) p .phase) ≡ false → covered (segmentsOf (vectorAt (w .dock) p)) k ≡ true → getD (l .memory) k 0 ≡ getD (w .memory) k 0)
 
+-- the code of a carry; a request that was not carried out has none
+abbrev pub CodeOf : Option ℕ → ℕ → Type 0
+CodeOf none code = ⊥
+CodeOf (some c) code = c ≡ code
+
 -- "An accepted tell follows its request's carry and hands in that code; a refused one may hand in any."
 abbrev pub HandsIn : World → ℕ → ℕ → Lends → Type 0
-HandsIn w p code l = tellOf (w .dock) p code (l .memory) (l .scratch) .outcome ≡ Done → w .carried p ≡ some code
+HandsIn w p code l = tellOf (w .dock) p code (l .memory) (l .scratch) .outcome ≡ Done → CodeOf (w .carried p) code
 
 abbrev pub Allowed : World → Event → Type 0
-Allowed w (begins-read o v l) = LentOf w l
-Allowed w (begins-write o v l) = LentOf w l
-Allowed w (begins-zeroes t o n l) = LentOf w l
-Allowed w (begins-discard o n l) = LentOf w l
+Allowed w (begins q l) = LentOf w l
 Allowed w (carries p code c) = Unit {0}
 Allowed w (tells p code l) = LentOf w l × HandsIn w p code l
 Allowed w (collects p l) = LentOf w l
@@ -182,31 +182,30 @@ abbrev pub putBy : List Did → ℕ → Bool
 putBy [] x = false
 putBy (d ∷ ds) x = pick (puts d x) true (putBy ds x)
 
--- "Owed besides", by the job: j is what the plain byte store has of it, v its vector, memory the data at collect
-abbrev pub OwedBy : Job → Tracked → IoVector → List ℕ → Type 0
+-- "Owed besides", by what was handed to begin: the kind of the job, its range r, its vector v; j has its bytes then and its steps, memory is the data at
+-- collect
+abbrev pub OwedBy : Job → Range → IoVector → Tracked → List ℕ → Type 0
 -- "A read answered 0 holds at collect what its step yielded."
-OwedBy Read j v memory = (bs : List ℕ) × Among (yielded (j .first .range) bs) (j .steps) × (bytesOf memory (segmentsOf v) ≡ bs)
+OwedBy Read r v j memory = (bs : List ℕ) × Among (yielded r bs) (j .steps) × (bytesOf memory (segmentsOf v) ≡ bs)
 -- "a write step of that job, code 0, with its vector's bytes over its asked range"
-OwedBy Write j v memory = (new : Bytes) × Among (wrote (j .first .range) 0 new) (j .steps) × ((x : ℕ) → inRange (j .first .range) x ≡ true → new x ≡ getD (j .bytes) (x - j .first .range .start .0) 0)
+OwedBy Write r v j memory =
+    (new : Bytes) × Among (wrote r 0 new) (j .steps) × ((x : ℕ) → inRange r x ≡ true → new x ≡ getD (j .bytes) (x - r .start .0) 0)
 -- "every byte of the job's range is covered by a write or zero step of that job with code 0"
-OwedBy Zeroes j v memory = (x : ℕ) → inRange (j .first .range) x ≡ true → putBy (j .steps) x ≡ true
-OwedBy AllocatedZeroes j v memory = (x : ℕ) → inRange (j .first .range) x ≡ true → putBy (j .steps) x ≡ true
-OwedBy Discard j v memory = Unit {0}
+OwedBy Zeroes r v j memory = (x : ℕ) → inRange r x ≡ true → putBy (j .steps) x ≡ true
+OwedBy AllocatedZeroes r v j memory = (x : ℕ) → inRange r x ≡ true → putBy (j .steps) x ≡ true
+OwedBy Discard r v j memory = Unit {0}
 
-abbrev pub OwedTo : Option Tracked → IoVector → List ℕ → Type 0
-OwedTo none v memory = ⊥
-OwedTo (some j) v memory = OwedBy (j .first .job) j v memory
+abbrev pub OwedTo : Option Tracked → List ℕ → Type 0
+OwedTo none memory = ⊥
+OwedTo (some j) memory = OwedBy (j .asked .job) (rangeFor (j .asked)) (vectorFor (j .asked)) j memory
 
 -- "Answered 0: collect returned 0."
 abbrev pub Owed : World → Plain → Event → Type 0
-Owed w m (begins-read o v l) = Unit {0}
-Owed w m (begins-write o v l) = Unit {0}
-Owed w m (begins-zeroes t o n l) = Unit {0}
-Owed w m (begins-discard o n l) = Unit {0}
+Owed w m (begins q l) = Unit {0}
 Owed w m (carries p code c) = Unit {0}
 Owed w m (tells p code l) = Unit {0}
 Owed w m (collects p l) =
-    collectOf (w .dock) p (length (l .memory)) (length (l .scratch)) .answer ≡ Final 0 → OwedTo (m .jobs p) (vectorAt (w .dock) p) (l .memory)
+    collectOf (w .dock) p (length (l .memory)) (length (l .scratch)) .answer ≡ Final 0 → OwedTo (m .jobs p) (l .memory)
 
 -- after every event, and at every collect that answers 0
 abbrev pub Claim : World → Plain → List Event → Type 0

@@ -4,6 +4,7 @@ use mathlib.Core.Bool.{Bool, true, false}
 use mathlib.Core.Logic.{_≢_}
 use mathlib.Core.List.{List, []}
 use Prim.Native.Nat.{ℕ, _+_, _<_}
+use native.Mathlib.Omega.{arith}
 use native.Mathlib.Decide.{ℕ-discrete}
 use lib.ListN.{length, getD, set, length-set, getD-replicate, length-replicate}
 use lib.Seq.{getD-set-same, getD-set-other}
@@ -23,14 +24,15 @@ use Rattle.blockers.specs.declared.Kind.the-variants.{Absent}
 use Rattle.blockers.specs.declared.Blocker.{Blocker}
 use Rattle.blockers.specs.declared.Blockers.{Blockers}
 use Rattle.blockers.specs.declared.Changed.{Changed}
-use Rattle.stages.specs.Stages.{isBlocking, isSound}
+use Rattle.stages.specs.Stages.{blockedOf, isBlocking, isSound}
+use Rattle.stages.specs.declared.state.Stage.{Stage}
 use Rattle.stages.specs.declared.state.State.{State}
 use Rattle.dock.specs.Dock.{noState, noVector, vacant, fresh, vectorAt}
 use Rattle.dock.specs.Begin.{strength, blockersWith}
 use Rattle.dock.specs.Tell.{blockersWithout}
 use Rattle.dock.specs.declared.dock.Dock.{Dock}
 use Rattle.histories.specs.Courses.{isRegular, never}
-use Rattle.histories.specs.Held.{SlotHeld, SlotOf, Held}
+use Rattle.histories.specs.Held.{Encloses, SlotHeld, SlotOf, Held}
 
 -- ---- the blockers, as one slot's enters or leaves
 
@@ -43,7 +45,15 @@ pub record Changes (b : Blockers) (p : ℕ) (y : State) (c : Changed) : Type 0 w
   pub kinds : (q : ℕ) → q ≢ p → blockerAt (c .blockers) q .kind ≡ blockerAt b q .kind
   pub ranges : (q : ℕ) → q ≢ p → blockerAt (c .blockers) q .range ≡ blockerAt b q .range
   pub entered : present (blockerAt (c .blockers) p .kind) ≡ isBlocking (y .phase)
-  pub own : isBlocking (y .phase) ≡ true → (blockerAt (c .blockers) p .kind ≡ strength (y .stage .strong)) × (blockerAt (c .blockers) p .range ≡ y .stage .request)
+  pub own : isBlocking (y .phase) ≡ true
+      → (blockerAt (c .blockers) p .kind ≡ strength (y .stage .strong)) × Encloses (blockerAt (c .blockers) p .range) (y .stage .request)
+
+-- all that is asked of a stage's blocked range
+blocked-encloses : (g : Stage) (r : Range) → r ≡ blockedOf g → Encloses r (g .request)
+blocked-encloses g r e =
+    let a : r .start .0 ≡ g .request .start .0 = ap (λ (k : Range). k .start .0) e in
+    let b : r .end .0 ≡ g .request .end .0 = ap (λ (k : Range). k .end .0) e in
+    record { from = omega arith; to = omega arith }
 
 strong-present : (t : Bool) → present (strength t) ≡ true
 strong-present true = refl
@@ -52,7 +62,7 @@ strong-present false = refl
 module _ (b : Blockers) (p : ℕ) (y : State) (rank : ℕ → ℕ) (clock : ℕ) (R : Reached b rank clock) where
   -- the blockers stay as they are
   unchanged : isEntered (blockerAt b p) ≡ isBlocking (y .phase)
-      → (isBlocking (y .phase) ≡ true → (blockerAt b p .kind ≡ strength (y .stage .strong)) × (blockerAt b p .range ≡ y .stage .request))
+      → (isBlocking (y .phase) ≡ true → (blockerAt b p .kind ≡ strength (y .stage .strong)) × Encloses (blockerAt b p .range) (y .stage .request))
       → Changes b p y (record { blockers = b; outcome = Done })
   unchanged e o = record {
     done = refl;
@@ -79,7 +89,7 @@ module _ (b : Blockers) (p : ℕ) (y : State) (rank : ℕ → ℕ) (clock : ℕ)
       k = strength (y .stage .strong)
 
       r : Range
-      r = y .stage .request
+      r = blockedOf (y .stage)
 
       go : (t : Bool) → isBlocking (y .phase) ≡ t → Changes b p y (pick t (enteredOf k p r b) (record { blockers = b; outcome = Done }))
       go true t =
@@ -92,7 +102,7 @@ module _ (b : Blockers) (p : ℕ) (y : State) (rank : ℕ → ℕ) (clock : ℕ)
             kinds = λ q n. ap (λ (x : Blocker). x .kind) (entered-other k p r b q n);
             ranges = λ q n. ap (λ (x : Blocker). x .range) (entered-other k p r b q n);
             entered = ap (λ (x : Blocker). isEntered x) o ∙ strong-present (y .stage .strong) ∙ sym t;
-            own = λ u. (ap (λ (x : Blocker). x .kind) o, ap (λ (x : Blocker). x .range) o);
+            own = λ u. (ap (λ (x : Blocker). x .kind) o, blocked-encloses (y .stage) _ (ap (λ (x : Blocker). x .range) o));
           }
       go false t = none-changes b p y rank clock R e t
 
@@ -118,7 +128,7 @@ module _ (b : Blockers) (p : ℕ) (y : State) (rank : ℕ → ℕ) (clock : ℕ)
 
   -- the blocker of the job x stays, and the job is y now, in the same stage
   pub stay-changes : (x : State) → y .stage ≡ x .stage → isBlocking (y .phase) ≡ isBlocking (x .phase) → present (blockerAt b p .kind) ≡ isBlocking (x .phase)
-      → (isBlocking (x .phase) ≡ true → (blockerAt b p .kind ≡ strength (x .stage .strong)) × (blockerAt b p .range ≡ x .stage .request))
+      → (isBlocking (x .phase) ≡ true → (blockerAt b p .kind ≡ strength (x .stage .strong)) × Encloses (blockerAt b p .range) (x .stage .request))
       → Changes b p y (record { blockers = b; outcome = Done })
   stay-changes x g f e o = unchanged b p y rank clock R (e ∙ sym f) (λ u. rw g (o (sym f ∙ u)))
 

@@ -1,5 +1,5 @@
 -- Every dock that calls made has `Held`; and so begin, a request's piece and tell answer on it as document 01 says, and never by a refusal of their inner steps. Assumes nothing.
-use mathlib.Core.Path.{_≡_, refl, sym, subst}
+use mathlib.Core.Path.{_≡_, refl, sym, ap, _∙_, subst}
 use mathlib.Core.Bool.{Bool, true, false, _&&_}
 use mathlib.Core.List.{List, []}
 use Prim.Native.Nat.{ℕ, _<_}
@@ -13,30 +13,31 @@ use Rattle.arithmetic.specs.Settings.{openingOf, profileOf}
 use Rattle.arithmetic.specs.declared.refusals.Refusal.the-variants.{Segment, Overlap, Full, Buffer, Slot, NoAnswer}
 use Rattle.arithmetic.specs.declared.refusals.Outcome.{Outcome}
 use Rattle.arithmetic.specs.declared.refusals.Outcome.the-variants.{Done, Refused}
-use Rattle.arithmetic.specs.declared.offsets.StoreOffset.{StoreOffset}
 use Rattle.arithmetic.specs.declared.settings.Settings.{Settings}
 use Rattle.arithmetic.specs.declared.settings.Buffers.{Buffers}
 use Rattle.arithmetic.specs.declared.settings.Profile.{Profile}
 use Rattle.arithmetic.specs.declared.settings.Profile.the-variants.{Of, Refused as NoProfile}
-use Rattle.vectors.specs.Vectors.{isValid, vectorOf, alignmentOf}
+use Rattle.vectors.specs.Vectors.{sizeOf, allSegments, segmentsFit, isValid, vectorOf}
+use Rattle.vectors.specs.SegmentLaws.{vector-valid}
 use Rattle.vectors.specs.declared.vector.IoVector.{IoVector}
-use Rattle.stages.specs.Stages.{isPending, readPlan, writePlan, zeroPlan, discardPlan, toldOf, hasEnded}
+use Rattle.stages.specs.Stages.{isPending, toldOf, hasEnded}
 use Rattle.stages.specs.Laws.{Starts}
 use Rattle.stages.specs.declared.state.Job.{Job}
-use Rattle.stages.specs.declared.state.Job.the-variants.{Read, Write, Zeroes, Discard}
+use Rattle.stages.specs.declared.state.Job.the-variants.{Read, Write, Zeroes, AllocatedZeroes, Discard}
 use Rattle.stages.specs.declared.plan.Plan.{Plan}
 use Rattle.stages.specs.declared.plan.Plan.the-variants.{Done as NothingToDo, Started, Refused as PlanRefused}
 use Rattle.dock.specs.Dock.{stateAt, vacant, openOf, openBy, openProfileOf, lentFits, lentBy, lentOf, isOutBy, isOut, overlapsOf, firstFree}
-use Rattle.dock.specs.Begin.{withJob, Begins, onlyIf, vectorThen, begunBy, placed, placedAt, isAligned, refusedBegin, beginReadOf, beginWriteOf, beginZeroesOf, beginDiscardOf}
+use Rattle.dock.specs.Begin.{withJob, Begins, onlyIf, vectorThen, begunBy, placed, placedAt, refusedBegin, beginReadOf, beginWriteOf, beginZeroesOf, beginDiscardOf, movedOf, planOf, vectorFor, planFor, beginBy, beginOf}
 use Rattle.dock.specs.Next.{isKeptBy, isKept}
 use Rattle.dock.specs.Tell.{Told, stepped, after, tellAt, tellOf, refusedTell, collectOf}
 use Rattle.dock.specs.declared.dock.Dock.{Dock}
+use Rattle.dock.specs.declared.begin.Asked.{Asked}
 use Rattle.dock.specs.declared.begin.Begun.the-variants.{Done as NoRequest}
 use Rattle.dock.specs.declared.tell.Collects.{Collects}
 use Rattle.dock.specs.declared.tell.Collected.the-variants.{Final, Refused as NotCollected}
-use Rattle.histories.specs.Held.{Held, Made, opens, opens-profile, begins-read, begins-write, begins-zeroes, begins-discard, tells, collects}
+use Rattle.histories.specs.Held.{Held, Made, opens, opens-profile, begins, tells, collects}
 use Rattle.histories.specs.Keeping.{fresh-held}
-use Rattle.histories.specs.Calls.{Ready, read-ready, write-ready, zero-ready, discard-ready, begun-held, place-done, told-done, told-held, freed-held}
+use Rattle.histories.specs.Calls.{Ready, planned-ready, begun-held, place-done, told-done, told-held, freed-held}
 
 -- ---- what a call is lent
 
@@ -55,8 +56,39 @@ data-long b m n e = eqb-true m (b .«data» .length) (and-left _ _ e)
 
 -- ---- begin
 
-abbrev pub alignedFor : Dock → IoVector → Bool
-alignedFor d v = isAligned (alignmentOf (d .settings .align) (d .buffers .«data») v)
+-- the job by which 203 is judged: both kinds of zeroes are one there
+abbrev pub judgedAs : Job → Job
+judgedAs Read = Read
+judgedAs Write = Write
+judgedAs Zeroes = Zeroes
+judgedAs AllocatedZeroes = Zeroes
+judgedAs Discard = Discard
+
+empty-valid : (n : ℕ) → isValid n (vectorOf []) ≡ true
+unfolding segmentsFit allSegments sizeOf
+empty-valid n = vector-valid n [] refl
+
+-- every begin is one rule: "201, 205, 202", then its plan. Zeroes and discards have an empty vector, which is valid.
+pub begin-is : (d : Dock) (q : Asked) (memory scratch : List ℕ)
+    → beginOf d q memory scratch
+    ≡ onlyIf d scratch (lentOf (d .settings) (d .buffers) (length memory) (length scratch))
+    (vectorThen d (vectorFor q) memory scratch (begunBy d (judgedAs (q .job)) (vectorFor q) memory scratch (planFor (d .settings) (d .buffers) q)))
+unfolding beginOf beginReadOf beginWriteOf beginZeroesOf beginDiscardOf
+begin-is d q memory scratch = by (q .job)
+  where
+    lent : Begins → Begins
+    lent k = onlyIf d scratch (lentOf (d .settings) (d .buffers) (length memory) (length scratch)) k
+
+    bare : (k : Begins) → lent k ≡ lent (vectorThen d (vectorOf []) memory scratch k)
+    bare k = sym (ap (λ (t : Bool). lent (pick t k (refusedBegin d scratch Segment))) (empty-valid (length memory)))
+
+    by : (j : Job) → beginBy j d (q .offset) (q .length) (q .vector) memory scratch
+        ≡ lent (vectorThen d (movedOf j (q .vector)) memory scratch (begunBy d (judgedAs j) (movedOf j (q .vector)) memory scratch (planOf j (d .settings) (d .buffers) (q .offset) (q .length) (q .vector))))
+    by Read = refl
+    by Write = refl
+    by Zeroes = bare _
+    by AllocatedZeroes = bare _
+    by Discard = bare _
 
 -- "203, 204", then the lowest free slot: what `begunBy` says, without a refusal at the slot
 abbrev pub begunRule : Dock → Job → IoVector → List ℕ → List ℕ → Plan → Begins
@@ -113,25 +145,11 @@ module _ (d : Dock) (H : Held d) (memory scratch : List ℕ) where
       go true e = f e
       go false e = H
 
-  read-held : (o : StoreOffset) (v : IoVector) → Held (beginReadOf d o v memory scratch .dock)
-  unfolding beginReadOf
-  read-held o v =
-      only-held _ (λ l. vector-held v _ (λ e.
-      begun-held d H v memory scratch l Read (readPlan (d .settings) o (v .total) (alignedFor d v)) (read-ready (d .settings) _ o v (rw l at e) (alignedFor d v))))
-
-  write-held : (o : StoreOffset) (v : IoVector) → Held (beginWriteOf d o v memory scratch .dock)
-  unfolding beginWriteOf
-  write-held o v =
-      only-held _ (λ l. vector-held v _ (λ e.
-      begun-held d H v memory scratch l Write (writePlan (d .settings) o (v .total) (alignedFor d v)) (write-ready (d .settings) _ o v (rw l at e) (alignedFor d v))))
-
-  zeroes-held : (t : Bool) (o : StoreOffset) (n : ℕ) → Held (beginZeroesOf d t o n memory scratch .dock)
-  unfolding beginZeroesOf
-  zeroes-held t o n = only-held _ (λ l. begun-held d H (vectorOf []) memory scratch l Zeroes (zeroPlan (d .settings) t o n) (zero-ready (d .settings) _ o (vectorOf []) t n))
-
-  discard-held : (o : StoreOffset) (n : ℕ) → Held (beginDiscardOf d o n memory scratch .dock)
-  unfolding beginDiscardOf
-  discard-held o n = only-held _ (λ l. begun-held d H (vectorOf []) memory scratch l Discard (discardPlan (d .settings) o n) (discard-ready (d .settings) _ o (vectorOf []) n))
+  begin-held : (q : Asked) → Held (beginOf d q memory scratch .dock)
+  begin-held q =
+      subst (λ (b : Begins). Held (b .dock)) (sym (begin-is d q memory scratch))
+      (only-held _ (λ l. vector-held (vectorFor q) _ (λ e.
+      begun-held d H (vectorFor q) memory scratch l (judgedAs (q .job)) (planFor (d .settings) (d .buffers) q) (planned-ready (d .settings) _ (q .offset) (d .buffers) (q .job) (q .length) (q .vector) (rw l at e)))))
 
 -- ---- tell
 
@@ -214,10 +232,7 @@ pub made-held : {d : Dock} → Made d → Held d
 unfolding openOf openProfileOf
 made-held (opens s b e) = fresh-held s b e
 made-held (opens-profile i n b e) = profile-held (profileOf i) n b e
-made-held (begins-read {d} k o v memory scratch) = read-held d (made-held k) memory scratch o v
-made-held (begins-write {d} k o v memory scratch) = write-held d (made-held k) memory scratch o v
-made-held (begins-zeroes {d} k t o n memory scratch) = zeroes-held d (made-held k) memory scratch t o n
-made-held (begins-discard {d} k o n memory scratch) = discard-held d (made-held k) memory scratch o n
+made-held (begins {d} k q memory scratch) = begin-held d (made-held k) memory scratch q
 made-held (tells {d} k p code memory scratch) = tell-held d (made-held k) p code memory scratch
 made-held (collects {d} k p m n) = collect-held d (made-held k) p m n
 
@@ -231,32 +246,10 @@ module _ {d : Dock} (k : Made d) where
   pub made-tell : (p code : ℕ) (memory scratch : List ℕ) → tellOf d p code memory scratch ≡ tellRule d p code memory scratch
   made-tell p code memory scratch = tell-is d (made-held k) p code memory scratch
 
-  module _ (o : StoreOffset) (memory scratch : List ℕ) where
-    abbrev lent : Begins → Begins
-    lent i = onlyIf d scratch (lentOf (d .settings) (d .buffers) (length memory) (length scratch)) i
-
-    vector-begin : (j : Job) (v : IoVector) (plan : Plan) → (isValid (d .buffers .«data» .length) v ≡ true → Starts (Ready (d .settings) (d .buffers .«data» .length) v) plan)
-        → lent (vectorThen d v memory scratch (begunBy d j v memory scratch plan)) ≡ lent (vectorThen d v memory scratch (begunRule d j v memory scratch plan))
-    vector-begin j v plan r = only-is d (made-held k) memory scratch _ _ (λ l. vector-is d (made-held k) memory scratch v _ _ (λ e. begun-is d (made-held k) memory scratch l j v plan (r (rw l at e))))
-
-    bare-begin : (j : Job) (v : IoVector) (plan : Plan) → Starts (Ready (d .settings) (d .buffers .«data» .length) v) plan
-        → lent (begunBy d j v memory scratch plan) ≡ lent (begunRule d j v memory scratch plan)
-    bare-begin j v plan r = only-is d (made-held k) memory scratch _ _ (λ l. begun-is d (made-held k) memory scratch l j v plan r)
-
-    pub made-read : (v : IoVector) → beginReadOf d o v memory scratch
-        ≡ lent (vectorThen d v memory scratch (begunRule d Read v memory scratch (readPlan (d .settings) o (v .total) (alignedFor d v))))
-    unfolding beginReadOf
-    made-read v = vector-begin Read v (readPlan (d .settings) o (v .total) (alignedFor d v)) (λ e. read-ready (d .settings) _ o v e (alignedFor d v))
-
-    pub made-write : (v : IoVector) → beginWriteOf d o v memory scratch
-        ≡ lent (vectorThen d v memory scratch (begunRule d Write v memory scratch (writePlan (d .settings) o (v .total) (alignedFor d v))))
-    unfolding beginWriteOf
-    made-write v = vector-begin Write v (writePlan (d .settings) o (v .total) (alignedFor d v)) (λ e. write-ready (d .settings) _ o v e (alignedFor d v))
-
-    pub made-zeroes : (t : Bool) (n : ℕ) → beginZeroesOf d t o n memory scratch ≡ lent (begunRule d Zeroes (vectorOf []) memory scratch (zeroPlan (d .settings) t o n))
-    unfolding beginZeroesOf
-    made-zeroes t n = bare-begin Zeroes (vectorOf []) (zeroPlan (d .settings) t o n) (zero-ready (d .settings) _ o (vectorOf []) t n)
-
-    pub made-discard : (n : ℕ) → beginDiscardOf d o n memory scratch ≡ lent (begunRule d Discard (vectorOf []) memory scratch (discardPlan (d .settings) o n))
-    unfolding beginDiscardOf
-    made-discard n = bare-begin Discard (vectorOf []) (discardPlan (d .settings) o n) (discard-ready (d .settings) _ o (vectorOf []) n)
+  pub made-begin : (q : Asked) (memory scratch : List ℕ) → beginOf d q memory scratch
+      ≡ onlyIf d scratch (lentOf (d .settings) (d .buffers) (length memory) (length scratch))
+      (vectorThen d (vectorFor q) memory scratch (begunRule d (judgedAs (q .job)) (vectorFor q) memory scratch (planFor (d .settings) (d .buffers) q)))
+  made-begin q memory scratch =
+      let H = made-held k in
+      begin-is d q memory scratch ∙ only-is d H memory scratch _ _ (λ l. vector-is d H memory scratch (vectorFor q) _ _ (λ e.
+      begun-is d H memory scratch l (judgedAs (q .job)) (vectorFor q) (planFor (d .settings) (d .buffers) q) (planned-ready (d .settings) _ (q .offset) (d .buffers) (q .job) (q .length) (q .vector) (rw l at e))))

@@ -1,19 +1,18 @@
 -- Document 01's plain byte store: one byte for each offset, and each place's job with the codes told. It knows no blocker, no scratch, no waiting.
-use mathlib.Core.Bool.{Bool, true}
+use mathlib.Core.Bool.{true}
 use mathlib.Core.List.{List, [], _∷_}
 use mathlib.Core.Option.{Option, none, some}
-use Prim.Native.Nat.{ℕ}
+use Prim.Native.Nat.{ℕ, _+_}
 use lib.Dec.{eqb}
 use Rattle.arithmetic.specs.Rounding.{pick}
-use Rattle.arithmetic.specs.declared.offsets.StoreOffset.{StoreOffset}
+use Rattle.arithmetic.specs.Offsets.{rangeOf}
 use Rattle.arithmetic.specs.declared.offsets.Range.{Range}
 use Rattle.arithmetic.specs.declared.settings.Settings.{Settings}
 use Rattle.arithmetic.specs.declared.settings.Buffers.{Buffers}
 use Rattle.arithmetic.specs.declared.refusals.Outcome.{Outcome}
 use Rattle.arithmetic.specs.declared.refusals.Outcome.the-variants.{Done, Refused as NotDone}
-use Rattle.vectors.specs.Vectors.{segmentsOf, bytesOf, alignmentOf}
-use Rattle.vectors.specs.declared.vector.IoVector.{IoVector}
-use Rattle.stages.specs.Stages.{sizeOf, readPlan, writePlan, zeroPlan, discardPlan, toldOf}
+use Rattle.vectors.specs.Vectors.{segmentsOf, bytesOf}
+use Rattle.stages.specs.Stages.{sizeOf, toldOf}
 use Rattle.stages.specs.declared.state.Job.{Job}
 use Rattle.stages.specs.declared.state.Job.the-variants.{Read, Write, Zeroes, AllocatedZeroes, Discard}
 use Rattle.stages.specs.declared.state.Phase.{Phase}
@@ -23,7 +22,8 @@ use Rattle.stages.specs.declared.plan.Plan.{Plan}
 use Rattle.stages.specs.declared.plan.Plan.the-variants.{Done as NothingToDo, Started, Refused as PlanRefused}
 use Rattle.stages.specs.declared.told.Step.{Step}
 use Rattle.stages.specs.declared.told.Step.the-variants.{Stays, Ends, Enters}
-use Rattle.dock.specs.Begin.{isAligned}
+use Rattle.dock.specs.Begin.{vectorFor, planFor}
+use Rattle.dock.specs.declared.begin.Asked.{Asked}
 use Rattle.dock.specs.declared.begin.Begun.{Begun}
 use Rattle.dock.specs.declared.begin.Begun.the-variants.{Done as NoRequest, Placed, Refused as BeginRefused}
 use Rattle.dock.specs.declared.tell.Collected.{Collected}
@@ -32,12 +32,9 @@ use Rattle.histories.specs.Store.{Bytes, Choice, changed, becomesNew, wi
 
 -- ---- what it is fed
 
--- opening, the calls with arguments, lent bytes and answers, the carries with place, code and the store's choices
+-- opening, the calls with arguments, lent bytes and answers, the carries with place, code and the store's choices; one begin for every kind of job
 pub data Item : Type 0 where
-  read : StoreOffset → IoVector → Begun → Item
-  write : StoreOffset → IoVector → List ℕ → Begun → Item
-  zeroes : Bool → StoreOffset → ℕ → Begun → Item
-  discard : StoreOffset → ℕ → Begun → Item
+  begin : Asked → List ℕ → Begun → Item
   carry : ℕ → ℕ → Choice → Item
   tell : ℕ → ℕ → Outcome → Item
   collect : ℕ → Collected → Item
@@ -53,10 +50,22 @@ pub data Did : Type 0 where
   zeroed : Range → ℕ → Did
   discarded : Range → Did
 
--- a job: its first stage by the rules, its vector's bytes at begin, the codes told and its steps, the newest of each first
+-- "its job's range", by what was handed to begin: a read or write has as many bytes as its vector, the others as many as they name
+abbrev pub lengthBy : Job → Asked → ℕ
+lengthBy Read q = q .vector .total
+lengthBy Write q = q .vector .total
+lengthBy Zeroes q = q .length
+lengthBy AllocatedZeroes q = q .length
+lengthBy Discard q = q .length
+
+abbrev pub rangeFor : Asked → Range
+rangeFor q = rangeOf (q .offset .0) (q .offset .0 + lengthBy (q .job) q)
+
+-- a job: what was handed to its begin, and its vector's bytes then; its first stage by the rules; the codes told and its steps, the newest of each first
 pub record Tracked : Type 0 where
-  pub first : State
+  pub asked : Asked
   pub bytes : List ℕ
+  pub first : State
   pub codes : List ℕ
   pub steps : List Did
 
@@ -92,37 +101,44 @@ newBytes Zeroes o bs = λ x. 0
 newBytes AllocatedZeroes o bs = λ x. 0
 newBytes Discard o bs = λ x. 0
 
-abbrev pub withStep : Tracked → Did → Tracked
-withStep j d = record { first = j .first; bytes = j .bytes; codes = j .codes; steps = d ∷ j .steps }
+-- the job with these steps, with one more, with one more code told
+abbrev pub withSteps : Tracked → List Did → Tracked
+withSteps j ds = record { asked = j .asked; bytes = j .bytes; first = j .first; codes = j .codes; steps = ds }
 
--- the bytes and the job after a request of the job in state x was carried out
-pub record Carried : Type 0 where
+abbrev pub withStep : Tracked → Did → Tracked
+withStep j d = withSteps j (d ∷ j .steps)
+
+abbrev pub withCode : Tracked → ℕ → Tracked
+withCode j code = record { asked = j .asked; bytes = j .bytes; first = j .first; codes = code ∷ j .codes; steps = j .steps }
+
+-- the bytes and the job after a request was carried out
+pub record Stepped : Type 0 where
   pub bytes : Bytes
   pub job : Tracked
 
-abbrev pub noStep : Bytes → Tracked → Carried
+abbrev pub noStep : Bytes → Tracked → Stepped
 noStep s j = record { bytes = s; job = j }
 
 -- "read of a read job, code 0: yields the asked bytes"
-abbrev pub readStep : ℕ → Range → Bytes → Tracked → Carried
+abbrev pub readStep : ℕ → Range → Bytes → Tracked → Stepped
 readStep code r s j = pick (eqb code 0) (record { bytes = s; job = withStep j (yielded r (window s (r .start .0) (sizeOf r))) }) (noStep s j)
 
 -- "write, code 0: the asked range takes the vector's bytes at begin, zeroes in a zero job. Other codes: each byte of that range is old or new"
-abbrev pub writeStep : ℕ → Choice → Job → Range → Bytes → Tracked → Carried
+abbrev pub writeStep : ℕ → Choice → Job → Range → Bytes → Tracked → Stepped
 writeStep code c k r s j =
     let new = newBytes k (r .start .0) (j .bytes) in
     record { bytes = changed s r (becomesNew code c) new; job = withStep j (wrote r code new) }
 
 -- "zero: likewise with 0 over the request's range"
-abbrev pub zeroStep : ℕ → Choice → Range → Bytes → Tracked → Carried
+abbrev pub zeroStep : ℕ → Choice → Range → Bytes → Tracked → Stepped
 zeroStep code c r s j = record { bytes = changed s r (becomesNew code c) (λ x. 0); job = withStep j (zeroed r code) }
 
 -- "discard, any code: bytes of the request's range become what the store chose"
-abbrev pub discardStep : Choice → Range → Bytes → Tracked → Carried
+abbrev pub discardStep : Choice → Range → Bytes → Tracked → Stepped
 discardStep c r s j = record { bytes = changed s r (λ x. true) (c .left); job = withStep j (discarded r) }
 
 -- by which request is out; "Any other read: no step"
-abbrev pub stepBy : Phase → ℕ → Choice → State → Bytes → Tracked → Carried
+abbrev pub stepBy : Phase → ℕ → Choice → State → Bytes → Tracked → Stepped
 stepBy Free code c x s j = noStep s j
 stepBy Ended code c x s j = noStep s j
 stepBy DirectRead code c x s j = readStep code (x .stage .asked) s j
@@ -134,7 +150,7 @@ stepBy DirectWrite code c x s j = writeStep code c (x .job) (x .stage .asked) s 
 stepBy ZeroRequest code c x s j = zeroStep code c (x .stage .request) s j
 stepBy DiscardRequest code c x s j = discardStep c (x .stage .request) s j
 
-unfoldable pub carriedOut : Settings → ℕ → Choice → Bytes → Tracked → Carried
+unfoldable pub carriedOut : Settings → ℕ → Choice → Bytes → Tracked → Stepped
 carriedOut s code c b j = let x = standing s (j .first) (j .codes) in stepBy (x .phase) code c x b j
 
 -- ---- an item
@@ -142,34 +158,38 @@ carriedOut s code c b j = let x = standing s (j .first) (j .codes) in stepBy (x 
 abbrev pub setAt : {A : Type 0} → (ℕ → A) → ℕ → A → ℕ → A
 setAt f p a q = pick (eqb q p) a (f q)
 
-abbrev pub withJob : Plain → ℕ → Option Tracked → Plain
-withJob m p j = record { settings = m .settings; buffers = m .buffers; bytes = m .bytes; jobs = setAt (m .jobs) p j }
+abbrev pub putBytes : Plain → Bytes → Plain
+putBytes m s = record { settings = m .settings; buffers = m .buffers; bytes = s; jobs = m .jobs }
+
+abbrev pub putJob : Plain → ℕ → Option Tracked → Plain
+putJob m p j = record { settings = m .settings; buffers = m .buffers; bytes = m .bytes; jobs = setAt (m .jobs) p j }
+
+abbrev pub afterStep : Plain → ℕ → Stepped → Plain
+afterStep m p r = putJob (putBytes m (r .bytes)) p (some (r .job))
 
 -- "A begin that gets a place enters its job"
-abbrev pub tracked : Plan → List ℕ → Option Tracked
-tracked (Started x) bs = some (record { first = x; bytes = bs; codes = []; steps = [] })
-tracked NothingToDo bs = none
-tracked (PlanRefused r) bs = none
+abbrev pub tracked : Asked → List ℕ → Plan → Option Tracked
+tracked q bs (Started x) = some (record { asked = q; bytes = bs; first = x; codes = []; steps = [] })
+tracked q bs NothingToDo = none
+tracked q bs (PlanRefused r) = none
 
-abbrev pub entersBy : Begun → Plain → Plan → List ℕ → Plain
-entersBy (Placed p) m plan bs = withJob m p (tracked plan bs)
-entersBy NoRequest m plan bs = m
-entersBy (BeginRefused r) m plan bs = m
+abbrev pub entersBy : Begun → Plain → Asked → List ℕ → Plan → Plain
+entersBy (Placed p) m q bs plan = putJob m p (tracked q bs plan)
+entersBy NoRequest m q bs plan = m
+entersBy (BeginRefused r) m q bs plan = m
 
--- whether the vector is aligned for direct requests
-abbrev pub alignedIn : Plain → IoVector → Bool
-alignedIn m v = isAligned (alignmentOf (m .settings .align) (m .buffers .«data») v)
+-- "the vector's bytes at begin"
+abbrev pub broughtBy : Asked → List ℕ → List ℕ
+broughtBy q memory = bytesOf memory (segmentsOf (vectorFor q))
 
 abbrev pub carriedBy : Option Tracked → Plain → ℕ → ℕ → Choice → Plain
 carriedBy none m p code c = m
-carriedBy (some j) m p code c =
-    let r = carriedOut (m .settings) code c (m .bytes) j in
-    record { settings = m .settings; buffers = m .buffers; bytes = r .bytes; jobs = setAt (m .jobs) p (some (r .job)) }
+carriedBy (some j) m p code c = afterStep m p (carriedOut (m .settings) code c (m .bytes) j)
 
 -- "an accepted tell its code"
 abbrev pub toldBy : Option Tracked → Plain → ℕ → ℕ → Plain
 toldBy none m p code = m
-toldBy (some j) m p code = withJob m p (some (record { first = j .first; bytes = j .bytes; codes = code ∷ j .codes; steps = j .steps }))
+toldBy (some j) m p code = putJob m p (some (withCode j code))
 
 abbrev pub tellBy : Outcome → Plain → ℕ → ℕ → Plain
 tellBy Done m p code = toldBy (m .jobs p) m p code
@@ -177,14 +197,11 @@ tellBy (NotDone r) m p code = m
 
 -- "an accepted collect removes the job, refused calls change nothing"
 abbrev pub collectBy : Collected → Plain → ℕ → Plain
-collectBy (Final a) m p = withJob m p none
+collectBy (Final a) m p = putJob m p none
 collectBy (NotCollected r) m p = m
 
 unfoldable pub plainStep : Plain → Item → Plain
-plainStep m (read o v a) = entersBy a m (readPlan (m .settings) o (v .total) (alignedIn m v)) []
-plainStep m (write o v memory a) = entersBy a m (writePlan (m .settings) o (v .total) (alignedIn m v)) (bytesOf memory (segmentsOf v))
-plainStep m (zeroes t o n a) = entersBy a m (zeroPlan (m .settings) t o n) []
-plainStep m (discard o n a) = entersBy a m (discardPlan (m .settings) o n) []
+plainStep m (begin q memory a) = entersBy a m q (broughtBy q memory) (planFor (m .settings) (m .buffers) q)
 plainStep m (carry p code c) = carriedBy (m .jobs p) m p code c
 plainStep m (tell p code a) = tellBy a m p code
 plainStep m (collect p a) = collectBy a m p

@@ -80,6 +80,11 @@ paddedStage s r = record {
   strong = true;
 }
 
+-- The range of a stage's blocker: today that of its request, "over their range" of a direct one, "over the padded range" of a padded write. What the
+-- theorem on every list needs of it is that the request lies inside it.
+abbrev pub blockedOf : Stage → Range
+blockedOf g = g .request
+
 -- the first phase of a write from the bounce buffer: its reads come first
 unfoldable pub firstPhase : Stage → Phase
 firstPhase g = pick (ltb 0 (sizeOf (g .first))) FirstRead (pick (ltb 0 (sizeOf (g .second))) SecondRead BouncedWrite)

@@ -11,19 +11,9 @@ use Rattle.vectors.specs.Vectors.{vectorOf, segment}
 use Rattle.vectors.specs.declared.vector.Segment.{Segment}
 use Rattle.stages.specs.declared.state.Kind.{Kind}
 use Rattle.stages.specs.declared.state.Kind.the-variants.{Read, Write, Zero}
-use Rattle.arithmetic.specs.Rounding.{fits, isMultiple, roundDown, roundUp, sumOf, upOf}
-use Rattle.arithmetic.specs.Offsets.{inBufferOf, onStoreOf}
-use Rattle.arithmetic.specs.Settings.{isAlignment, alignmentsFit, lengthAlign, bounceFits, settingsFit, buffersFit, openingOf, profiles, profileOf}
-use Rattle.arithmetic.specs.Padding.{paddedStart, roundedEnd, paddedLength, paddingFits, spanOf, paddedOf, paddingOf, isDirect, transferOf, readsOf, isRead}
-use Rattle.arithmetic.specs.Zeroes.{cutFits, hasMiddle, cutOf, zeroCutOf, discardCutOf, chunkLength, chunkOf}
-use Rattle.arithmetic.specs.Loops.{anyBelow}
-use Rattle.vectors.specs.Vectors.{sizeOf, liesIn, allSegments, anySegment, segmentsFit, isValid, changedTo, pushOf, insertOf, appendOf, headOf, tailOf, splitOf, splitTailOf, put, bytesOf, scatterOf, fillOf, copies, owns, ownedOf, shares, overlapOf, selfOverlapOf, allAligned, isAlignedOf, alignmentOf}
-use Rattle.blockers.specs.Blockers.{overlaps as blockers-overlaps, conflict, notes, notesOf, noBlockers, enteredOf, forgetting, leftOf, waitsOf}
-use Rattle.stages.specs.Stages.{directStage, paddedStage, firstPhase, readPlan, writePlan, zeroesPlan, zeroPlan, discardPlan, chunkNext, tailNext, headNext, toldOf, requestOf, liesIn as stages-liesIn, isSound}
-use Rattle.dock.specs.Dock.{vacant, fresh, openOf, lentFits, lentOf, isOutBy, isOut, meetsOf, meetsAt, overlapsOf, firstFree}
-use Rattle.dock.specs.Begin.{sourceOf, sourceFits, mergedAt, filled, blockersWith, placedAt, beginReadOf}
-use Rattle.dock.specs.Next.{nextOf, isKeptBy}
-use Rattle.dock.specs.Tell.{blockersWithout, copiedAt, handed, staysOf, endsOf, entersOf, tellAt, tellOf, collectOf}
+use Rattle.dock.specs.Next.{nextOf}
+use Rattle.dock.specs.Tell.{tellOf, collectOf}
+use Rattle.dock.specs.Computing.{computing}
 use Rattle.dock.specs.Dock.{openProfileOf}
 use Rattle.dock.specs.Begin.{Begins, beginWriteOf, beginZeroesOf, beginDiscardOf}
 use Rattle.dock.specs.declared.dock.Dock.{Dock}
@@ -128,7 +118,7 @@ pub record Starred : Type 0 where
   pub discard-last : discards (2 ^ 64 - 512) 0 ≡ NoRequest
 
 pub starred : Starred
-unfolding fits isMultiple roundDown roundUp sumOf upOf inBufferOf onStoreOf isAlignment alignmentsFit lengthAlign bounceFits settingsFit buffersFit openingOf profiles profileOf paddedStart roundedEnd paddedLength paddingFits spanOf paddedOf paddingOf isDirect transferOf readsOf isRead cutFits hasMiddle cutOf zeroCutOf discardCutOf chunkLength chunkOf anyBelow sizeOf liesIn allSegments anySegment segmentsFit vectorOf isValid changedTo pushOf insertOf appendOf headOf tailOf splitOf splitTailOf put bytesOf scatterOf fillOf copies owns ownedOf shares overlapOf selfOverlapOf allAligned isAlignedOf alignmentOf blockers-overlaps conflict notes notesOf noBlockers enteredOf forgetting leftOf waitsOf directStage paddedStage firstPhase readPlan writePlan zeroesPlan zeroPlan discardPlan chunkNext tailNext headNext toldOf requestOf stages-liesIn isSound vacant fresh openOf openProfileOf lentFits lentOf isOutBy isOut meetsOf meetsAt overlapsOf firstFree sourceOf sourceFits mergedAt filled blockersWith placedAt beginReadOf beginWriteOf beginZeroesOf beginDiscardOf nextOf isKeptBy blockersWithout copiedAt handed staysOf endsOf entersOf tellAt tellOf collectOf
+unfolding computing
 starred = record {
   ten = refl;
   to-the-end = refl;
