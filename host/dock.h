@@ -57,7 +57,18 @@ enum dock_refusal {
     DOCK_OVERFLOW = 207,  /* sum past 2^64 - 1 */
     DOCK_SLOT = 208,      /* slot not 0 to 7 or free; no request out; not ended; no such piece */
     DOCK_NO_ANSWER = 209, /* told a code of 200 to 255 */
-    DOCK_UNALIGNED = 210  /* planner: offset or length no multiple of the request alignment */
+    DOCK_UNALIGNED = 210, /* planner: offset or length no multiple of the request alignment */
+    /* Of document 02's requests; no call of this header refuses with one of them yet. */
+    DOCK_TABLE = 211,       /* drive table: a record cut, too short or of another length, a 65th row or none */
+    DOCK_ROW = 212,         /* drive table: a row past the limits of an alignment */
+    DOCK_SAVED = 213,       /* recorded write: the part for the old bytes too short, or outside the data */
+    DOCK_UNDO = 214,        /* taking back: no write is remembered, or a later request reached its bytes */
+    DOCK_RESERVATION = 215, /* reservation: empty, none in the slot, of another length, or still waiting */
+    DOCK_MAP = 216,         /* map of touched blocks: none, its block size unfit, or a request past its blocks */
+    DOCK_WINDOW = 217,      /* not in a window that may be changed; at opening: they overlap, wrap or are over four */
+    DOCK_SCRIPT = 218,      /* script: a record cut, unknown, of an unknown user, or of one whose job still runs */
+    DOCK_OUTPUT = 219,      /* joined writes: the output is shorter than their bytes */
+    DOCK_SHEET = 220        /* joined writes: over 64, or one empty, wrapping or outside the data */
 };
 
 /* What a store tells: 0, 1, or any of 2 to 199. A code of 200 to 255 is no answer. */

@@ -8,14 +8,14 @@ use native.Mathlib.Decide.{decLt}
 use lib.Dec.{ltb, leb}
 use borrow.Author.Tests.{ltb-true, ltb-false}
 use Rattle.arithmetic.specs.Rounding.{pick, isMultiple}
-use Rattle.arithmetic.specs.Refusals.{numberOf}
+use Rattle.arithmetic.specs.Refusals.{numberOf, refusal-some}
 use Rattle.arithmetic.specs.Offsets.{rangeOf}
 use Rattle.arithmetic.specs.Settings.{settingsFit, lengthAlign}
 use Rattle.arithmetic.specs.Padding.{transferOf}
 use Rattle.arithmetic.specs.Zeroes.{chunkLength, chunkOf}
 use Rattle.arithmetic.specs.ZeroesLaws.{chunk-within}
 use Rattle.arithmetic.specs.declared.refusals.Refusal.{Refusal}
-use Rattle.arithmetic.specs.declared.refusals.Refusal.the-variants.{Unfit, Segment, Overlap, Full, Buffer, TooLong, Overflow, Slot, NoAnswer, Unaligned}
+use Rattle.arithmetic.specs.declared.refusals.Refusal.the-variants.{Unfit, TooLong}
 use Rattle.arithmetic.specs.declared.offsets.StoreOffset.{StoreOffset}
 use Rattle.arithmetic.specs.declared.offsets.Range.{Range}
 use Rattle.arithmetic.specs.declared.settings.Settings.{Settings}
@@ -68,16 +68,7 @@ Goes ds x (Ends y) = y .answer ≡ 0 → Put ds (x .range .start .0) (x .range .
 Goes ds x (Enters y) = Follows ds y
 
 refused-some : (r : Refusal) {A : Type 0} → numberOf r ≡ 0 → A
-refused-some Unfit e = absurd (omega arith)
-refused-some Segment e = absurd (omega arith)
-refused-some Overlap e = absurd (omega arith)
-refused-some Full e = absurd (omega arith)
-refused-some Buffer e = absurd (omega arith)
-refused-some TooLong e = absurd (omega arith)
-refused-some Overflow e = absurd (omega arith)
-refused-some Slot e = absurd (omega arith)
-refused-some NoAnswer e = absurd (omega arith)
-refused-some Unaligned e = absurd (omega arith)
+refused-some r e = absurd (omega (arith, refusal-some r))
 
 -- a plan that is refused or starts a stage
 abbrev pub Opening : (State → Type 0) → Plan → Type 0

@@ -97,7 +97,7 @@ fn own(label: &[u8], buffer: &mut [u8]) {
 }
 
 pub fn owned() {
-    own(b"own in 16 bytes", &mut [46u8; 16]);
+    own(b"own in 13 bytes", &mut [46u8; 13]);
     own(b"own in 12 bytes", &mut [46u8; 12]);
     own(b"own in 11 bytes", &mut [46u8; 11]);
 }

@@ -17,7 +17,7 @@ use Rattle.arithmetic.specs.declared.refusals.Refusal.the-variants.{Segment as 
 use Rattle.arithmetic.specs.declared.refusals.Outcome.the-variants.{Done, Refused}
 use Rattle.vectors.specs.declared.vector.Segment.{Segment}
 use Rattle.vectors.specs.declared.vector.IoVector.{IoVector}
-use Rattle.vectors.specs.Vectors.{none, segmentsOf, sizeOf, liesIn, isValid, put, bytesOf, scatterOf, fillOf, copies, owns, ownedOf, outcomeOf}
+use Rattle.vectors.specs.Vectors.{none, segmentsOf, sizeOf, liesIn, isValid, put, bytesOf, scatterOf, fillOf, copies, outcomeOf}
 use Rattle.vectors.specs.SegmentLaws.{all-at, lies, Valid, valid}
 use Rattle.vectors.specs.ByteLaws.{length-put, take-put, bytes-length}
 use Rattle.vectors.proofs.Pass.{nth, in-use, same, first, size, none-left}
@@ -225,18 +225,6 @@ module _ (d : List ℕ) (v : IoVector) (n : ℕ) where
   unfolding copies
   copies-true e h = rw (e, eq-eqb n (v .total) h)
 
-  pub owns-invalid : isValid (length d) v ≡ false → owns d v n ≡ false
-  unfolding owns
-  owns-invalid e = rw e
-
-  pub owns-short : n < v .total → owns d v n ≡ false
-  unfolding owns
-  owns-short h = rw (lt-leb (v .total) n h, and-false)
-
-  pub owns-true : isValid (length d) v ≡ true → v .total ≤ n → owns d v n ≡ true
-  unfolding owns
-  owns-true e h = rw (e, le-leb (v .total) n h)
-
 -- the bytes of a valid vector are as many as its total
 pub bytes-total : (d : List ℕ) (v : IoVector) → isValid (length d) v ≡ true → length (bytesOf d (segmentsOf v)) ≡ v .total
 bytes-total d v e = let w = valid (length d) v e in bytes-length d (segmentsOf v) (w .fit .lie) ∙ sym (w .total)
@@ -248,13 +236,3 @@ refused t x y e = rw e (refl, refl)
 
 pub carried-out : (t : Bool) (x y z : List ℕ) → t ≡ true → z ≡ x → (Done ≡ outcomeOf t) × (z ≡ pick t x y)
 carried-out t x y z e f = rw e (refl, f)
-
-pub owned-refused : (d : List ℕ) (v : IoVector) (b : List ℕ) → owns d v (length b) ≡ false → (Refused BadSegment ≡ outcomeOf (owns d v (length b))) × (b ≡ ownedOf d v b)
-unfolding ownedOf
-owned-refused d v b e = refused (owns d v (length b)) (bytesOf d (segmentsOf v) ++ drop (v .total) b) b e
-
-pub owned-done : (d : List ℕ) (v : IoVector) (b ys : List ℕ) → owns d v (length b) ≡ true → ys ≡ bytesOf d (segmentsOf v)
-    → (Done ≡ outcomeOf (owns d v (length b))) × (ys ++ drop (v .total) b ≡ ownedOf d v b)
-unfolding ownedOf
-owned-done d v b ys e f =
-    carried-out (owns d v (length b)) (bytesOf d (segmentsOf v) ++ drop (v .total) b) b (ys ++ drop (v .total) b) e (ap (λ (t : List ℕ). t ++ drop (v .total) b) f)

@@ -12,9 +12,10 @@ use Rattle.arithmetic.specs.declared.refusals.Outcome.the-variants.{Done, Refus
 use Rattle.vectors.specs.declared.vector.Segment.{Segment}
 use Rattle.vectors.specs.declared.vector.IoVector.{IoVector}
 use Rattle.vectors.specs.declared.vector.SplitPosition.{SplitPosition}
+use Rattle.vectors.specs.declared.vector.Split.{Split}
 use Rattle.vectors.specs.Vectors.{segment, none, segmentsOf, sizeOf, liesIn, vectorOf, isValid, refusedVector, splitOf, splitTailOf}
 use Rattle.vectors.specs.Joining.{Room, Joins}
-use Rattle.vectors.specs.Positions.{position, behind, positionOf, headAt, tailAt, Cut}
+use Rattle.vectors.specs.Positions.{position, behind, positionOf, splitAt, headAt, tailAt, Cut}
 use Rattle.vectors.specs.SegmentLaws.{size-cut, size-at, all-at, lies, Valid, valid}
 use Rattle.vectors.specs.SplitLaws.{Located, located}
 use Rattle.vectors.proofs.Pass.{nth, in-use, first, same, none-left}
@@ -28,6 +29,10 @@ pub record Walk (v : IoVector) (mid i rest : ℕ) : Type 0 where
   pub reach : i ≤ v .count
   pub is : positionOf (segmentsOf v) mid ≡ behind i (positionOf (drop i (segmentsOf v)) rest)
 
+-- head and tail meet there
+abbrev both : SplitPosition → Split
+both c = record { head = c; tail = c }
+
 pub walk-start : (v : IoVector) (mid : ℕ) → length (v .segments) ≡ 16 → v .count ≤ 16 → Walk v mid 0 mid
 walk-start v mid w h =
     let q = positionOf (segmentsOf v) mid in
@@ -35,22 +40,22 @@ walk-start v mid w h =
     record { wide = w; few = h; reach = omega arith; is = ap (λ (j : ℕ). position j (q .inside)) z }
 
 module _ (v : IoVector) (mid i rest : ℕ) (g : Walk v mid i rest) where
-  pub walk-end : v .count ≤ i → position (v .count) 0 ≡ positionOf (segmentsOf v) mid
+  pub walk-end : v .count ≤ i → both (position (v .count) 0) ≡ splitAt (segmentsOf v) mid
   unfolding positionOf
   walk-end h =
       let e = none-left v (g .wide) i (omega (arith, in-use v (g .wide) (g .few))) in
       let k : 0 + i ≡ v .count = omega (arith, g .reach) in
-      sym (g .is ∙ (rw e (ap (λ (j : ℕ). position j 0) k)))
+      ap both (sym (g .is ∙ (rw e (ap (λ (j : ℕ). position j 0) k))))
 
   module _ (h : i < v .count) where
     within : i < length (segmentsOf v)
     within = omega (arith, in-use v (g .wide) (g .few))
 
-    pub walk-here : rest < nth v i .length → position i rest ≡ positionOf (segmentsOf v) mid
+    pub walk-here : rest < nth v i .length → both (position i rest) ≡ splitAt (segmentsOf v) mid
     unfolding positionOf
     walk-here l =
         let k : 0 + i ≡ i = omega arith in
-        sym (g .is ∙ (rw (first v (g .wide) i within, lt-ltb rest (nth v i .length) l) (ap (λ (j : ℕ). position j rest) k)))
+        ap both (sym (g .is ∙ (rw (first v (g .wide) i within, lt-ltb rest (nth v i .length) l) (ap (λ (j : ℕ). position j rest) k))))
 
     pub walk-next : nth v i .length ≤ rest → Walk v mid (i + 1) (rest - nth v i .length)
     unfolding positionOf
@@ -164,12 +169,12 @@ pub split-refused : (n : ℕ) (v u : IoVector) (mid : ℕ) → isValid n v ≡ f
 unfolding splitOf
 split-refused n v u mid e f = rw (e, f)
 
-pub split-done : (n : ℕ) (v : IoVector) (mid : ℕ) (c : SplitPosition) (h t : IoVector) → isValid n v ≡ true → c ≡ positionOf (segmentsOf v) mid
-    → h ≡ vectorOf (headAt (segmentsOf v) c) → t ≡ vectorOf (tailAt (segmentsOf v) c) → record { head = h; tail = t; outcome = Done } ≡ splitOf n v mid
+pub split-done : (n : ℕ) (v : IoVector) (mid : ℕ) (c d : SplitPosition) (h t : IoVector) → isValid n v ≡ true → c ≡ positionOf (segmentsOf v) mid → d ≡ positionOf (segmentsOf v) mid
+    → h ≡ vectorOf (headAt (segmentsOf v) c) → t ≡ vectorOf (tailAt (segmentsOf v) d) → record { head = h; tail = t; outcome = Done } ≡ splitOf n v mid
 unfolding splitOf
-split-done n v mid c h t e p f g =
+split-done n v mid c d h t e p r f g =
     let q = located n (segmentsOf v) mid (valid n v e .fit .lie) in
-    rw (e, f, g, p, q .head, q .tail)
+    rw (e, f, g, p, r, q .head, q .tail)
 
 pub tail-refused : (n : ℕ) (v : IoVector) (mid : ℕ) → isValid n v ≡ false → refusedVector v ≡ splitTailOf n v mid
 unfolding splitTailOf

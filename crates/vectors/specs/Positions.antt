@@ -8,6 +8,7 @@ use Rattle.arithmetic.specs.Rounding.{pick}
 use Rattle.vectors.specs.declared.vector.Segment.{Segment}
 use Rattle.vectors.specs.declared.vector.IoVector.{IoVector}
 use Rattle.vectors.specs.declared.vector.SplitPosition.{SplitPosition}
+use Rattle.vectors.specs.declared.vector.Split.{Split}
 use Rattle.vectors.specs.Vectors.{segment, none, segmentsOf, sizeOf}
 
 abbrev pub position : ℕ → ℕ → SplitPosition
@@ -21,6 +22,10 @@ behind i p = position (p .index + i) (p .inside)
 unfoldable pub positionOf : List Segment → ℕ → SplitPosition
 positionOf [] mid = position 0 0
 positionOf (p ∷ ps) mid = pick (ltb mid (p .length)) (position 0 mid) (behind 1 (positionOf ps (mid - p .length)))
+
+-- where a split at byte mid falls: the tail starts where the head ends
+abbrev pub splitAt : List Segment → ℕ → Split
+splitAt ps mid = record { head = positionOf ps mid; tail = positionOf ps mid }
 
 -- the segments before a position
 unfoldable pub headAt : List Segment → SplitPosition → List Segment

@@ -131,14 +131,6 @@ copies memory v n = isValid (length memory) v && eqb n (v .total)
 abbrev pub outcomeOf : Bool → Outcome
 outcomeOf t = pick t Done (Refused BadSegment)
 
--- whether a buffer of n bytes is long enough for v's: the first of its bytes become v's, the others stay
-unfoldable pub owns : List ℕ → IoVector → ℕ → Bool
-owns memory v n = isValid (length memory) v && leb (v .total) n
-
-unfoldable pub ownedOf : List ℕ → IoVector → List ℕ → List ℕ
-ownedOf memory v buffer =
-    pick (owns memory v (length buffer)) (bytesOf memory (segmentsOf v) ++ drop (v .total) buffer) buffer
-
 -- ---- which vectors share a byte (the test of 203)
 
 -- the segments share an index

@@ -6,7 +6,7 @@ ghost use mathlib.Core.Path.{_≡_};
 ghost use mathlib.Core.Bool.{true};
 ghost use lib.ListN.{length, replicate};
 ghost use Rattle.arithmetic.specs.Rounding.{pick};
-ghost use Rattle.vectors.specs.Vectors.{segmentsOf, isValid, bytesOf, scatterOf, fillOf, copies, owns, ownedOf, outcomeOf};
+ghost use Rattle.vectors.specs.Vectors.{segmentsOf, isValid, bytesOf, scatterOf, fillOf, copies, outcomeOf};
 
 // `part` becomes `source`: both have the same length.
 fn copy(part: &mut [u8], source: &[u8])
@@ -131,19 +131,11 @@ impl IoVector {
         Outcome::Done
     }
 
-    // The first bytes of `buffer`, which is at least as long as the vector, become its bytes. Refused where it is shorter.
+    // A copy in a lent `buffer`, as long as the vector: there is no allocation. Refused where it is of another length.
     pub fn try_into_owned(self, data: &[u8], buffer: &mut [u8]) -> Outcome
-        ensures outcome { λ r. ⌜ r ≡ outcomeOf (owns (now («data» .entry)) self (length (now (buffer .entry)))) ⌝ }
-        ensures bytes { λ _. ⌜ now (buffer .exit) ≡ ownedOf (now («data» .entry)) self (now (buffer .entry)) ⌝ }
+        ensures outcome { λ r. ⌜ r ≡ outcomeOf (copies (now («data» .entry)) self (length (now (buffer .entry)))) ⌝ }
+        ensures bytes { λ _. ⌜ now (buffer .exit) ≡ pick (copies (now («data» .entry)) self (length (now (buffer .entry)))) (bytesOf (now («data» .entry)) (segmentsOf self)) (now (buffer .entry)) ⌝ }
     {
-        if !self.valid(data.len()) {
-            return Outcome::Refused(Refusal::Segment);
-        }
-        if (buffer.len() as u64) < self.total {
-            return Outcome::Refused(Refusal::Segment);
-        }
-        let end = self.total as usize;
-        self.gather(data, &mut buffer[..end]);
-        Outcome::Done
+        self.copy_into_slice(data, buffer)
     }
 }

@@ -3,13 +3,14 @@ use crate::vector::Changed;
 use crate::vector::Halves;
 use crate::vector::IoVector;
 use crate::vector::Segment;
+use crate::vector::Split;
 use crate::vector::SplitPosition;
 use arithmetic::refusals::Outcome;
 use arithmetic::refusals::Refusal;
 ghost use mathlib.Core.Path.{_≡_};
 ghost use Prim.Native.Nat.{_≤_};
 ghost use Rattle.vectors.specs.Vectors.{vectorOf, segmentsOf, splitOf, splitTailOf};
-ghost use Rattle.vectors.specs.Positions.{Cut, positionOf, headAt, tailAt};
+ghost use Rattle.vectors.specs.Positions.{Cut, splitAt, headAt, tailAt};
 
 impl IoVector {
     // The first `mid` bytes, and the rest.
@@ -23,10 +24,10 @@ impl IoVector {
                 outcome: Outcome::Refused(Refusal::Segment),
             };
         }
-        let position = self.do_split_at(mid);
+        let split = self.do_split_at(mid);
         Halves {
-            head: self.head_to(position),
-            tail: self.tail_from(position),
+            head: self.head_to(split.head),
+            tail: self.tail_from(split.tail),
             outcome: Outcome::Done,
         }
     }
@@ -38,39 +39,51 @@ impl IoVector {
         if !self.valid(data_len) {
             return self.refused();
         }
-        let position = self.do_split_at(mid);
+        let split = self.do_split_at(mid);
         Changed {
-            vector: self.tail_from(position),
+            vector: self.tail_from(split.tail),
             outcome: Outcome::Done,
         }
     }
 
-    // Where byte `mid` lies; at or past the total, behind the last segment.
-    fn do_split_at(self, mid: u64) -> SplitPosition
+    // Where the head of the first `mid` bytes ends and the tail starts; at or past the total, behind the last segment.
+    fn do_split_at(self, mid: u64) -> Split
         requires { ⌜ self .count ≤ 16 ⌝ }
-        ensures { λ r. ⌜ r ≡ positionOf (segmentsOf self) mid ⌝ }
+        ensures { λ r. ⌜ r ≡ splitAt (segmentsOf self) mid ⌝ }
     {
         let n = self.count;
         let mut i = 0usize;
         let mut rest = mid;
-        let position = loop {
+        let split = loop {
             if n <= i {
-                break SplitPosition {
-                    index: n,
-                    inside: 0,
+                break Split {
+                    head: SplitPosition {
+                        index: n,
+                        inside: 0,
+                    },
+                    tail: SplitPosition {
+                        index: n,
+                        inside: 0,
+                    },
                 };
             }
             let p = self.segments[i];
             if rest < p.length as u64 {
-                break SplitPosition {
-                    index: i,
-                    inside: rest as usize,
+                break Split {
+                    head: SplitPosition {
+                        index: i,
+                        inside: rest as usize,
+                    },
+                    tail: SplitPosition {
+                        index: i,
+                        inside: rest as usize,
+                    },
                 };
             }
             rest -= p.length as u64;
             i += 1;
         };
-        position
+        split
     }
 
     // The segments before the position: of the one it lies in, the first part.

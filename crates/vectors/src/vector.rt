@@ -35,10 +35,16 @@ pub struct Halves {
     pub outcome: Outcome,
 }
 
-// Where a split falls: `inside` bytes into segment `index`.
+// A place between two bytes of a vector: `inside` bytes into segment `index`.
 pub struct SplitPosition {
     pub index: usize,
     pub inside: usize,
+}
+
+// Where a split falls: where the head ends, and where the tail starts.
+pub struct Split {
+    pub head: SplitPosition,
+    pub tail: SplitPosition,
 }
 
 // Whether a vector's segments lie as direct requests need them.

@@ -3,7 +3,8 @@
 use std::error::Error;
 use std::fmt;
 
-/// Why a call was refused. A refused call has changed nothing.
+/// Why a call was refused. A refused call has changed nothing. From 211 on they are those of document 02's requests: no
+/// call of this crate answers with one of them yet.
 #[derive(Clone, Copy, Debug, PartialEq, Eq, Hash)]
 pub enum Refusal {
     /// 201: alignment, bounce buffer length or drive row unfit.
@@ -26,11 +27,31 @@ pub enum Refusal {
     NoAnswer,
     /// 210: planner: offset or length no multiple of the request alignment.
     Unaligned,
+    /// 211: drive table: a record cut, too short or of another length, a 65th row or none.
+    Table,
+    /// 212: drive table: a row past the limits of an alignment.
+    Row,
+    /// 213: recorded write: the part for the old bytes too short, or outside the data.
+    Saved,
+    /// 214: taking back: no write is remembered, or a later request reached its bytes.
+    Undo,
+    /// 215: reservation: empty, none in the slot, of another length, or still waiting.
+    Reservation,
+    /// 216: map of touched blocks: none, its block size unfit, or a request past its blocks.
+    Map,
+    /// 217: not in a window that may be changed; at opening: windows overlap, wrap or are over four.
+    Window,
+    /// 218: script: a record cut, unknown, of an unknown user, or of one whose job still runs.
+    Script,
+    /// 219: joined writes: the output is shorter than their bytes.
+    Output,
+    /// 220: joined writes: over 64, or one empty, wrapping or outside the data.
+    Sheet,
 }
 
 impl Refusal {
     /// All of them, in the order of their numbers.
-    pub const ALL: [Refusal; 10] = [
+    pub const ALL: [Refusal; 20] = [
         Refusal::Unfit,
         Refusal::Segment,
         Refusal::Overlap,
@@ -41,9 +62,19 @@ impl Refusal {
         Refusal::Slot,
         Refusal::NoAnswer,
         Refusal::Unaligned,
+        Refusal::Table,
+        Refusal::Row,
+        Refusal::Saved,
+        Refusal::Undo,
+        Refusal::Reservation,
+        Refusal::Map,
+        Refusal::Window,
+        Refusal::Script,
+        Refusal::Output,
+        Refusal::Sheet,
     ];
 
-    /// Document 01's number for it.
+    /// Its number: document 01's to 210, document 02's from 211.
     pub fn number(self) -> u8 {
         match self {
             Refusal::Unfit => 201,
@@ -56,6 +87,16 @@ impl Refusal {
             Refusal::Slot => 208,
             Refusal::NoAnswer => 209,
             Refusal::Unaligned => 210,
+            Refusal::Table => 211,
+            Refusal::Row => 212,
+            Refusal::Saved => 213,
+            Refusal::Undo => 214,
+            Refusal::Reservation => 215,
+            Refusal::Map => 216,
+            Refusal::Window => 217,
+            Refusal::Script => 218,
+            Refusal::Output => 219,
+            Refusal::Sheet => 220,
         }
     }
 
@@ -67,7 +108,7 @@ impl Refusal {
     /// The refusal that the library answered: by its contract always one.
     pub(crate) fn answered(number: u64) -> Refusal {
         let named = u8::try_from(number).ok().and_then(Refusal::of);
-        named.unwrap_or_else(|| panic!("the library answered {number}, which document 01 does not have"))
+        named.unwrap_or_else(|| panic!("the library answered {number}, which no document has"))
     }
 }
 
@@ -84,6 +125,16 @@ impl fmt::Display for Refusal {
             Refusal::Slot => "no such slot, or nothing there that the call can act on",
             Refusal::NoAnswer => "told a code that is no answer",
             Refusal::Unaligned => "offset or length no multiple of the request alignment",
+            Refusal::Table => "a record of the drive table is cut or of an unfit length, or it has no row or over 64",
+            Refusal::Row => "a row of the drive table breaks an alignment limit",
+            Refusal::Saved => "the part for the old bytes is shorter than the edit, or outside the data",
+            Refusal::Undo => "no write to take back, or a later request reached its bytes",
+            Refusal::Reservation => "reservation empty, of another length, still waiting, or none in the slot",
+            Refusal::Map => "no map of touched blocks, its block size unfit, or a request past its blocks",
+            Refusal::Window => "not in a window that may be changed, or windows overlap, wrap or are over four",
+            Refusal::Script => "a record of the script is cut or unknown, or its user is unknown or still has a job",
+            Refusal::Output => "output shorter than the joined bytes",
+            Refusal::Sheet => "over 64 writes to join, or one empty, wrapping or outside the data",
         };
         write!(f, "refused with {}: {why}", self.number())
     }
@@ -96,15 +147,15 @@ mod tests {
     use super::Refusal;
 
     #[test]
-    fn numbers_are_201_to_210() {
+    fn numbers_are_201_to_220() {
         let numbers: Vec<u8> = Refusal::ALL.into_iter().map(Refusal::number).collect();
-        assert_eq!(numbers, (201..=210).collect::<Vec<u8>>());
+        assert_eq!(numbers, (201..=220).collect::<Vec<u8>>());
     }
 
     #[test]
     fn a_number_names_its_refusal_and_no_other_names_one() {
         for number in 0..=255 {
-            assert_eq!(Refusal::of(number).map(Refusal::number), (201..=210).contains(&number).then_some(number));
+            assert_eq!(Refusal::of(number).map(Refusal::number), (201..=220).contains(&number).then_some(number));
         }
     }
 }

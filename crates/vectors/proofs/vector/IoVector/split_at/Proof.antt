@@ -1,10 +1,12 @@
--- `vectors::vector::IoVector::split_at` meets its contract: the parts around the position are head and tail of the split. Assumes nothing.
-use mathlib.Core.Path.{_≡_, sym, _∙_}
+-- `vectors::vector::IoVector::split_at` meets its contract: what lies before the head's end and behind the tail's start is head and tail of the split. Assumes nothing.
+use mathlib.Core.Path.{_≡_, sym, ap, _∙_}
 use mathlib.Core.Bool.{true}
 use lib.ListN.{length}
 use borrow.Author.Tests.{not-true, not-false}
-use Rattle.vectors.specs.Vectors.{isValid}
-use Rattle.vectors.specs.Positions.{Cut}
+use Rattle.vectors.specs.declared.vector.SplitPosition.{SplitPosition}
+use Rattle.vectors.specs.declared.vector.Split.{Split}
+use Rattle.vectors.specs.Vectors.{segmentsOf, isValid}
+use Rattle.vectors.specs.Positions.{positionOf, Cut}
 use Rattle.vectors.specs.SegmentLaws.{valid}
 use Rattle.vectors.proofs.Pass.{array-long}
 use Rattle.vectors.proofs.Splitting.{cut-of, split-refused, split-done}
@@ -16,11 +18,19 @@ use Rattle.vectors.proofs.vector.IoVector.split_at.Tie as tie
 valid-of : (c : tie.Else1) → isValid (c .before .before .args .data-len) (c .before .before .args .self) ≡ true
 valid-of c = sym (c .before .valid .ensures) ∙ not-false _ (c .if1 .left)
 
--- and the position is a split of it
-cut : (c : tie.After-do-split-at) → Cut (c .before .before .before .args .self) (c .do-split-at .result)
-cut c =
+-- where the head ends, and where the tail starts
+head-is : (c : tie.After-do-split-at) → c .do-split-at .result .head ≡ positionOf (segmentsOf (c .before .before .before .args .self)) (c .before .before .before .args .mid)
+head-is c = ap (λ (s : Split). s .head) (c .do-split-at .ensures)
+
+tail-is : (c : tie.After-do-split-at) → c .do-split-at .result .tail ≡ positionOf (segmentsOf (c .before .before .before .args .self)) (c .before .before .before .args .mid)
+tail-is c = ap (λ (s : Split). s .tail) (c .do-split-at .ensures)
+
+-- each is a split of the vector
+cut : (c : tie.After-do-split-at) (p : SplitPosition) → p ≡ positionOf (segmentsOf (c .before .before .before .args .self)) (c .before .before .before .args .mid)
+    → Cut (c .before .before .before .args .self) p
+cut c p e =
     let w : length (c .before .before .before .args .self .segments) ≡ 16 = search (needs, array-long) in
-    cut-of _ _ _ _ w (search needs) (valid _ _ (valid-of (c .before))) (c .do-split-at .ensures)
+    cut-of _ _ _ _ w (search needs) (valid _ _ (valid-of (c .before))) e
 
 valid-requires : tie.Need-valid-requires
 valid-requires c κs = search needs
@@ -35,13 +45,13 @@ do-split-at-requires : tie.Need-do-split-at-requires
 do-split-at-requires c κs = valid _ _ (valid-of c) .few
 
 head-to-requires : tie.Need-head-to-requires
-head-to-requires c κs = cut c
+head-to-requires c κs = cut c _ (head-is c)
 
 tail-from-requires : tie.Need-tail-from-requires
-tail-from-requires c κs = cut (c .before)
+tail-from-requires c κs = cut (c .before) _ (tail-is (c .before))
 
 returns-2 : tie.Need-returns-2
-returns-2 c = split-done _ _ (c .before .before .before .before .before .args .mid) _ _ _ (valid-of (c .before .before .before)) (c .before .before .do-split-at .ensures) (c .before .head-to .ensures) (c .tail-from .ensures)
+returns-2 c = split-done _ _ (c .before .before .before .before .before .args .mid) _ _ _ _ (valid-of (c .before .before .before)) (head-is (c .before .before)) (tail-is (c .before .before)) (c .before .head-to .ensures) (c .tail-from .ensures)
 
 pub split-at-spec : {M : Type 1} → statement M
 split-at-spec =
