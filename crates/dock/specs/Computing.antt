@@ -11,7 +11,8 @@ use Rattle.vectors.specs.Vectors.{copies, shares, overlapOf, selfOverlapOf, all
 use Rattle.blockers.specs.Blockers.{overlaps, conflict, notes, notesOf, noBlockers, enteredOf, forgetting, leftOf, waitsOf}
 use Rattle.stages.specs.Stages.{directStage, paddedStage, firstPhase, readPlan, writePlan, zeroesPlan, zeroPlan, discardPlan}
 use Rattle.stages.specs.Stages.{chunkNext, tailNext, headNext, toldOf, requestOf, liesIn as liesInBounce, isSound}
-use Rattle.dock.specs.Dock.{vacant, fresh, openOf, openProfileOf, lentFits, lentOf, isOutBy, isOut, meetsOf, meetsAt, overlapsOf, firstFree}
+use Rattle.dock.specs.Dock.{vacant, fresh, openOf, openProfileOf, lentFits, lentOf, isOutBy, isOut}
+use Rattle.dock.specs.Dock.{meetsOf, meetsAt, overlapsOf, firstFree}
 use Rattle.dock.specs.Begin.{sourceOf, sourceFits, mergedAt, filled, blockersWith, placedAt}
 use Rattle.dock.specs.Begin.{beginReadOf, beginWriteOf, beginZeroesOf, beginDiscardOf, beginOf}
 use Rattle.dock.specs.Next.{nextOf, isKeptBy, isKept, pieceOf, partOf}

@@ -1,5 +1,5 @@
--- Lists of events in which every call is lent the buffers as they are, or a begin buffers that do not fit: each such list is lawful where its tells
--- hand in the codes of their carries. Assumes nothing.
+-- Lists of events in which every call is lent the buffers as they are, or a begin buffers that do not fit: each such list is lawful where
+-- its tells hand in the codes of their carries. Assumes nothing.
 use mathlib.Core.Path.{_≡_, refl, sym, ap, _∙_}
 use mathlib.Core.Bool.{Bool, true, false, _&&_, not, false≢true}
 use mathlib.Core.List.{List, [], _∷_, _++_}
@@ -15,7 +15,8 @@ use Rattle.dock.specs.Tell.{tellOf}
 use Rattle.dock.specs.Computing.{computing}
 use Rattle.histories.specs.Store.{Choice, changed, window, piecesFrom, gathered, landed}
 use Rattle.histories.specs.PlainStore.{Plain, carriedOut, plainStep}
-use Rattle.histories.specs.Histories.{Lends, Event, begins, carries, tells, collects, World, fitsLent, step, fed, LentOf, CodeOf, HandsIn, Allowed, Lawful}
+use Rattle.histories.specs.Histories.{Lends, Event, begins, carries, tells, collects, World, fitsLent, step, fed, LentOf, CodeOf}
+use Rattle.histories.specs.Histories.{HandsIn, Allowed, Lawful}
 
 -- an event without its buffers: they are lent as they are, but to a begin that names others
 pub data Act : Type 0 where

@@ -19,22 +19,28 @@ use Rattle.arithmetic.specs.declared.settings.Buffers.{Buffers}
 use Rattle.vectors.specs.Vectors.{isValid, copies, vectorOf, alignmentOf}
 use Rattle.vectors.specs.declared.vector.IoVector.{IoVector}
 use Rattle.blockers.specs.Blockers.{isEntered, blockerAt}
-use Rattle.stages.specs.Stages.{sizeOf, isFree, hasEnded, isPending, isBlocking, isSound, asked, readPlan, writePlan, zeroJob, zeroPlan, discardPlan, toldOf}
-use Rattle.stages.specs.Laws.{Placed, Opens, Starts, read-opens, write-opens, zero-opens, discard-opens, Continues, Finishes, told-stays, told-ends, told-enters}
+use Rattle.stages.specs.Stages.{sizeOf, isFree, hasEnded, isPending, isBlocking, isSound, asked, readPlan, writePlan, zeroJob, zeroPlan}
+use Rattle.stages.specs.Stages.{discardPlan, toldOf}
+use Rattle.stages.specs.Laws.{Placed, Opens, Starts, read-opens, write-opens, zero-opens, discard-opens, Continues, Finishes, told-stays}
+use Rattle.stages.specs.Laws.{told-ends, told-enters}
 use Rattle.stages.specs.declared.state.Job.{Job}
 use Rattle.stages.specs.declared.state.Job.the-variants.{Read, Write, Zeroes, AllocatedZeroes, Discard}
 use Rattle.stages.specs.declared.state.Phase.{Phase}
-use Rattle.stages.specs.declared.state.Phase.the-variants.{Free, Ended, DirectRead, BouncedRead, FirstRead, SecondRead, BouncedWrite, DirectWrite, ZeroRequest, DiscardRequest}
+use Rattle.stages.specs.declared.state.Phase.the-variants.{Free, Ended, DirectRead, BouncedRead, FirstRead, SecondRead, BouncedWrite}
+use Rattle.stages.specs.declared.state.Phase.the-variants.{DirectWrite, ZeroRequest, DiscardRequest}
 use Rattle.stages.specs.declared.state.State.{State}
 use Rattle.stages.specs.declared.plan.Plan.{Plan}
 use Rattle.stages.specs.declared.plan.Plan.the-variants.{Done as NothingToDo, Started, Refused as PlanRefused}
 use Rattle.stages.specs.declared.told.Step.{Step}
 use Rattle.stages.specs.declared.told.Step.the-variants.{Stays, Ends, Enters}
 use Rattle.dock.specs.Dock.{noState, noVector, vacant, stateAt, vectorAt, shareAt, isReadJob, overlapsOf, firstFree}
-use Rattle.dock.specs.Begin.{isWriteJob, isBouncedWrite, sourceFits, mergedAt, filled, blockersWith, withJob, Begins, placed, placedAt, refusedBegin, begunBy, isAligned, movedOf, planOf}
-use Rattle.dock.specs.Tell.{blockersWithout, copiedAt, isBouncedRead, handed, stayed, ended, entered, staysOf, endsOf, entersOf, stepped, after}
+use Rattle.dock.specs.Begin.{isWriteJob, isBouncedWrite, sourceFits, mergedAt, filled, blockersWith, withJob, Begins, placed, placedAt}
+use Rattle.dock.specs.Begin.{refusedBegin, begunBy, isAligned, movedOf, planOf}
+use Rattle.dock.specs.Tell.{blockersWithout, copiedAt, isBouncedRead, handed, stayed, ended, entered, staysOf, endsOf, entersOf, stepped}
+use Rattle.dock.specs.Tell.{after}
 use Rattle.dock.specs.declared.dock.Dock.{Dock}
-use Rattle.histories.specs.Courses.{isZeroJob, hasVector, isLast, isRegular, suited, never, Sole, read-regular, write-regular, zero-regular, discard-regular, Goes, stays-regular, enters-regular}
+use Rattle.histories.specs.Courses.{isZeroJob, hasVector, isLast, isRegular, suited, never, Sole, read-regular, write-regular}
+use Rattle.histories.specs.Courses.{zero-regular, discard-regular, Goes, stays-regular, enters-regular}
 use Rattle.histories.specs.Held.{SlotOf, Held}
 use Rattle.histories.specs.Keeping.{Changes, none-changes, enter-changes, leave-changes, stay-changes, slot-anew, none-held}
 
@@ -138,7 +144,8 @@ pub copied : (memory : List ℕ) (v : IoVector) (n : ℕ) → isValid (length me
 unfolding copies
 copied memory v n e t = simp (e, eq-eqb n (v .total) (sym t))
 
-pub filled-done : (share : ℕ) (x : State) (v : IoVector) (memory scratch : List ℕ) → (isWriteJob (x .job) ≡ true → copies memory v (sizeOf (x .stage .asked)) ≡ true)
+pub filled-done : (share : ℕ) (x : State) (v : IoVector) (memory scratch : List ℕ)
+    → (isWriteJob (x .job) ≡ true → copies memory v (sizeOf (x .stage .asked)) ≡ true)
     → filled share x v memory scratch .outcome ≡ Done
 unfolding filled mergedAt sourceFits
 filled-done share x v memory scratch f = go (isBouncedWrite (x .phase)) (isWriteJob (x .job)) refl f
@@ -147,18 +154,21 @@ filled-done share x v memory scratch f = go (isBouncedWrite (x .phase)) (isWrite
     n = sizeOf (x .stage .asked)
 
     go : (t w : Bool) → isWriteJob (x .job) ≡ w → (w ≡ true → copies memory v n ≡ true)
-        → pick t (mergedAt (share + x .stage .head .0) n (x .job) v memory scratch) (record { scratch = scratch; outcome = Done }) .outcome ≡ Done
+        → pick t (mergedAt (share + x .stage .head .0) n (x .job) v memory scratch) (record { scratch = scratch; outcome = Done }) .outcome
+        ≡ Done
     go true true e g = simp (e, g refl)
     go true false e g = simp e
     go false w e g = refl
 
-pub handed-done : (share : ℕ) (x : State) (code : ℕ) (v : IoVector) (memory scratch : List ℕ) → (isBouncedRead (x .phase) ≡ true → copies memory v (sizeOf (x .stage .asked)) ≡ true)
+pub handed-done : (share : ℕ) (x : State) (code : ℕ) (v : IoVector) (memory scratch : List ℕ)
+    → (isBouncedRead (x .phase) ≡ true → copies memory v (sizeOf (x .stage .asked)) ≡ true)
     → handed share x code v memory scratch .outcome ≡ Done
 unfolding handed copiedAt
 handed-done share x code v memory scratch f = go (isBouncedRead (x .phase)) (eqb code 0) f
   where
     go : (t c : Bool) → (t ≡ true → copies memory v (sizeOf (x .stage .asked)) ≡ true)
-        → pick (t && c) (copiedAt (share + x .stage .head .0) (sizeOf (x .stage .asked)) v memory scratch) (record { memory = memory; outcome = Done }) .outcome ≡ Done
+        → pick (t && c) (copiedAt (share + x .stage .head .0) (sizeOf (x .stage .asked)) v memory scratch)
+        (record { memory = memory; outcome = Done }) .outcome ≡ Done
     go true true g = simp (g refl)
     go true false g = refl
     go false c g = refl
@@ -191,27 +201,37 @@ module _ (s : Settings) (m : ℕ) (o : StoreOffset) where
 
   module _ (v : IoVector) (e : isValid m v ≡ true) (t : Bool) where
     pub read-ready : Starts (Ready s m v) (readPlan s o (v .total) t)
-    read-ready = starts-from (Ready s m v) (readPlan s o (v .total) t) (λ x i. vector-ready Read v x e (read-opens s o (v .total) t x i) (rw i at (read-regular s o (v .total) t)))
+    read-ready =
+        starts-from (Ready s m v) (readPlan s o (v .total) t)
+        (λ x i. vector-ready Read v x e (read-opens s o (v .total) t x i) (rw i at (read-regular s o (v .total) t)))
 
     pub write-ready : Starts (Ready s m v) (writePlan s o (v .total) t)
-    write-ready = starts-from (Ready s m v) (writePlan s o (v .total) t) (λ x i. vector-ready Write v x e (write-opens s o (v .total) t x i) (rw i at (write-regular s o (v .total) t)))
+    write-ready =
+        starts-from (Ready s m v) (writePlan s o (v .total) t)
+        (λ x i. vector-ready Write v x e (write-opens s o (v .total) t x i) (rw i at (write-regular s o (v .total) t)))
 
   -- a job without one
   bare-ready : (j : Job) (w : Range) (v : IoVector) (x : State) → hasVector j ≡ false → Opens s j w x → isRegular x ≡ true → Ready s m v x
-  bare-ready j w v x n k l = record { sound = k .sound; pending = k .pending; placed = k .placed; regular = l; vector = λ u. never (sym n ∙ (rw (k .job) at u)) }
+  bare-ready j w v x n k l =
+      record { sound = k .sound; pending = k .pending; placed = k .placed; regular = l; vector = λ u. never (sym n ∙ (rw (k .job) at u)) }
 
   zero-bare : (t : Bool) → hasVector (zeroJob t) ≡ false
   zero-bare true = refl
   zero-bare false = refl
 
   pub zero-ready : (v : IoVector) (t : Bool) (n : ℕ) → Starts (Ready s m v) (zeroPlan s t o n)
-  zero-ready v t n = starts-from (Ready s m v) (zeroPlan s t o n) (λ x i. bare-ready (zeroJob t) (asked o n) v x (zero-bare t) (zero-opens s o n t x i) (rw i at (zero-regular s o n t)))
+  zero-ready v t n =
+      starts-from (Ready s m v) (zeroPlan s t o n)
+      (λ x i. bare-ready (zeroJob t) (asked o n) v x (zero-bare t) (zero-opens s o n t x i) (rw i at (zero-regular s o n t)))
 
   pub discard-ready : (v : IoVector) (n : ℕ) → Starts (Ready s m v) (discardPlan s o n)
-  discard-ready v n = starts-from (Ready s m v) (discardPlan s o n) (λ x i. bare-ready Discard (asked o n) v x refl (discard-opens s o n x i) (rw i at (discard-regular s o n)))
+  discard-ready v n =
+      starts-from (Ready s m v) (discardPlan s o n)
+      (λ x i. bare-ready Discard (asked o n) v x refl (discard-opens s o n x i) (rw i at (discard-regular s o n)))
 
   -- every plan
-  pub planned-ready : (b : Buffers) (j : Job) (n : ℕ) (v : IoVector) → isValid m (movedOf j v) ≡ true → Starts (Ready s m (movedOf j v)) (planOf j s b o n v)
+  pub planned-ready : (b : Buffers) (j : Job) (n : ℕ) (v : IoVector) → isValid m (movedOf j v) ≡ true
+      → Starts (Ready s m (movedOf j v)) (planOf j s b o n v)
   planned-ready b Read n v e = read-ready v e (isAligned (alignmentOf (s .align) (b .«data») v))
   planned-ready b Write n v e = write-ready v e (isAligned (alignmentOf (s .align) (b .«data») v))
   planned-ready b Zeroes n v e = zero-ready (vectorOf []) false n
@@ -249,7 +269,9 @@ module _ (d : Dock) (H : Held d) where
       enters = enter-changes (d .blockers) p x (H .rank) (H .clock) (H .blockers) h free-there
 
       fills : filled (shareAt d p) x v memory scratch .outcome ≡ Done
-      fills = filled-done (shareAt d p) x v memory scratch (λ u. let k = r .vector (write-vector (x .job) u) in copied memory v (sizeOf (x .stage .asked)) (rw l (k .1)) (rw (k .0) (k .2)))
+      fills =
+          filled-done (shareAt d p) x v memory scratch
+          (λ u. let k = r .vector (write-vector (x .job) u) in copied memory v (sizeOf (x .stage .asked)) (rw l (k .1)) (rw (k .0) (k .2)))
 
       -- the begin is not refused at the slot
       pub place-done : placedAt d p x v memory scratch ≡ placed d p x v memory scratch
@@ -277,7 +299,8 @@ module _ (d : Dock) (H : Held d) where
     begun-held j (Started x) k = go (overlapsOf (d .states) (d .vectors) j v) (ltb (firstFree (d .states)) 8) refl
       where
         go : (t u : Bool) → ltb (firstFree (d .states)) 8 ≡ u
-            → Held (pick t (refusedBegin d scratch Overlap) (pick u (placedAt d (firstFree (d .states)) x v memory scratch) (refusedBegin d scratch Full)) .dock)
+            → Held (pick t (refusedBegin d scratch Overlap)
+            (pick u (placedAt d (firstFree (d .states)) x v memory scratch) (refusedBegin d scratch Full)) .dock)
         go true u e = H
         go false true e = let h = ltb-true _ _ e in subst (λ (z : Begins). Held (z .dock)) (sym (place-done x k h)) (place-held x k h)
         go false false e = H
@@ -285,7 +308,8 @@ module _ (d : Dock) (H : Held d) where
 -- ---- tell
 
 -- the job x in slot p has a request out, and is told a code
-module _ (d : Dock) (H : Held d) (p : ℕ) (h : p < 8) (pending : isPending (stateAt d p .phase) ≡ true) (code : ℕ) (memory scratch : List ℕ) (l : length memory ≡ d .buffers .«data» .length) where
+module _ (d : Dock) (H : Held d) (p : ℕ) (h : p < 8) (pending : isPending (stateAt d p .phase) ≡ true) (code : ℕ) (memory scratch : List ℕ)
+    (l : length memory ≡ d .buffers .«data» .length) where
   abbrev x : State
   x = stateAt d p
 
@@ -297,7 +321,8 @@ module _ (d : Dock) (H : Held d) (p : ℕ) (h : p < 8) (pending : isPending (sta
 
   -- its vector has the bytes of its stage
   has-bytes : hasVector (x .job) ≡ true → copies memory (vectorAt d p) (sizeOf (x .stage .asked)) ≡ true
-  has-bytes u = let k = S .vector taken u in copied memory (vectorAt d p) (sizeOf (x .stage .asked)) (rw l (k .0)) (rw (S .sole taken u) (k .1))
+  has-bytes u =
+      let k = S .vector taken u in copied memory (vectorAt d p) (sizeOf (x .stage .asked)) (rw l (k .0)) (rw (S .sole taken u) (k .1))
 
   module _ (y : State) (e : toldOf (d .settings) x code ≡ Stays y) where
     C : Continues (d .settings .bounce) x y
@@ -307,14 +332,18 @@ module _ (d : Dock) (H : Held d) (p : ℕ) (h : p < 8) (pending : isPending (sta
     G = stays-regular (d .settings) x (S .regular) code y e
 
     stays-fills : filled (shareAt d p) y (vectorAt d p) memory scratch .outcome ≡ Done
-    stays-fills = filled-done (shareAt d p) y (vectorAt d p) memory scratch (λ u. rw (C .stage) (has-bytes (write-vector (x .job) (rw (C .job) at u))))
+    stays-fills =
+        filled-done (shareAt d p) y (vectorAt d p) memory scratch
+        (λ u. rw (C .stage) (has-bytes (write-vector (x .job) (rw (C .job) at u))))
 
     stays-done : staysOf d p y memory scratch ≡ stayed d p y memory scratch
     unfolding staysOf
     stays-done = simp stays-fills
 
     kept : Changes (d .blockers) p y (record { blockers = d .blockers; outcome = Done })
-    kept = stay-changes (d .blockers) p y (H .rank) (H .clock) (H .blockers) h x (C .stage) (G .after ∙ sym (G .before)) (S .entered) (S .blocker)
+    kept =
+        stay-changes (d .blockers) p y (H .rank) (H .clock) (H .blockers) h x (C .stage) (G .after ∙ sym (G .before)) (S .entered)
+        (S .blocker)
 
     stays-held : Held (stayed d p y memory scratch .dock)
     stays-held =
@@ -337,7 +366,9 @@ module _ (d : Dock) (H : Held d) (p : ℕ) (h : p < 8) (pending : isPending (sta
     leaves = leave-changes (d .blockers) p y (H .rank) (H .clock) (H .blockers) h x (S .entered) (ap isBlocking (F .phase))
 
     hands-out : handed (shareAt d p) x code (vectorAt d p) memory scratch .outcome ≡ Done
-    hands-out = handed-done (shareAt d p) x code (vectorAt d p) memory scratch (λ u. has-bytes (read-vector (x .job) (bounced-reads (x .phase) x refl (S .regular) u)))
+    hands-out =
+        handed-done (shareAt d p) x code (vectorAt d p) memory scratch
+        (λ u. has-bytes (read-vector (x .job) (bounced-reads (x .phase) x refl (S .regular) u)))
 
     ends-done : endsOf d p x code y memory scratch ≡ ended d p x code y memory scratch
     unfolding endsOf
@@ -410,7 +441,8 @@ module _ (d : Dock) (H : Held d) (p : ℕ) (h : p < 8) (pending : isPending (sta
   step-done (Ends y) e = ends-done y e
   step-done (Enters y) e = enters-done y e
 
-  pub told-done : stepped d p x code memory scratch (toldOf (d .settings) x code) ≡ after d p x code memory scratch (toldOf (d .settings) x code)
+  pub told-done : stepped d p x code memory scratch (toldOf (d .settings) x code)
+      ≡ after d p x code memory scratch (toldOf (d .settings) x code)
   told-done = step-done (toldOf (d .settings) x code) refl
 
   step-held : (t : Step) → toldOf (d .settings) x code ≡ t → Held (after d p x code memory scratch t .dock)
@@ -423,7 +455,8 @@ module _ (d : Dock) (H : Held d) (p : ℕ) (h : p < 8) (pending : isPending (sta
 
 -- ---- collect
 
-pub freed-held : (d : Dock) → Held d → (p : ℕ) → p < 8 → hasEnded (stateAt d p .phase) ≡ true → Held (withJob d p (d .blockers) vacant (vectorOf []))
+pub freed-held : (d : Dock) → Held d → (p : ℕ) → p < 8 → hasEnded (stateAt d p .phase) ≡ true
+    → Held (withJob d p (d .blockers) vacant (vectorOf []))
 unfolding vacant
 freed-held d H p h e =
     let n = H .slots p h .entered ∙ ended-unblocked (stateAt d p .phase) e in

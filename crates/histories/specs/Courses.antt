@@ -1,4 +1,5 @@
--- Which phase, course and job go together, and that a phase which reads has something to read: every plan starts so, every told code keeps it. Assumes nothing.
+-- Which phase, course and job go together, and that a phase which reads has something to read: every plan starts so, every told code keeps
+-- it. Assumes nothing.
 use mathlib.Core.Path.{_≡_, refl, ap}
 use mathlib.Core.Bool.{Bool, true, false, _&&_, _||_, false≢true}
 use Prim.Native.Nat.{ℕ}
@@ -17,15 +18,19 @@ use Rattle.arithmetic.specs.declared.padding.Transfer.the-variants.{Direct, Bou
 use Rattle.arithmetic.specs.declared.zeroes.ZeroCut.{ZeroCut}
 use Rattle.arithmetic.specs.declared.zeroes.ZeroCut.the-variants.{Nothing as NoCut, Whole, Split, Refused as CutRefused}
 use Rattle.arithmetic.specs.declared.zeroes.DiscardCut.{DiscardCut}
-use Rattle.arithmetic.specs.declared.zeroes.DiscardCut.the-variants.{Nothing as NoDiscard, Middle as DiscardMiddle, Refused as DiscardRefused}
+use Rattle.arithmetic.specs.declared.zeroes.DiscardCut.the-variants.{Nothing as NoDiscard, Middle as DiscardMiddle}
+use Rattle.arithmetic.specs.declared.zeroes.DiscardCut.the-variants.{Refused as DiscardRefused}
 use Rattle.arithmetic.specs.declared.zeroes.Chunk.{Chunk}
 use Rattle.arithmetic.specs.declared.zeroes.Chunk.the-variants.{Nothing as NoChunk, Next, Refused as ChunkRefused}
-use Rattle.stages.specs.Stages.{sizeOf, directStage, paddedStage, firstPhase, asked, vectorBy, readPlan, writePlan, zeroesBy, zeroesPlan, zeroJob, zeroBy, zeroPlan, discardBy, discardPlan, endedWith, laterStage, zeroesNext, chunkBy, chunkNext, tailNext, headNext, stageDone, doneNext, unsupportedNext, toldOf, isBlocking}
+use Rattle.stages.specs.Stages.{sizeOf, directStage, paddedStage, firstPhase, asked, vectorBy, readPlan, writePlan, zeroesBy, zeroesPlan}
+use Rattle.stages.specs.Stages.{zeroJob, zeroBy, zeroPlan, discardBy, discardPlan, endedWith, laterStage, zeroesNext, chunkBy, chunkNext}
+use Rattle.stages.specs.Stages.{tailNext, headNext, stageDone, doneNext, unsupportedNext, toldOf, isBlocking}
 use Rattle.stages.specs.Laws.{Starts, starts-within, starts-some}
 use Rattle.stages.specs.declared.state.Job.{Job}
 use Rattle.stages.specs.declared.state.Job.the-variants.{Read, Write, Zeroes, AllocatedZeroes, Discard}
 use Rattle.stages.specs.declared.state.Phase.{Phase}
-use Rattle.stages.specs.declared.state.Phase.the-variants.{Free, Ended, DirectRead, BouncedRead, FirstRead, SecondRead, BouncedWrite, DirectWrite, ZeroRequest, DiscardRequest}
+use Rattle.stages.specs.declared.state.Phase.the-variants.{Free, Ended, DirectRead, BouncedRead, FirstRead, SecondRead, BouncedWrite}
+use Rattle.stages.specs.declared.state.Phase.the-variants.{DirectWrite, ZeroRequest, DiscardRequest}
 use Rattle.stages.specs.declared.state.Course.{Course}
 use Rattle.stages.specs.declared.state.Course.the-variants.{Last, Middle, Head, Chunks}
 use Rattle.stages.specs.declared.state.Stage.{Stage}
@@ -118,7 +123,8 @@ first-regular : (j : Job) (c : Course) (g : Stage) → puts c j ≡ true → reg
 unfolding firstPhase
 first-regular j c g h = go (ltb 0 (sizeOf (g .first))) (ltb 0 (sizeOf (g .second))) refl refl
   where
-    go : (x y : Bool) → ltb 0 (sizeOf (g .first)) ≡ x → ltb 0 (sizeOf (g .second)) ≡ y → regular (pick x FirstRead (pick y SecondRead BouncedWrite)) c j g ≡ true
+    go : (x y : Bool) → ltb 0 (sizeOf (g .first)) ≡ x → ltb 0 (sizeOf (g .second)) ≡ y
+        → regular (pick x FirstRead (pick y SecondRead BouncedWrite)) c j g ≡ true
     go true y e f = simp (h, e)
     go false true e f = simp (h, f)
     go false false e f = simp h
@@ -144,7 +150,8 @@ module _ (s : Settings) (o : StoreOffset) (n : ℕ) where
   write-by : (t : Transfer) → Starts Sole (vectorBy s Write DirectWrite o n t)
   unfolding isRegular directStage paddedStage
   write-by (Direct r) = (refl, refl)
-  write-by (Bounced x) = starts-within Sole (x .length) (s .bounce) _ (λ h. (first-regular Write Last (paddedStage x (asked o n)) refl, refl))
+  write-by (Bounced x) =
+      starts-within Sole (x .length) (s .bounce) _ (λ h. (first-regular Write Last (paddedStage x (asked o n)) refl, refl))
   write-by (NoTransfer r) = tt
 
   pub write-regular : (t : Bool) → Starts Sole (writePlan s o n t)
@@ -217,7 +224,8 @@ module _ (s : Settings) (x : State) where
     later-regular (Refused r) k = tt
 
     next-regular : (c : Course) (r : Range) → puts c (x .job) ≡ true → StepRegular x (zeroesNext s x c r)
-    next-regular c r h = later-regular (zeroesPlan s (x .job) (x .range) (x .middle) c r) (zeroes-regular s (x .job) (x .range) (x .middle) c r h)
+    next-regular c r h =
+        later-regular (zeroesPlan s (x .job) (x .range) (x .middle) c r) (zeroes-regular s (x .job) (x .range) (x .middle) c r h)
 
     chunk-by : (k : Chunk) → StepRegular x (chunkBy s x k)
     chunk-by NoChunk = tt
@@ -229,7 +237,8 @@ module _ (s : Settings) (x : State) where
     chunk-regular o = chunk-by (chunkOf s (record { start = o; end = x .range .end }))
 
     -- a write of zeroes over r, where not empty
-    some-regular : (r : Range) (c : Course) (b : Step) → puts c (x .job) ≡ true → StepRegular x b → StepRegular x (pick (ltb 0 (sizeOf r)) (zeroesNext s x c r) b)
+    some-regular : (r : Range) (c : Course) (b : Step) → puts c (x .job) ≡ true → StepRegular x b
+        → StepRegular x (pick (ltb 0 (sizeOf r)) (zeroesNext s x c r) b)
     some-regular r c b h l = go (ltb 0 (sizeOf r))
       where
         go : (t : Bool) → StepRegular x (pick t (zeroesNext s x c r) b)
@@ -238,7 +247,8 @@ module _ (s : Settings) (x : State) where
 
     tail-regular : StepRegular x (tailNext s x)
     unfolding tailNext
-    tail-regular = some-regular (record { start = x .middle .end; end = x .range .end }) Last (Ends (endedWith 0 x)) (last-puts (x .job) z) tt
+    tail-regular =
+        some-regular (record { start = x .middle .end; end = x .range .end }) Last (Ends (endedWith 0 x)) (last-puts (x .job) z) tt
 
     head-regular : StepRegular x (headNext s x)
     unfolding headNext
@@ -299,7 +309,8 @@ module _ (s : Settings) (x : State) where
     unfolding toldOf
     told-by code = go (eqb code 0) (eqb code 1)
       where
-        go : (a b : Bool) → StepRegular x (pick a (doneNext (x .phase) s x) (pick b (unsupportedNext (x .phase) s x) (Ends (endedWith code x))))
+        go : (a b : Bool) → StepRegular x
+            (pick a (doneNext (x .phase) s x) (pick b (unsupportedNext (x .phase) s x) (Ends (endedWith code x))))
         go true b = done-by (x .phase) refl
         go false true = unsupported-by (x .phase) refl
         go false false = tt

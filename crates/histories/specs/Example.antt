@@ -1,5 +1,5 @@
--- A lawful list, its bytes computed on both sides. A padded write, a direct write that waits behind it, a padded read, zeroes that fall back, a write that
--- fails part-way, a discard, a direct read; a begin that is refused, and one that is lent other buffers.
+-- A lawful list, its bytes computed on both sides. A padded write, a direct write that waits behind it, a padded read, zeroes that fall
+-- back, a write that fails part-way, a discard, a direct read; a begin that is refused, and one that is lent other buffers.
 use mathlib.Core.Path.{_≡_, refl}
 use mathlib.Core.Bool.{true, false}
 use mathlib.Core.List.{List, [], _∷_, _++_}
@@ -25,7 +25,8 @@ use Rattle.dock.specs.declared.next.Due.the-variants.{Waiting}
 use Rattle.histories.specs.Store.{Choice, window}
 use Rattle.histories.specs.PlainStore.{Plain, plainOpened}
 use Rattle.histories.specs.Histories.{Lends, World, opened, Lawful}
-use Rattle.histories.specs.Acts.{Act, begin, begin-lent, carry, tell, collect, own, eventsOf, run, allAllowed, lawful, computing-lists}
+use Rattle.histories.specs.Acts.{Act, begin, begin-lent, carry, tell, collect, own, eventsOf, run, allAllowed, lawful}
+use Rattle.histories.specs.Acts.{computing-lists}
 
 -- a drive of blocks of 8 bytes, shares of 32; a store whose every byte is 9
 abbrev pub settings : Settings
@@ -34,8 +35,8 @@ settings = record { align = alignments 1 8 8 8; bounce = 32 }
 abbrev pub buffers : Buffers
 buffers = record { «data» = record { address = 1; length = 28 }; scratch = record { address = 0; length = 256 } }
 
--- two bytes for the padded write, eight for the direct one, four for the padded read, two of nobody's, eight for the direct read, two of nobody's,
--- two for the write that fails
+-- two bytes for the padded write, eight for the direct one, four for the padded read, two of nobody's, eight for the direct read, two of
+-- nobody's, two for the write that fails
 abbrev pub memory : List ℕ
 memory =
     (101 ∷ 102 ∷ 1 ∷ 2 ∷ 3 ∷ 4 ∷ 5 ∷ 6 ∷ 7 ∷ 8 ∷ [])
@@ -127,7 +128,8 @@ pub record Computed : Type 0 where
   pub refused : begun (run world plain jobs-done .real) overlapping (own (run world plain jobs-done .real)) ≡ Refused Overlap
   pub refused-lent : begun (run world plain jobs-done .real) overlapping no-bytes ≡ Refused Buffer
   -- both reads hold what they yielded, and the bytes beside them are as they were
-  pub holds : take 16 (drop 10 (run world plain all-done .real .memory)) ≡ 3 ∷ 4 ∷ 5 ∷ 6 ∷ 77 ∷ 77 ∷ 9 ∷ 9 ∷ 31 ∷ 9 ∷ 9 ∷ 9 ∷ 9 ∷ 9 ∷ 77 ∷ 77 ∷ []
+  pub holds : take 16 (drop 10 (run world plain all-done .real .memory))
+      ≡ 3 ∷ 4 ∷ 5 ∷ 6 ∷ 77 ∷ 77 ∷ 9 ∷ 9 ∷ 31 ∷ 9 ∷ 9 ∷ 9 ∷ 9 ∷ 9 ∷ 77 ∷ 77 ∷ []
   -- and the list is lawful
   pub is-lawful : allAllowed world all-done ≡ true
 

@@ -58,7 +58,8 @@ pub record Held (d : Dock) : Type 0 where
   pub blockers : Reached (d .blockers) rank clock
   pub slots : (p : ℕ) → p < 8 → SlotOf d p
 
--- A dock that calls made: opened, then begun on, told and collected in any order, with any arguments and any lent buffers, refused calls included.
+-- A dock that calls made: opened, then begun on, told and collected in any order, with any arguments and any lent buffers, refused calls
+-- included.
 pub data Made : Dock → Type 0 where
   opens : (s : Settings) (b : Buffers) → openOf s b .outcome ≡ Done → Made (openOf s b .dock)
   opens-profile : (i n : ℕ) (b : Buffers) → openProfileOf i n b .outcome ≡ Done → Made (openProfileOf i n b .dock)

@@ -1,4 +1,5 @@
--- Lists of events on an opened dock over a store: the real side runs the dock's own definitions; what a list may assume; what is claimed of every list.
+-- Lists of events on an opened dock over a store: the real side runs the dock's own definitions; what a list may assume; what is claimed of
+-- every list.
 use mathlib.Core.Path.{_≡_}
 use mathlib.Core.Bool.{Bool, true, false, _&&_}
 use mathlib.Core.List.{List, [], _∷_}
@@ -30,7 +31,8 @@ use Rattle.dock.specs.declared.next.Due.the-variants.{Waiting, Make, Answer, Re
 use Rattle.dock.specs.declared.tell.Collects.{Collects}
 use Rattle.dock.specs.declared.tell.Collected.the-variants.{Final}
 use Rattle.histories.specs.Store.{Bytes, Choice, piecesFrom, gathered, rangeAsked, stored, fetched, inRange}
-use Rattle.histories.specs.PlainStore.{Item, begin, carry, tell, collect, nothing, Did, yielded, wrote, zeroed, discarded, rangeFor, Tracked, Plain, plainOpened, plainStep, setAt}
+use Rattle.histories.specs.PlainStore.{Item, begin, carry, tell, collect, nothing, Did, yielded, wrote, zeroed, discarded, rangeFor}
+use Rattle.histories.specs.PlainStore.{Tracked, Plain, plainOpened, plainStep, setAt}
 
 -- ---- events
 
@@ -70,7 +72,8 @@ acted w p code store memory scratch =
     record { dock = w .dock; store = store; memory = memory; scratch = scratch; carried = setAt (w .carried) p (some code) }
 
 abbrev pub opened : Settings → Buffers → Bytes → List ℕ → List ℕ → World
-opened s b content memory scratch = record { dock = openOf s b .dock; store = content; memory = memory; scratch = scratch; carried = λ p. none }
+opened s b content memory scratch =
+    record { dock = openOf s b .dock; store = content; memory = memory; scratch = scratch; carried = λ p. none }
 
 -- a call that is lent buffers of other lengths is refused (205), and touches none of these
 abbrev pub fitsLent : World → Lends → Bool
@@ -134,12 +137,14 @@ fed w (collects p l) = collect p (collectOf (w .dock) p (length (l .memory)) (le
 
 -- ---- what a list may assume
 
--- "scratch and the data of jobs in flight are as the last event left them, other data may change, and a call refused with 205 may be lent other buffers"
+-- "scratch and the data of jobs in flight are as the last event left them, other data may change, and a call refused with 205 may be lent
+-- other buffers"
 abbrev pub LentOf : World → Lends → Type 0
 LentOf w l =
     fitsLent w l ≡ true →
     (l .scratch ≡ w .scratch)
-    × ((p k : ℕ) → p < 8 → isFree (stateAt (w .dock) p .phase) ≡ false → covered (segmentsOf (vectorAt (w .dock) p)) k ≡ true → getD (l .memory) k 0 ≡ getD (w .memory) k 0)
+    × ((p k : ℕ) → p < 8 → isFree (stateAt (w .dock) p .phase) ≡ false → covered (segmentsOf (vectorAt (w .dock) p)) k ≡ true
+    → getD (l .memory) k 0 ≡ getD (w .memory) k 0)
 
 -- the code of a carry; a request that was not carried out has none
 abbrev pub CodeOf : Option ℕ → ℕ → Type 0
@@ -182,8 +187,8 @@ abbrev pub putBy : List Did → ℕ → Bool
 putBy [] x = false
 putBy (d ∷ ds) x = pick (puts d x) true (putBy ds x)
 
--- "Owed besides", by what was handed to begin: the kind of the job, its range r, its vector v; j has its bytes then and its steps, memory is the data at
--- collect
+-- "Owed besides", by what was handed to begin: the kind of the job, its range r, its vector v; j has its bytes then and its steps, memory
+-- is the data at collect
 abbrev pub OwedBy : Job → Range → IoVector → Tracked → List ℕ → Type 0
 -- "A read answered 0 holds at collect what its step yielded."
 OwedBy Read r v j memory = (bs : List ℕ) × Among (yielded r bs) (j .steps) × (bytesOf memory (segmentsOf v) ≡ bs)
@@ -214,9 +219,10 @@ Claim w m (e ∷ es) = Same w m × Owed w m e × Claim (step w e) (plainStep m (
 
 -- ---- THE THEOREM
 
--- for all settings and buffers that open accepts, every content of the store, all data and scratch of these lengths, and every list of begin, carry,
--- tell and collect, refused ones included: a lawful list has the claim. Proved in proofs/Theorem.antt.
+-- for all settings and buffers that open accepts, every content of the store, all data and scratch of these lengths, and every list of
+-- begin, carry, tell and collect, refused ones included: a lawful list has the claim. Proved in proofs/Theorem.antt.
 abbrev pub EveryList : Type 0
 EveryList =
-    (s : Settings) (b : Buffers) → openOf s b .outcome ≡ Done → (content : Bytes) (memory scratch : List ℕ) → lentFits b (length memory) (length scratch) ≡ true → (es : List Event)
+    (s : Settings) (b : Buffers) → openOf s b .outcome ≡ Done → (content : Bytes) (memory scratch : List ℕ)
+    → lentFits b (length memory) (length scratch) ≡ true → (es : List Event)
     → Lawful (opened s b content memory scratch) es → Claim (opened s b content memory scratch) (plainOpened s b content) es

@@ -18,7 +18,8 @@ use Rattle.vectors.specs.Vectors.{vectorOf}
 use Rattle.vectors.specs.declared.vector.IoVector.{IoVector}
 use Rattle.blockers.specs.Blockers.{present, isEntered, blockerAt, noBlockers, vacant as no-blocker, nowhere as past, enteredOf, leftOf}
 use Rattle.blockers.specs.Reached.{Reached}
-use Rattle.blockers.specs.Laws.{enter-done, entered-other, entered-own, enter-reached, ranked, leave-done, left-kind, left-range, left-own, leave-reached, none-reached}
+use Rattle.blockers.specs.Laws.{enter-done, entered-other, entered-own, enter-reached, ranked, leave-done, left-kind, left-range, left-own}
+use Rattle.blockers.specs.Laws.{leave-reached, none-reached}
 use Rattle.blockers.specs.declared.Kind.{Kind}
 use Rattle.blockers.specs.declared.Kind.the-variants.{Absent}
 use Rattle.blockers.specs.declared.Blocker.{Blocker}
@@ -62,7 +63,8 @@ strong-present false = refl
 module _ (b : Blockers) (p : ℕ) (y : State) (rank : ℕ → ℕ) (clock : ℕ) (R : Reached b rank clock) where
   -- the blockers stay as they are
   unchanged : isEntered (blockerAt b p) ≡ isBlocking (y .phase)
-      → (isBlocking (y .phase) ≡ true → (blockerAt b p .kind ≡ strength (y .stage .strong)) × Encloses (blockerAt b p .range) (y .stage .request))
+      → (isBlocking (y .phase) ≡ true
+      → (blockerAt b p .kind ≡ strength (y .stage .strong)) × Encloses (blockerAt b p .range) (y .stage .request))
       → Changes b p y (record { blockers = b; outcome = Done })
   unchanged e o = record {
     done = refl;
@@ -76,7 +78,8 @@ module _ (b : Blockers) (p : ℕ) (y : State) (rank : ℕ → ℕ) (clock : ℕ)
   }
 
   -- no blocker was there, and none comes
-  pub none-changes : isEntered (blockerAt b p) ≡ false → isBlocking (y .phase) ≡ false → Changes b p y (record { blockers = b; outcome = Done })
+  pub none-changes : isEntered (blockerAt b p) ≡ false → isBlocking (y .phase) ≡ false
+      → Changes b p y (record { blockers = b; outcome = Done })
   none-changes e f = unchanged (e ∙ sym f) (λ u. never (sym f ∙ u))
 
 module _ (b : Blockers) (p : ℕ) (y : State) (rank : ℕ → ℕ) (clock : ℕ) (R : Reached b rank clock) (h : p < 8) where
@@ -107,7 +110,8 @@ module _ (b : Blockers) (p : ℕ) (y : State) (rank : ℕ → ℕ) (clock : ℕ)
       go false t = none-changes b p y rank clock R e t
 
   -- the blocker of the job x leaves
-  pub leave-changes : (x : State) → isEntered (blockerAt b p) ≡ isBlocking (x .phase) → isBlocking (y .phase) ≡ false → Changes b p y (blockersWithout b p x)
+  pub leave-changes : (x : State) → isEntered (blockerAt b p) ≡ isBlocking (x .phase) → isBlocking (y .phase) ≡ false
+      → Changes b p y (blockersWithout b p x)
   unfolding blockersWithout
   leave-changes x e f = go (isBlocking (x .phase)) refl
     where
@@ -127,8 +131,10 @@ module _ (b : Blockers) (p : ℕ) (y : State) (rank : ℕ → ℕ) (clock : ℕ)
       go false t = none-changes b p y rank clock R (e ∙ t) f
 
   -- the blocker of the job x stays, and the job is y now, in the same stage
-  pub stay-changes : (x : State) → y .stage ≡ x .stage → isBlocking (y .phase) ≡ isBlocking (x .phase) → present (blockerAt b p .kind) ≡ isBlocking (x .phase)
-      → (isBlocking (x .phase) ≡ true → (blockerAt b p .kind ≡ strength (x .stage .strong)) × Encloses (blockerAt b p .range) (x .stage .request))
+  pub stay-changes : (x : State) → y .stage ≡ x .stage → isBlocking (y .phase) ≡ isBlocking (x .phase)
+      → present (blockerAt b p .kind) ≡ isBlocking (x .phase)
+      → (isBlocking (x .phase) ≡ true
+      → (blockerAt b p .kind ≡ strength (x .stage .strong)) × Encloses (blockerAt b p .range) (x .stage .request))
       → Changes b p y (record { blockers = b; outcome = Done })
   stay-changes x g f e o = unchanged b p y rank clock R (e ∙ sym f) (λ u. rw g (o (sym f ∙ u)))
 
@@ -139,7 +145,8 @@ renewed d p b x vs = record { settings = d .settings; buffers = d .buffers; bloc
 
 module _ (d : Dock) (H : Held d) (p : ℕ) (h : p < 8) (x : State) (vs : List IoVector) (c : Changed) (C : Changes (d .blockers) p x c) where
   pub slot-anew : length vs ≡ 8 → ((q : ℕ) → q ≢ p → getD vs q noVector ≡ vectorAt d q)
-      → SlotHeld (d .settings .bounce) (d .buffers .«data» .length) x (getD vs p noVector) (blockerAt (c .blockers) p .kind) (blockerAt (c .blockers) p .range)
+      → SlotHeld (d .settings .bounce) (d .buffers .«data» .length) x (getD vs p noVector) (blockerAt (c .blockers) p .kind)
+      (blockerAt (c .blockers) p .range)
       → Held (renewed d p (c .blockers) x vs)
   slot-anew l others own = record {
     opened = H .opened;
@@ -187,5 +194,7 @@ fresh-held s b e = record {
   rank = λ p. 0;
   clock = 0;
   blockers = none-reached;
-  slots = λ p h. rw (getD-replicate 8 p vacant noState h, getD-replicate 8 p (vectorOf []) noVector h, getD-replicate 8 p no-blocker past h) (none-held (s .bounce) (b .«data» .length) (vectorOf []) Absent (no-blocker .range) refl);
+  slots =
+      λ p h. rw (getD-replicate 8 p vacant noState h, getD-replicate 8 p (vectorOf []) noVector h, getD-replicate 8 p no-blocker past h)
+      (none-held (s .bounce) (b .«data» .length) (vectorOf []) Absent (no-blocker .range) refl);
 }

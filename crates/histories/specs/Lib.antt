@@ -1,4 +1,5 @@
--- What holds of a dock after any list of calls from an opened one, and the theorem on every list of events: the statement is at the end of Histories.
+-- What holds of a dock after any list of calls from an opened one, and the theorem on every list of events: the statement is at the end of
+-- Histories.
 pub mod Courses
 pub mod Held
 pub mod Keeping

@@ -1,4 +1,5 @@
--- Every dock that calls made has `Held`; and so begin, a request's piece and tell answer on it as document 01 says, and never by a refusal of their inner steps. Assumes nothing.
+-- Every dock that calls made has `Held`; and so begin, a request's piece and tell answer on it as document 01 says, and never by a refusal
+-- of their inner steps. Assumes nothing.
 use mathlib.Core.Path.{_≡_, refl, sym, ap, _∙_, subst}
 use mathlib.Core.Bool.{Bool, true, false, _&&_}
 use mathlib.Core.List.{List, []}
@@ -27,7 +28,8 @@ use Rattle.stages.specs.declared.state.Job.the-variants.{Read, Write, Zeroes, A
 use Rattle.stages.specs.declared.plan.Plan.{Plan}
 use Rattle.stages.specs.declared.plan.Plan.the-variants.{Done as NothingToDo, Started, Refused as PlanRefused}
 use Rattle.dock.specs.Dock.{stateAt, vacant, openOf, openBy, openProfileOf, lentFits, lentBy, lentOf, isOutBy, isOut, overlapsOf, firstFree}
-use Rattle.dock.specs.Begin.{withJob, Begins, onlyIf, vectorThen, begunBy, placed, placedAt, refusedBegin, beginReadOf, beginWriteOf, beginZeroesOf, beginDiscardOf, movedOf, planOf, vectorFor, planFor, beginBy, beginOf}
+use Rattle.dock.specs.Begin.{withJob, Begins, onlyIf, vectorThen, begunBy, placed, placedAt, refusedBegin, beginReadOf, beginWriteOf}
+use Rattle.dock.specs.Begin.{beginZeroesOf, beginDiscardOf, movedOf, planOf, vectorFor, planFor, beginBy, beginOf}
 use Rattle.dock.specs.Next.{isKeptBy, isKept}
 use Rattle.dock.specs.Tell.{Told, stepped, after, tellAt, tellOf, refusedTell, collectOf}
 use Rattle.dock.specs.declared.dock.Dock.{Dock}
@@ -72,7 +74,8 @@ empty-valid n = vector-valid n [] refl
 pub begin-is : (d : Dock) (q : Asked) (memory scratch : List ℕ)
     → beginOf d q memory scratch
     ≡ onlyIf d scratch (lentOf (d .settings) (d .buffers) (length memory) (length scratch))
-    (vectorThen d (vectorFor q) memory scratch (begunBy d (judgedAs (q .job)) (vectorFor q) memory scratch (planFor (d .settings) (d .buffers) q)))
+    (vectorThen d (vectorFor q) memory scratch
+    (begunBy d (judgedAs (q .job)) (vectorFor q) memory scratch (planFor (d .settings) (d .buffers) q)))
 unfolding beginOf beginReadOf beginWriteOf beginZeroesOf beginDiscardOf
 begin-is d q memory scratch = by (q .job)
   where
@@ -83,7 +86,9 @@ begin-is d q memory scratch = by (q .job)
     bare k = sym (ap (λ (t : Bool). lent (pick t k (refusedBegin d scratch Segment))) (empty-valid (length memory)))
 
     by : (j : Job) → beginBy j d (q .offset) (q .length) (q .vector) memory scratch
-        ≡ lent (vectorThen d (movedOf j (q .vector)) memory scratch (begunBy d (judgedAs j) (movedOf j (q .vector)) memory scratch (planOf j (d .settings) (d .buffers) (q .offset) (q .length) (q .vector))))
+        ≡ lent (vectorThen d (movedOf j (q .vector)) memory scratch
+        (begunBy d (judgedAs j) (movedOf j (q .vector)) memory scratch
+        (planOf j (d .settings) (d .buffers) (q .offset) (q .length) (q .vector))))
     by Read = refl
     by Write = refl
     by Zeroes = bare _
@@ -100,7 +105,8 @@ begunRule d j v memory scratch (Started x) =
 
 module _ (d : Dock) (H : Held d) (memory scratch : List ℕ) where
   -- a planned job is begun by that rule
-  begun-is : length memory ≡ d .buffers .«data» .length → (j : Job) (v : IoVector) (plan : Plan) → Starts (Ready (d .settings) (d .buffers .«data» .length) v) plan
+  begun-is : length memory ≡ d .buffers .«data» .length → (j : Job) (v : IoVector) (plan : Plan)
+      → Starts (Ready (d .settings) (d .buffers .«data» .length) v) plan
       → begunBy d j v memory scratch plan ≡ begunRule d j v memory scratch plan
   begun-is l j v NothingToDo k = refl
   begun-is l j v (PlanRefused r) k = refl
@@ -117,28 +123,38 @@ module _ (d : Dock) (H : Held d) (memory scratch : List ℕ) where
       go false false e = refl
 
   only-is : (k i : Begins) → (length memory ≡ d .buffers .«data» .length → k ≡ i)
-      → onlyIf d scratch (lentOf (d .settings) (d .buffers) (length memory) (length scratch)) k ≡ onlyIf d scratch (lentOf (d .settings) (d .buffers) (length memory) (length scratch)) i
+      → onlyIf d scratch (lentOf (d .settings) (d .buffers) (length memory) (length scratch)) k
+      ≡ onlyIf d scratch (lentOf (d .settings) (d .buffers) (length memory) (length scratch)) i
   only-is k i f = go (lentOf (d .settings) (d .buffers) (length memory) (length scratch)) refl
     where
-      go : (o : Outcome) → lentOf (d .settings) (d .buffers) (length memory) (length scratch) ≡ o → onlyIf d scratch o k ≡ onlyIf d scratch o i
-      go Done e = f (data-long (d .buffers) (length memory) (length scratch) (lent-fits (d .settings) (d .buffers) (length memory) (length scratch) e))
+      go : (o : Outcome) → lentOf (d .settings) (d .buffers) (length memory) (length scratch) ≡ o
+          → onlyIf d scratch o k ≡ onlyIf d scratch o i
+      go Done e =
+          f (data-long (d .buffers) (length memory) (length scratch)
+          (lent-fits (d .settings) (d .buffers) (length memory) (length scratch) e))
       go (Refused r) e = refl
 
-  vector-is : (v : IoVector) (k i : Begins) → (isValid (length memory) v ≡ true → k ≡ i) → vectorThen d v memory scratch k ≡ vectorThen d v memory scratch i
+  vector-is : (v : IoVector) (k i : Begins) → (isValid (length memory) v ≡ true → k ≡ i)
+      → vectorThen d v memory scratch k ≡ vectorThen d v memory scratch i
   vector-is v k i f = go (isValid (length memory) v) refl
     where
-      go : (t : Bool) → isValid (length memory) v ≡ t → pick t k (refusedBegin d scratch Segment) ≡ pick t i (refusedBegin d scratch Segment)
+      go : (t : Bool) → isValid (length memory) v ≡ t
+          → pick t k (refusedBegin d scratch Segment) ≡ pick t i (refusedBegin d scratch Segment)
       go true e = f e
       go false e = refl
 
-  only-held : (k : Begins) → (length memory ≡ d .buffers .«data» .length → Held (k .dock)) → Held (onlyIf d scratch (lentOf (d .settings) (d .buffers) (length memory) (length scratch)) k .dock)
+  only-held : (k : Begins) → (length memory ≡ d .buffers .«data» .length → Held (k .dock))
+      → Held (onlyIf d scratch (lentOf (d .settings) (d .buffers) (length memory) (length scratch)) k .dock)
   only-held k f = go (lentOf (d .settings) (d .buffers) (length memory) (length scratch)) refl
     where
       go : (o : Outcome) → lentOf (d .settings) (d .buffers) (length memory) (length scratch) ≡ o → Held (onlyIf d scratch o k .dock)
-      go Done e = f (data-long (d .buffers) (length memory) (length scratch) (lent-fits (d .settings) (d .buffers) (length memory) (length scratch) e))
+      go Done e =
+          f (data-long (d .buffers) (length memory) (length scratch)
+          (lent-fits (d .settings) (d .buffers) (length memory) (length scratch) e))
       go (Refused r) e = H
 
-  vector-held : (v : IoVector) (k : Begins) → (isValid (length memory) v ≡ true → Held (k .dock)) → Held (vectorThen d v memory scratch k .dock)
+  vector-held : (v : IoVector) (k : Begins) → (isValid (length memory) v ≡ true → Held (k .dock))
+      → Held (vectorThen d v memory scratch k .dock)
   vector-held v k f = go (isValid (length memory) v) refl
     where
       go : (t : Bool) → isValid (length memory) v ≡ t → Held (pick t k (refusedBegin d scratch Segment) .dock)
@@ -149,7 +165,8 @@ module _ (d : Dock) (H : Held d) (memory scratch : List ℕ) where
   begin-held q =
       subst (λ (b : Begins). Held (b .dock)) (sym (begin-is d q memory scratch))
       (only-held _ (λ l. vector-held (vectorFor q) _ (λ e.
-      begun-held d H (vectorFor q) memory scratch l (judgedAs (q .job)) (planFor (d .settings) (d .buffers) q) (planned-ready (d .settings) _ (q .offset) (d .buffers) (q .job) (q .length) (q .vector) (rw l at e)))))
+      begun-held d H (vectorFor q) memory scratch l (judgedAs (q .job)) (planFor (d .settings) (d .buffers) q)
+      (planned-ready (d .settings) _ (q .offset) (d .buffers) (q .job) (q .length) (q .vector) (rw l at e)))))
 
 -- ---- tell
 
@@ -158,7 +175,8 @@ abbrev pub tellRule : Dock → ℕ → ℕ → List ℕ → List ℕ → Told
 tellRule d p code memory scratch =
     pick (lentFits (d .buffers) (length memory) (length scratch))
     (pick (isOut d p)
-    (pick (ltb code 200) (after d p (stateAt d p) code memory scratch (toldOf (d .settings) (stateAt d p) code)) (refusedTell d memory scratch NoAnswer))
+    (pick (ltb code 200) (after d p (stateAt d p) code memory scratch (toldOf (d .settings) (stateAt d p) code))
+    (refusedTell d memory scratch NoAnswer))
     (refusedTell d memory scratch Slot))
     (refusedTell d memory scratch Buffer)
 
@@ -177,7 +195,9 @@ module _ (d : Dock) (H : Held d) (p : ℕ) where
     step = after d p (stateAt d p) code memory scratch (toldOf (d .settings) (stateAt d p) code)
 
     there : p < 8 → length memory ≡ d .buffers .«data» .length → (t u : Bool) → isOutBy (d .blockers) (stateAt d p) p ≡ t
-        → pick (t && isKeptBy (stateAt d p) (d .settings) (d .buffers)) (pick u (stepped d p (stateAt d p) code memory scratch (toldOf (d .settings) (stateAt d p) code)) (refusedTell d memory scratch NoAnswer)) (refusedTell d memory scratch Slot)
+        → pick (t && isKeptBy (stateAt d p) (d .settings) (d .buffers))
+        (pick u (stepped d p (stateAt d p) code memory scratch (toldOf (d .settings) (stateAt d p) code))
+        (refusedTell d memory scratch NoAnswer)) (refusedTell d memory scratch Slot)
         ≡ pick t (pick u step (refusedTell d memory scratch NoAnswer)) (refusedTell d memory scratch Slot)
     unfolding isKept
     there h l true true e = simp (kept-held h) (told-done d H p h (out-pending e) code memory scratch l)
@@ -190,18 +210,26 @@ module _ (d : Dock) (H : Held d) (p : ℕ) where
       where
         go : (a b : Bool) → lentFits (d .buffers) (length memory) (length scratch) ≡ a → ltb p 8 ≡ b
             → pick a (pick b (tellAt d p code memory scratch) (refusedTell d memory scratch Slot)) (refusedTell d memory scratch Buffer)
-            ≡ pick a (pick (b && isOutBy (d .blockers) (stateAt d p) p) (pick (ltb code 200) step (refusedTell d memory scratch NoAnswer)) (refusedTell d memory scratch Slot)) (refusedTell d memory scratch Buffer)
-        go true true e f = there (ltb-true p 8 f) (data-long (d .buffers) (length memory) (length scratch) e) (isOutBy (d .blockers) (stateAt d p) p) (ltb code 200) refl
+            ≡ pick a (pick (b && isOutBy (d .blockers) (stateAt d p) p) (pick (ltb code 200) step (refusedTell d memory scratch NoAnswer))
+            (refusedTell d memory scratch Slot)) (refusedTell d memory scratch Buffer)
+        go true true e f =
+            there (ltb-true p 8 f) (data-long (d .buffers) (length memory) (length scratch) e) (isOutBy (d .blockers) (stateAt d p) p)
+            (ltb code 200) refl
         go true false e f = refl
         go false b e f = refl
 
     rule-held : Held (tellRule d p code memory scratch .dock)
     unfolding isOut
-    rule-held = go (lentFits (d .buffers) (length memory) (length scratch)) (ltb p 8) (isOutBy (d .blockers) (stateAt d p) p) (ltb code 200) refl refl refl
+    rule-held =
+        go (lentFits (d .buffers) (length memory) (length scratch)) (ltb p 8) (isOutBy (d .blockers) (stateAt d p) p)
+        (ltb code 200) refl refl refl
       where
-        go : (a b c u : Bool) → lentFits (d .buffers) (length memory) (length scratch) ≡ a → ltb p 8 ≡ b → isOutBy (d .blockers) (stateAt d p) p ≡ c
-            → Held (pick a (pick (b && c) (pick u step (refusedTell d memory scratch NoAnswer)) (refusedTell d memory scratch Slot)) (refusedTell d memory scratch Buffer) .dock)
-        go true true true true e f g = told-held d H p (ltb-true p 8 f) (out-pending g) code memory scratch (data-long (d .buffers) (length memory) (length scratch) e)
+        go : (a b c u : Bool) → lentFits (d .buffers) (length memory) (length scratch) ≡ a → ltb p 8 ≡ b
+            → isOutBy (d .blockers) (stateAt d p) p ≡ c
+            → Held (pick a (pick (b && c) (pick u step (refusedTell d memory scratch NoAnswer)) (refusedTell d memory scratch Slot))
+            (refusedTell d memory scratch Buffer) .dock)
+        go true true true true e f g =
+            told-held d H p (ltb-true p 8 f) (out-pending g) code memory scratch (data-long (d .buffers) (length memory) (length scratch) e)
         go true true true false e f g = H
         go true true false u e f g = H
         go true false c u e f g = H
@@ -215,7 +243,9 @@ module _ (d : Dock) (H : Held d) (p : ℕ) where
   collect-held m n = go (lentFits (d .buffers) m n) (ltb p 8) (hasEnded (stateAt d p .phase)) refl refl
     where
       go : (a b c : Bool) → ltb p 8 ≡ b → hasEnded (stateAt d p .phase) ≡ c
-          → Held (pick {A = Collects} a (pick (b && c) (record { dock = withJob d p (d .blockers) vacant (vectorOf []); answer = Final (stateAt d p .answer) }) (record { dock = d; answer = NotCollected Slot })) (record { dock = d; answer = NotCollected Buffer }) .dock)
+          → Held (pick {A = Collects} a (pick (b && c)
+          (record { dock = withJob d p (d .blockers) vacant (vectorOf []); answer = Final (stateAt d p .answer) })
+          (record { dock = d; answer = NotCollected Slot })) (record { dock = d; answer = NotCollected Buffer }) .dock)
       go true true true e f = freed-held d H p (ltb-true p 8 e) f
       go true true false e f = H
       go true false c e f = H
@@ -248,8 +278,10 @@ module _ {d : Dock} (k : Made d) where
 
   pub made-begin : (q : Asked) (memory scratch : List ℕ) → beginOf d q memory scratch
       ≡ onlyIf d scratch (lentOf (d .settings) (d .buffers) (length memory) (length scratch))
-      (vectorThen d (vectorFor q) memory scratch (begunRule d (judgedAs (q .job)) (vectorFor q) memory scratch (planFor (d .settings) (d .buffers) q)))
+      (vectorThen d (vectorFor q) memory scratch
+      (begunRule d (judgedAs (q .job)) (vectorFor q) memory scratch (planFor (d .settings) (d .buffers) q)))
   made-begin q memory scratch =
       let H = made-held k in
       begin-is d q memory scratch ∙ only-is d H memory scratch _ _ (λ l. vector-is d H memory scratch (vectorFor q) _ _ (λ e.
-      begun-is d H memory scratch l (judgedAs (q .job)) (vectorFor q) (planFor (d .settings) (d .buffers) q) (planned-ready (d .settings) _ (q .offset) (d .buffers) (q .job) (q .length) (q .vector) (rw l at e))))
+      begun-is d H memory scratch l (judgedAs (q .job)) (vectorFor q) (planFor (d .settings) (d .buffers) q)
+      (planned-ready (d .settings) _ (q .offset) (d .buffers) (q .job) (q .length) (q .vector) (rw l at e))))

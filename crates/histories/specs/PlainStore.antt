@@ -1,4 +1,7 @@
--- Document 01's plain byte store: one byte for each offset, and each place's job with the codes told. It knows no blocker, no scratch, no waiting.
+-- Document 01's plain byte store: one byte for each offset, and each place's job with the codes told. It knows no blocker, scratch or
+-- waiting of the dock. It steps a job by the rules of crate stages: a plan gives its first stage, toldOf what a code leads to, Stage.asked
+-- and Stage.request the ranges of what is out. The laws read-opens, write-opens, zero-opens and discard-opens there tie a plan to what was
+-- handed to begin: its kind, and its range.
 use mathlib.Core.Bool.{true}
 use mathlib.Core.List.{List, [], _∷_}
 use mathlib.Core.Option.{Option, none, some}
@@ -16,7 +19,8 @@ use Rattle.stages.specs.Stages.{sizeOf, toldOf}
 use Rattle.stages.specs.declared.state.Job.{Job}
 use Rattle.stages.specs.declared.state.Job.the-variants.{Read, Write, Zeroes, AllocatedZeroes, Discard}
 use Rattle.stages.specs.declared.state.Phase.{Phase}
-use Rattle.stages.specs.declared.state.Phase.the-variants.{Free, Ended, DirectRead, BouncedRead, FirstRead, SecondRead, BouncedWrite, DirectWrite, ZeroRequest, DiscardRequest}
+use Rattle.stages.specs.declared.state.Phase.the-variants.{Free, Ended, DirectRead, BouncedRead, FirstRead, SecondRead, BouncedWrite}
+use Rattle.stages.specs.declared.state.Phase.the-variants.{DirectWrite, ZeroRequest, DiscardRequest}
 use Rattle.stages.specs.declared.state.State.{State}
 use Rattle.stages.specs.declared.plan.Plan.{Plan}
 use Rattle.stages.specs.declared.plan.Plan.the-variants.{Done as NothingToDo, Started, Refused as PlanRefused}
@@ -32,7 +36,8 @@ use Rattle.histories.specs.Store.{Bytes, Choice, changed, becomesNew, wi
 
 -- ---- what it is fed
 
--- opening, the calls with arguments, lent bytes and answers, the carries with place, code and the store's choices; one begin for every kind of job
+-- opening, the calls with arguments, lent bytes and answers, the carries with place, code and the store's choices; one begin for every kind
+-- of job
 pub data Item : Type 0 where
   begin : Asked → List ℕ → Begun → Item
   carry : ℕ → ℕ → Choice → Item
@@ -61,7 +66,8 @@ lengthBy Discard q = q .length
 abbrev pub rangeFor : Asked → Range
 rangeFor q = rangeOf (q .offset .0) (q .offset .0 + lengthBy (q .job) q)
 
--- a job: what was handed to its begin, and its vector's bytes then; its first stage by the rules; the codes told and its steps, the newest of each first
+-- a job: what was handed to its begin, and its vector's bytes then; its first stage by the rules; the codes told and its steps, the newest
+-- of each first
 pub record Tracked : Type 0 where
   pub asked : Asked
   pub bytes : List ℕ
@@ -121,9 +127,11 @@ noStep s j = record { bytes = s; job = j }
 
 -- "read of a read job, code 0: yields the asked bytes"
 abbrev pub readStep : ℕ → Range → Bytes → Tracked → Stepped
-readStep code r s j = pick (eqb code 0) (record { bytes = s; job = withStep j (yielded r (window s (r .start .0) (sizeOf r))) }) (noStep s j)
+readStep code r s j =
+    pick (eqb code 0) (record { bytes = s; job = withStep j (yielded r (window s (r .start .0) (sizeOf r))) }) (noStep s j)
 
--- "write, code 0: the asked range takes the vector's bytes at begin, zeroes in a zero job. Other codes: each byte of that range is old or new"
+-- "write, code 0: the asked range takes the vector's bytes at begin, zeroes in a zero job. Other codes: each byte of that range is old or
+-- new"
 abbrev pub writeStep : ℕ → Choice → Job → Range → Bytes → Tracked → Stepped
 writeStep code c k r s j =
     let new = newBytes k (r .start .0) (j .bytes) in

@@ -23,7 +23,9 @@ abbrev pub memory : List ℕ
 memory = replicate 2048 7
 
 abbrev worldOf : ℕ → Settings → World
-worldOf share s = opened s (record { «data» = record { address = 1; length = 2048 }; scratch = record { address = 0; length = 8 * share } }) (λ x. 9) memory (replicate (8 * share) 0)
+worldOf share s =
+    opened s (record { «data» = record { address = 1; length = 2048 }; scratch = record { address = 0; length = 8 * share } })
+    (λ x. 9) memory (replicate (8 * share) 0)
 
 -- "Row index 1, share 4096"; "Row index 4, share 12288"
 abbrev pub row-1 : World
@@ -45,7 +47,8 @@ zeros n = replicate n 0
 -- the job is answered 0, and the list with its collect is lawful
 abbrev pub Well : World → List Act → Type 0
 Well w job =
-    (collectOf (run w (plainOpened (w .dock .settings) (w .dock .buffers) (w .store)) job .real .dock) 0 (length (w .memory)) (length (w .scratch)) .answer ≡ Final 0)
+    (collectOf (run w (plainOpened (w .dock .settings) (w .dock .buffers) (w .store)) job .real .dock) 0 (length (w .memory))
+    (length (w .scratch)) .answer ≡ Final 0)
     × (allAllowed w (job ++ (collect 0 ∷ [])) ≡ true)
 
 pub record StarredLists : Type 0 where

@@ -1,4 +1,5 @@
--- The store's act on one request, by document 01: "On the real store the same rules and choices hold for a request's own bytes and range, padding included".
+-- The store's act on one request, by document 01: "On the real store the same rules and choices hold for a request's own bytes and range,
+-- padding included".
 use mathlib.Core.Bool.{Bool, true, _&&_}
 use mathlib.Core.List.{List, [], _∷_, _++_}
 use Prim.Native.Nat.{ℕ, zero, suc, _+_, _-_}
@@ -20,7 +21,8 @@ use Rattle.dock.specs.declared.next.Piece.the-variants.{InData, InScratch, Refu
 abbrev pub Bytes : Type 0
 Bytes = ℕ → ℕ
 
--- "as the store chose": which bytes of a failing request are new; what a discard, or a failing read, leaves. By the byte's offset on the store.
+-- "as the store chose": which bytes of a failing request are new; what a discard, or a failing read, leaves. By the byte's offset on the
+-- store.
 pub record Choice : Type 0 where
   pub isNew : ℕ → Bool
   pub left : Bytes

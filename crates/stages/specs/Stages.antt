@@ -80,8 +80,8 @@ paddedStage s r = record {
   strong = true;
 }
 
--- The range of a stage's blocker: today that of its request, "over their range" of a direct one, "over the padded range" of a padded write. What the
--- theorem on every list needs of it is that the request lies inside it.
+-- The range of a stage's blocker, today that of its request: "over their range" for direct ones, "over the padded range" for padded writes.
+-- The theorem on every list asks of it only that the request lies inside.
 abbrev pub blockedOf : Stage → Range
 blockedOf g = g .request
 
