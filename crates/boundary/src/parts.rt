@@ -17,11 +17,10 @@ ghost use mathlib.Core.Path.{_≡_};
 ghost use lib.ListN.{length};
 ghost use Rattle.arithmetic.specs.Rounding.{pick};
 ghost use Rattle.arithmetic.specs.Offsets.{rangeOf};
-ghost use Rattle.arithmetic.specs.Refusals.{outcomeNumber};
+ghost use Rattle.arithmetic.specs.Refusals.{outcomeNumber, whenDone};
 ghost use Rattle.vectors.specs.Vectors.{segment, pushOf, insertOf, appendOf, splitOf, splitTailOf, outcomeOf, copies, bytesOf, scatterOf, segmentsOf, isValid, fillOf, alignmentOf};
 ghost use Rattle.blockers.specs.Blockers.{enteredOf, leftOf, waitsOf};
 ghost use Rattle.dock.specs.Begin.{strength};
-ghost use Rattle.dock.specs.Slots.{whenDone};
 ghost use Rattle.words.specs.View.{flagOf, flagWord, vectorFrom, blockersOf};
 ghost use Rattle.boundary.specs.Replies.{replyOf, alignmentPaper};
 
@@ -104,7 +103,7 @@ pub extern "C" fn dock_words_vector_split_at(
 ) -> u8
     ensures { λ r. ⌜ (r ≡ outcomeNumber (splitOf data_len (vectorFrom (now (vector .entry))) mid .outcome))
         × (vectorFrom (now (vector .exit)) ≡ splitOf data_len (vectorFrom (now (vector .entry))) mid .head)
-        × (vectorFrom (now (tail .exit)) ≡ whenDone (splitOf data_len (vectorFrom (now (vector .entry))) mid .outcome) (splitOf data_len (vectorFrom (now (vector .entry))) mid .tail) (vectorFrom (now (tail .entry)))) ⌝ }
+        × (vectorFrom (now (tail .exit)) ≡ whenDone (splitOf data_len (vectorFrom (now (vector .entry))) mid .outcome) (splitOf data_len (vectorFrom (now (vector .entry))) mid .tail) (λ z. vectorFrom (now (tail .entry)))) ⌝ }
 {
     let v = vector_of(vector);
     let halves = v.split_at(mid, data_len);

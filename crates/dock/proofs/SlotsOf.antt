@@ -1,54 +1,25 @@
--- Laws on the slots: the lowest free one by its position, a slot's share of the scratch, and what a sound stage holds. Assumes nothing.
+-- Laws on the slots: a slot's share of the scratch, and what a sound stage holds. Assumes nothing.
 use mathlib.Core.Path.{_≡_, refl, sym, ap, _∙_}
 use mathlib.Core.Bool.{Bool, true, false, _&&_, _||_, not}
-use mathlib.Core.List.{List, map}
 use Prim.Native.Nat.{ℕ, suc, _+_, _*_, _/_, _≤_, _<_}
 use native.Mathlib.Decide.{decLe}
 use native.Mathlib.Nat.{mul-le-mul-right}
-use native.Mathlib.Numerals.{add-one}
 use native.Mathlib.Omega.{arith}
 use lib.Dec.{leb, eqb}
-use lib.ListN.{length, getD, drop, length-map, drop-of-length-le}
-use lib.Seq.{drop-cons}
 use borrow.Author.Tests.{leb-true, eqb-true, le-leb, lt-leb, lt-ltb, le-ltb}
 use Rattle.arithmetic.specs.Rounding.{pick}
 use Rattle.arithmetic.specs.SettingsLaws.{and-left, and-right}
 use Rattle.arithmetic.specs.declared.refusals.Refusal.the-variants.{Buffer, Slot}
 use Rattle.arithmetic.specs.declared.settings.Settings.{Settings}
 use Rattle.arithmetic.specs.declared.settings.Buffers.{Buffers}
-use Rattle.stages.specs.Stages.{sizeOf, isFree, usesBounce, secondAt, liesIn, isSound}
+use Rattle.stages.specs.Stages.{sizeOf, usesBounce, secondAt, liesIn, isSound}
 use Rattle.stages.specs.declared.state.Phase.{Phase}
 use Rattle.stages.specs.declared.state.Phase.the-variants.{SecondRead}
 use Rattle.stages.specs.declared.state.State.{State}
-use Rattle.dock.specs.Dock.{noState, lentFits, isOutBy, isOut, firstFree, stateAt, vectorAt}
+use Rattle.dock.specs.Dock.{lentFits, isOutBy, isOut, stateAt, vectorAt}
 use Rattle.dock.specs.Next.{isKeptBy, isKept, pieceIn, pieceAt, pieceOf}
 use Rattle.dock.specs.declared.dock.Dock.{Dock}
 use Rattle.dock.specs.declared.next.Piece.the-variants.{Refused as NoPiece}
-
--- an array of structs has its length by the relation that owning it gives, which stands at a map over the list
-pub long-states : {Y : Type 0} (f : State → Y) (l : List State) (n : ℕ) → length (map f l) ≡ n → length l ≡ n
-long-states f l n e = sym (length-map l f) ∙ e
-
--- ---- the lowest free slot, where the first i are not free
-
-module _ (xs : List State) (i : ℕ) where
-  pub free-here : i < length xs → firstFree xs ≡ i + firstFree (drop i xs) → isFree (getD xs i noState .phase) ≡ true → i ≡ firstFree xs
-  unfolding firstFree
-  free-here h inv e =
-      let z : firstFree (drop i xs) ≡ 0 = rw (drop-cons xs i noState h) (simp e) in
-      omega arith
-
-  pub free-later : i < length xs → firstFree xs ≡ i + firstFree (drop i xs) → isFree (getD xs i noState .phase) ≡ false → firstFree xs ≡ i + 1 + firstFree (drop (i + 1) xs)
-  unfolding firstFree
-  free-later h inv e =
-      let z : firstFree (drop i xs) ≡ suc (firstFree (drop (i + 1) xs)) = rw (add-one, drop-cons xs i noState h) (simp e) in
-      omega arith
-
-  pub free-none : length xs ≤ i → firstFree xs ≡ i + firstFree (drop i xs) → i ≡ firstFree xs
-  unfolding firstFree
-  free-none h inv =
-      let z : firstFree (drop i xs) ≡ 0 = ap firstFree (drop-of-length-le xs h) in
-      omega arith
 
 -- ---- shares
 

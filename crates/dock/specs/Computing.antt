@@ -1,5 +1,6 @@
 -- For theorems by computation: a declaration that says `unfolding computing` sees through every definition that a call on the dock goes by.
 use Rattle.arithmetic.specs.Rounding.{fits, isMultiple, roundDown, roundUp, sumOf, upOf}
+use Rattle.arithmetic.specs.Refusals.{numberOf}
 use Rattle.arithmetic.specs.Loops.{anyBelow}
 use Rattle.arithmetic.specs.Settings.{isAlignment, alignmentsFit, lengthAlign, bounceFits, settingsFit, buffersFit, openingOf}
 use Rattle.arithmetic.specs.Settings.{profiles, profileOf}
@@ -13,13 +14,12 @@ use Rattle.stages.specs.Stages.{directStage, paddedStage, firstPhase, readPlan,
 use Rattle.stages.specs.Stages.{chunkNext, tailNext, headNext, toldOf, requestOf, liesIn as liesInBounce, isSound}
 use Rattle.dock.specs.Dock.{vacant, fresh, openOf, openProfileOf, lentFits, lentOf, isOutBy, isOut}
 use Rattle.dock.specs.Dock.{meetsOf, meetsAt, overlapsOf, firstFree}
-use Rattle.dock.specs.Begin.{sourceOf, sourceFits, mergedAt, filled, blockersWith, placedAt}
-use Rattle.dock.specs.Begin.{beginReadOf, beginWriteOf, beginZeroesOf, beginDiscardOf, beginOf}
+use Rattle.dock.specs.Begin.{sourceOf, sourceFits, mergedAt, filled, blockersWith, enterAt, beginOf}
 use Rattle.dock.specs.Next.{nextOf, isKeptBy, isKept, pieceOf, partOf}
-use Rattle.dock.specs.Tell.{blockersWithout, copiedAt, handed, staysOf, endsOf, entersOf, tellAt, tellOf, collectOf}
+use Rattle.dock.specs.Tell.{blockersWithout, copiedAt, handed, endsAt, entersAt, answeredOf, toldAt, tellOf, collectOf}
 
 unfoldable pub computing : Unit {0}
-unfolding fits isMultiple roundDown roundUp sumOf upOf anyBelow
+unfolding numberOf fits isMultiple roundDown roundUp sumOf upOf anyBelow
     isAlignment alignmentsFit lengthAlign bounceFits settingsFit buffersFit openingOf profiles profileOf
     paddedStart roundedEnd paddedLength paddingFits spanOf paddedOf paddingOf isDirect transferOf readsOf isRead
     cutFits hasMiddle cutOf zeroCutOf discardCutOf chunkLength chunkOf
@@ -29,7 +29,7 @@ unfolding fits isMultiple roundDown roundUp sumOf upOf anyBelow
     directStage paddedStage firstPhase readPlan writePlan zeroesPlan zeroPlan discardPlan
     chunkNext tailNext headNext toldOf requestOf liesInBounce isSound
     vacant fresh openOf openProfileOf lentFits lentOf isOutBy isOut meetsOf meetsAt overlapsOf firstFree
-    sourceOf sourceFits mergedAt filled blockersWith placedAt beginReadOf beginWriteOf beginZeroesOf beginDiscardOf beginOf
+    sourceOf sourceFits mergedAt filled blockersWith enterAt beginOf
     nextOf isKeptBy isKept pieceOf partOf
-    blockersWithout copiedAt handed staysOf endsOf entersOf tellAt tellOf collectOf
+    blockersWithout copiedAt handed endsAt entersAt answeredOf toldAt tellOf collectOf
 computing = tt

@@ -1,16 +1,17 @@
 -- What a seated job's calls rely on: which jobs are seated, what is filled and copied out then, and how a begin is decided. Assumes nothing.
 use mathlib.Core.Path.{_≡_, refl, sym, ap, _∙_}
 use mathlib.Core.Bool.{Bool, true, false, _&&_, _||_}
-use mathlib.Core.List.{List}
-use Prim.Native.Nat.{ℕ, _+_, _*_, _<_}
+use mathlib.Core.List.{List, [], _∷_}
+use Prim.Native.Nat.{ℕ, zero, suc, _+_, _*_, _<_}
 use native.Mathlib.Numerals.{add-one}
 use native.Mathlib.Omega.{arith}
 use lib.Dec.{leb, ltb, eqb}
-use lib.ListN.{length}
+use lib.ListN.{length, getD}
 use borrow.Author.Tests.{ltb-true, lt-ltb, le-leb}
 use Rattle.arithmetic.specs.Rounding.{pick}
+use Rattle.arithmetic.specs.Refusals.{whenDone}
 use Rattle.arithmetic.specs.Loops.{anyBelow}
-use Rattle.arithmetic.specs.declared.refusals.Refusal.the-variants.{Overlap, Full, NoAnswer}
+use Rattle.arithmetic.specs.declared.refusals.Refusal.the-variants.{Overlap, Full, Buffer, NoAnswer}
 use Rattle.arithmetic.specs.declared.refusals.Outcome.{Outcome}
 use Rattle.arithmetic.specs.declared.refusals.Outcome.the-variants.{Done, Refused}
 use Rattle.arithmetic.specs.Settings.{openingOf}
@@ -20,7 +21,7 @@ use Rattle.arithmetic.specs.declared.settings.Buffers.{Buffers}
 use Rattle.arithmetic.specs.declared.offsets.StoreOffset.{StoreOffset}
 use Rattle.vectors.specs.Vectors.{isValid}
 use Rattle.vectors.specs.declared.vector.IoVector.{IoVector}
-use Rattle.stages.specs.Stages.{isSound, toldOf}
+use Rattle.stages.specs.Stages.{isFree, isSound, toldOf}
 use Rattle.stages.specs.Laws.{told-stays, told-enters, read-opens, write-opens, zero-opens, discard-opens}
 use Rattle.stages.specs.declared.state.Job.{Job}
 use Rattle.stages.specs.declared.state.Job.the-variants.{Read, Write, Zeroes, AllocatedZeroes, Discard}
@@ -29,12 +30,11 @@ use Rattle.stages.specs.declared.told.Step.{Step}
 use Rattle.stages.specs.declared.told.Step.the-variants.{Stays, Ends, Enters}
 use Rattle.stages.specs.declared.plan.Plan.{Plan}
 use Rattle.stages.specs.declared.plan.Plan.the-variants.{Done as NothingToDo, Started, Refused as PlanRefused}
-use Rattle.dock.specs.Dock.{lentFits, lentBy, lentOf, meetsAt, meetsItself, overlapsOf, firstFree}
-use Rattle.dock.specs.Begin.{Filled, fills, isBouncedWrite, merged, filled, Begins, movedOf, planOf, beginOf}
+use Rattle.dock.specs.Dock.{noState, lentFits, lentOf, meetsAt, meetsItself, overlapsOf, firstFree}
+use Rattle.dock.specs.Begin.{Filled, fills, isBouncedWrite, merged, filled, decidedOf, admitAt, seated, movedOf, planOf, beginOf}
 use Rattle.dock.specs.Next.{isKeptBy, isSeated}
-use Rattle.dock.specs.Tell.{Handed, hands, isBouncedRead, copiedOut, handed}
-use Rattle.dock.specs.Slots.{filledShare, handedShare, decidedOf, admitAt, PlanSeated, seated, answeredOf, StepSeated}
-use Rattle.dock.specs.SlotLaws.{begin-seated}
+use Rattle.dock.specs.Tell.{Handed, hands, isBouncedRead, copiedOut, handed, answeredOf}
+use Rattle.dock.specs.Slots.{filledShare, handedShare, PlanSeated, StepSeated}
 use Rattle.dock.specs.declared.dock.Dock.{Dock}
 use Rattle.dock.specs.declared.begin.Asked.{Asked}
 use Rattle.dock.specs.declared.tell.Answered.the-variants.{Leads, Refused as NoLead}
@@ -113,6 +113,35 @@ pub met-all : (xs : List State) (vs : List IoVector) (j : Job) (v : IoVector) (m
 unfolding overlapsOf
 met-all xs vs j v met i h e = e ∙ ap (λ (n : ℕ). meetsItself j v || anyBelow n (meetsAt xs vs j v)) h
 
+-- ---- the lowest free slot
+
+-- none of the first i slots is free
+abbrev pub NoneFree : List State → ℕ → Type 0
+NoneFree xs i = (k : ℕ) → k < i → isFree (getD xs k noState .phase) ≡ false
+
+pub lowest-here : (xs : List State) (i : ℕ) → NoneFree xs i → i < length xs → isFree (getD xs i noState .phase) ≡ true → i ≡ firstFree xs
+unfolding firstFree
+lowest-here [] i f h e = absurd (omega arith)
+lowest-here (x ∷ xs) zero f h e = simp e
+lowest-here (x ∷ xs) (suc i) f h e = simp (f 0 (omega arith)) (omega (arith, lowest-here xs i (λ k l. f (suc k) (omega arith)) (omega arith) e))
+
+pub lowest-none : (xs : List State) → NoneFree xs (length xs) → length xs ≡ firstFree xs
+unfolding firstFree
+lowest-none [] f = refl
+lowest-none (x ∷ xs) f = simp (f 0 (omega arith)) (omega (arith, lowest-none xs (λ k l. f (suc k) (omega arith))))
+
+-- it is free
+pub lowest-free : (xs : List State) → firstFree xs < length xs → isFree (getD xs (firstFree xs) noState .phase) ≡ true
+unfolding firstFree
+lowest-free [] h = absurd (omega arith)
+lowest-free (x ∷ xs) h = go (isFree (x .phase)) refl h (λ l. lowest-free xs l)
+  where
+    go : (t : Bool) → isFree (x .phase) ≡ t → pick t 0 (suc (firstFree xs)) < suc (length xs)
+        → (firstFree xs < length xs → isFree (getD xs (firstFree xs) noState .phase) ≡ true)
+        → isFree (getD (x ∷ xs) (pick t 0 (suc (firstFree xs))) noState .phase) ≡ true
+    go true e h f = e
+    go false e h f = f (omega arith)
+
 -- ---- a begin is decided
 
 -- the first stage of a plan is sound
@@ -123,28 +152,42 @@ plan-sound Zeroes s b o n v x e = zero-opens s o n false x e .sound
 plan-sound AllocatedZeroes s b o n v x e = zero-opens s o n true x e .sound
 plan-sound Discard s b o n v x e = discard-opens s o n x e .sound
 
--- a plan that was decided is done, was there before, and has its slot
-pub started : (l : Outcome) (t : Bool) (plan : Plan) (met : Bool) (f : ℕ) (x : State) → decidedOf l t plan met f ≡ Started x → (l ≡ Done) × (plan ≡ Started x) × (f < 8)
+-- a plan that was decided to start: nothing refused it, and it has its slot
+pub record Allowed (l : Outcome) (t : Bool) (plan : Plan) (met : Bool) (f : ℕ) (x : State) : Type 0 where
+  pub lent : l ≡ Done
+  pub valid : t ≡ true
+  pub planned : plan ≡ Started x
+  pub apart : met ≡ false
+  pub slot : f < 8
+
+pub started : (l : Outcome) (t : Bool) (plan : Plan) (met : Bool) (f : ℕ) (x : State) → decidedOf l t plan met f ≡ Started x → Allowed l t plan met f x
 started (Refused r) t plan met f x e = absurd (let z : _≡_ {A = ℕ} 0 1 = cc in omega arith)
 started Done false plan met f x e = absurd (let z : _≡_ {A = ℕ} 0 1 = cc in omega arith)
 started Done true NothingToDo met f x e = absurd (let z : _≡_ {A = ℕ} 0 1 = cc in omega arith)
 started Done true (PlanRefused r) met f x e = absurd (let z : _≡_ {A = ℕ} 0 1 = cc in omega arith)
 started Done true (Started y) met f x e = go met (ltb f 8) refl e
   where
-    go : (a u : Bool) → ltb f 8 ≡ u → pick a (PlanRefused Overlap) (pick u (Started y) (PlanRefused Full)) ≡ Started x → (Done ≡ Done) × (Started y ≡ Started x) × (f < 8)
+    go : (a u : Bool) → ltb f 8 ≡ u → pick a (PlanRefused Overlap) (pick u (Started y) (PlanRefused Full)) ≡ Started x → Allowed Done true (Started y) a f x
     go true u h e = absurd (let z : _≡_ {A = ℕ} 0 1 = cc in omega arith)
-    go false true h e = (refl, e, ltb-true f 8 h)
+    go false true h e = record { lent = refl; valid = refl; planned = e; apart = refl; slot = ltb-true f 8 h }
     go false false h e = absurd (let z : _≡_ {A = ℕ} 0 1 = cc in omega arith)
+
+-- what is lent fits: as at opening, and the lengths
+pub lent-done : (s : Settings) (b : Buffers) (m n : ℕ) → lentOf s b m n ≡ Done → (openingOf s b ≡ Done) × (lentFits b m n ≡ true)
+unfolding lentOf
+lent-done s b m n e = go (openingOf s b) (lentFits b m n) e
+  where
+    go : (o : Outcome) (t : Bool) → whenDone o (pick t Done (Refused Buffer)) Refused ≡ Done → (o ≡ Done) × (t ≡ true)
+    go Done true e = (refl, refl)
+    go Done false e = let z : _≡_ {A = ℕ} 0 1 = cc in absurd (omega arith)
+    go (Refused r) t e = let z : _≡_ {A = ℕ} 0 1 = cc in absurd (omega arith)
 
 -- over what a begin is lent, a job whose stage is sound is seated in a slot of the eight
 lent-seats : (s : Settings) (b : Buffers) (m n p : ℕ) (x : State) → lentOf s b m n ≡ Done → p < 8 → isSound (s .bounce) x ≡ true → isSeated p x s b n ≡ true
-unfolding lentOf lentFits isSeated isKeptBy
-lent-seats s b m n p x d h w = go (openingOf s b) refl (lentFits b m n) refl d
-  where
-    go : (o : Outcome) → openingOf s b ≡ o → (t : Bool) → lentFits b m n ≡ t → lentBy o t ≡ Done → isSeated p x s b n ≡ true
-    go Done e true q r = seated-here p x s b m n h q (simp w (le-leb (8 * s .bounce) (b .scratch .length) (omega (arith, opened s b e .room))))
-    go Done e false q r = let z : _≡_ {A = ℕ} 0 1 = cc in absurd (omega arith)
-    go (Refused y) e t q r = let z : _≡_ {A = ℕ} 0 1 = cc in absurd (omega arith)
+unfolding isSeated isKeptBy
+lent-seats s b m n p x d h w =
+    let k = lent-done s b m n d in
+    seated-here p x s b m n h (k .1) (simp w (le-leb (8 * s .bounce) (b .scratch .length) (omega (arith, opened s b (k .0) .room))))
 
 pub decided-seated : (j : Job) (s : Settings) (b : Buffers) (o : StoreOffset) (k : ℕ) (v : IoVector) (m n : ℕ) (l : Outcome) → l ≡ lentOf s b m n → (t : Bool) (plan : Plan) → plan ≡ planOf j s b o k v
     → (met : Bool) (f : ℕ) (q : Plan) → q ≡ decidedOf l t plan met f → PlanSeated f s b n q
@@ -152,24 +195,13 @@ decided-seated j s b o k v m n l le t plan pe met f NothingToDo e = tt
 decided-seated j s b o k v m n l le t plan pe met f (PlanRefused r) e = tt
 decided-seated j s b o k v m n l le t plan pe met f (Started x) e =
     let w = started l t plan met f x (sym e) in
-    lent-seats s b m n f x (sym le ∙ w .0) (w .2) (plan-sound j s b o k v x (sym pe ∙ w .1))
+    lent-seats s b m n f x (sym le ∙ w .lent) (w .slot) (plan-sound j s b o k v x (sym pe ∙ w .planned))
 
 -- what is asked, planned, decided and admitted, each as its definition says, is begun
 module _ (d : Dock) (q : Asked) (memory scratch : List ℕ) (v : IoVector) (ve : v ≡ movedOf (q .job) (q .vector)) (met : Bool) (me : met ≡ overlapsOf (d .states) (d .vectors) (q .job) v)
     (l : Outcome) (le : l ≡ lentOf (d .settings) (d .buffers) (length memory) (length scratch)) (f : ℕ) (fe : f ≡ firstFree (d .states))
     (plan : Plan) (pe : plan ≡ planOf (q .job) (d .settings) (d .buffers) (q .offset) (q .length) (q .vector)) (t : Bool) (te : t ≡ isValid (length memory) v)
     (r : Plan) (re : r ≡ decidedOf l t plan met f) where
-  abbrev by : IoVector → Outcome → Bool → Plan → Bool → ℕ → Begins
-  by v l t plan met f = seated d v (admitAt (d .blockers) f (d .settings .bounce) v memory scratch (decidedOf l t plan met f))
-
   pub begin-whole : seated d v (admitAt (d .blockers) f (d .settings .bounce) v memory scratch r) ≡ beginOf d q memory scratch
   unfolding beginOf
-  begin-whole =
-      ap (λ (z : Plan). seated d v (admitAt (d .blockers) f (d .settings .bounce) v memory scratch z)) re
-      ∙ ap (λ (z : Outcome). by v z t plan met f) le
-      ∙ ap (λ (z : Bool). by v (lentOf (d .settings) (d .buffers) (length memory) (length scratch)) z plan met f) te
-      ∙ ap (λ (z : Plan). by v (lentOf (d .settings) (d .buffers) (length memory) (length scratch)) (isValid (length memory) v) z met f) pe
-      ∙ ap (λ (z : Bool). by v (lentOf (d .settings) (d .buffers) (length memory) (length scratch)) (isValid (length memory) v) (planOf (q .job) (d .settings) (d .buffers) (q .offset) (q .length) (q .vector)) z f) me
-      ∙ ap (λ (z : ℕ). by v (lentOf (d .settings) (d .buffers) (length memory) (length scratch)) (isValid (length memory) v) (planOf (q .job) (d .settings) (d .buffers) (q .offset) (q .length) (q .vector)) (overlapsOf (d .states) (d .vectors) (q .job) v) z) fe
-      ∙ ap (λ (z : IoVector). by z (lentOf (d .settings) (d .buffers) (length memory) (length scratch)) (isValid (length memory) z) (planOf (q .job) (d .settings) (d .buffers) (q .offset) (q .length) (q .vector)) (overlapsOf (d .states) (d .vectors) (q .job) z) (firstFree (d .states))) ve
-      ∙ begin-seated d memory scratch (q .job) (q .offset) (q .length) (q .vector)
+  begin-whole = cc

@@ -24,8 +24,7 @@ ghost use mathlib.Core.Bool.{true};
 ghost use Prim.Native.Nat.{_<_};
 ghost use lib.ListN.{length};
 ghost use Rattle.dock.specs.Begin.{InShare};
-ghost use Rattle.dock.specs.Tell.{tells, blockersWithout, tellOf, collectOf};
-ghost use Rattle.dock.specs.Slots.{steps, StepInShare, unstepped, staysAt, endsAt, entersAt, steppedAt, answeredOf, toldAt};
+ghost use Rattle.dock.specs.Tell.{tells, blockersWithout, tellOf, collectOf, steps, StepInShare, unstepped, staysAt, endsAt, entersAt, steppedAt, answeredOf, toldAt};
 ghost use Rattle.dock.specs.Dock.{lentFits};
 
 pub struct Telling {

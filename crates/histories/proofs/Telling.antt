@@ -42,10 +42,10 @@ use Rattle.stages.specs.declared.told.Step.{Step}
 use Rattle.stages.specs.declared.told.Step.the-variants.{Stays, Ends, Enters}
 use Rattle.dock.specs.Dock.{noState, noVector, vacant, stateAt, vectorAt, lentFits, isReadJob}
 use Rattle.dock.specs.Begin.{isWriteJob, sourceOf, filled}
-use Rattle.dock.specs.Tell.{blockersWithout, copiedAt, isBouncedRead, handed, entered, after}
+use Rattle.dock.specs.Tell.{blockersWithout, copiedAt, isBouncedRead, handed}
 use Rattle.histories.specs.Courses.{isZeroJob, isDiscardJob, hasVector, isLast, isMiddle, puts, suits, isRegular, suited, never, enters-regular}
 use Rattle.histories.specs.Held.{Held, SlotOf}
-use Rattle.histories.specs.Calls.{read-no-write, write-vector, read-vector, direct-reads, bounced-reads, pending-taken, copied, told-held}
+use Rattle.histories.specs.Calls.{read-no-write, write-vector, read-vector, direct-reads, bounced-reads, pending-taken, copied, told-held, entered, after}
 use Rattle.histories.specs.Keeping.{Changes, leave-changes}
 use Rattle.histories.specs.MadeLaws.{data-long}
 use Rattle.histories.specs.Store.{Bytes}

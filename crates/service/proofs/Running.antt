@@ -94,19 +94,11 @@ module _ (d : Dock) (p m n : ℕ) (h : p < 8) where
   unfolding nextOf
   free-slot l f = rw (l, lt-ltb p 8 h, f)
 
--- the first of a list that is free
-pub first-at : (xs : List State) (r : ℕ) → r < length xs → isFree (getD xs r noState .phase) ≡ true
-    → ((k : ℕ) → k < r → isFree (getD xs k noState .phase) ≡ false) → r ≡ firstFree xs
-unfolding firstFree
-first-at [] r h e f = absurd (omega arith)
-first-at (x ∷ xs) zero h e f = simp e
-first-at (x ∷ xs) (suc r) h e f = simp (f 0 (omega arith)) (omega (arith, first-at xs r (omega arith) e (λ k l. f (suc k) (omega arith))))
-
 -- the first of the eight slots that `next` refuses for being free is the lowest free one
 pub first-refused : (d : Dock) (m n r : ℕ) → length (d .states) ≡ 8 → r < 8 → nextOf d r m n ≡ Refused Slot
     → ((k : ℕ) → k < r → nextOf d k m n ≡ Refused Slot → ⊥) → r ≡ firstFree (d .states)
 first-refused d m n r l h e f =
-    first-at (d .states) r (omega arith) (slot-free d r m n h e .1) (λ k i. taken (isFree (stateAt d k .phase)) (λ t. f k i (free-slot d k m n (omega arith) (slot-free d r m n h e .0) t)))
+    lowest-here (d .states) r (λ k i. taken (isFree (stateAt d k .phase)) (λ t. f k i (free-slot d k m n (omega arith) (slot-free d r m n h e .0) t))) (omega arith) (slot-free d r m n h e .1)
   where
     taken : (t : Bool) → (t ≡ true → ⊥) → t ≡ false
     taken true g = absurd (g refl)

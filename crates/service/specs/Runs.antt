@@ -1,33 +1,23 @@
 -- The run of a fleet, as document 01's list of events: nothing but begins, carries with the tells of their codes, and collects changes the dock, the
 -- data or the scratch.
 use mathlib.Core.List.{List, [], _∷_}
-use mathlib.Core.Bool.{Bool, true, false}
 use mathlib.Core.Path.{_≡_, sym, ap, _∙_}
 use Prim.Native.Nat.{ℕ, _+_, _*_, _≤_, _<_}
 use native.Mathlib.Omega.{arith}
-use lib.Dec.{ltb}
 use lib.ListN.{length, take, drop}
-use Rattle.arithmetic.specs.Rounding.{pick}
-use Rattle.arithmetic.specs.declared.offsets.StoreOffset.{StoreOffset}
-use Rattle.arithmetic.specs.declared.refusals.Refusal.{Refusal}
-use Rattle.arithmetic.specs.declared.refusals.Refusal.the-variants.{Segment, Overlap, Full}
 use Rattle.arithmetic.specs.declared.refusals.Outcome.{Outcome}
 use Rattle.arithmetic.specs.declared.refusals.Outcome.the-variants.{Done, Refused}
 use Rattle.vectors.specs.declared.vector.IoVector.{IoVector}
-use Rattle.vectors.specs.Vectors.{segmentsOf, vectorOf, isValid, alignmentOf}
-use Rattle.stages.specs.Stages.{readPlan, writePlan, zeroPlan, discardPlan}
+use Rattle.vectors.specs.Vectors.{segmentsOf}
 use Rattle.stages.specs.declared.state.Request.{Request}
-use Rattle.stages.specs.declared.state.Job.{Job}
-use Rattle.stages.specs.declared.state.Job.the-variants.{Read, Write, Zeroes, AllocatedZeroes, Discard}
-use Rattle.stages.specs.declared.state.State.{State}
 use Rattle.stages.specs.declared.plan.Plan.{Plan}
 use Rattle.stages.specs.declared.plan.Plan.the-variants.{Done as NothingToDo, Started, Refused as PlanRefused}
 use Rattle.dock.specs.declared.dock.Dock.{Dock}
 use Rattle.dock.specs.declared.begin.Asked.{Asked}
 use Rattle.dock.specs.declared.begin.Begun.{Begun}
 use Rattle.dock.specs.declared.begin.Begun.the-variants.{Placed}
-use Rattle.dock.specs.Begin.{Begins as Began, begins, blockersWith, filled, thenDo, onlyIf, placed, placedAt, refusedBegin, begunBy, isAligned, beginReadOf, beginWriteOf, beginZeroesOf, beginDiscardOf, beginBy, beginOf}
-use Rattle.dock.specs.Dock.{lentOf, shareAt, overlapsOf, firstFree}
+use Rattle.dock.specs.Begin.{Begins as Began, begins, enterAt, admitBy, admitAt, seated as placedIn, vectorFor, decidedFor, beginOf}
+use Rattle.dock.specs.Dock.{firstFree}
 use Rattle.dock.specs.Tell.{collectOf}
 use Rattle.words.specs.View.{dockOf}
 use Rattle.images.specs.Carrying.{Attended}
@@ -106,46 +96,21 @@ abbrev Seats : Dock → Began → Type 0
 Seats d b = (p : ℕ) → b .answer ≡ Placed p → p ≡ firstFree (d .states)
 
 module _ (d : Dock) (memory scratch : List ℕ) where
-  refused : (r : Refusal) → Seats d (refusedBegin d scratch r)
-  refused r p e = let z : _≡_ {A = ℕ} 0 1 = cc in absurd (omega arith)
+  abbrev F : ℕ
+  F = firstFree (d .states)
 
-  only : (o : Outcome) (k : Began) → Seats d k → Seats d (onlyIf d scratch o k)
-  only Done k f = f
-  only (Refused r) k f = refused r
-
-  either : (t : Bool) (k i : Began) → Seats d k → Seats d i → Seats d (pick t k i)
-  either true k i f g = f
-  either false k i f g = g
-
-  lowest : (x : State) (v : IoVector) → Seats d (placedAt d (firstFree (d .states)) x v memory scratch)
-  unfolding placedAt
-  lowest x v =
-      only (thenDo (blockersWith (d .blockers) (firstFree (d .states)) x .outcome) (filled (shareAt d (firstFree (d .states))) x v memory scratch .outcome))
-      (placed d (firstFree (d .states)) x v memory scratch)
-      (λ p e. cc)
-
-  planned : (j : Job) (v : IoVector) (plan : Plan) → Seats d (begunBy d j v memory scratch plan)
-  planned j v NothingToDo = λ p e. let z : _≡_ {A = ℕ} 0 1 = cc in absurd (omega arith)
-  planned j v (PlanRefused r) = refused r
-  planned j v (Started x) = either (overlapsOf (d .states) (d .vectors) j v) _ _ (refused Overlap) (either (ltb (firstFree (d .states)) 8) _ _ (lowest x v) (refused Full))
-
-  abbrev lent : Outcome
-  lent = lentOf (d .settings) (d .buffers) (length memory) (length scratch)
-
-  abbrev aligned : IoVector → Bool
-  aligned v = isAligned (alignmentOf (d .settings .align) (d .buffers .«data») v)
-
-  by-job : (j : Job) (o : StoreOffset) (n : ℕ) (v : IoVector) → Seats d (beginBy j d o n v memory scratch)
-  unfolding beginReadOf beginWriteOf beginZeroesOf beginDiscardOf
-  by-job Read o n v = only lent _ (either (isValid (length memory) v) _ _ (planned Read v (readPlan (d .settings) o (v .total) (aligned v))) (refused Segment))
-  by-job Write o n v = only lent _ (either (isValid (length memory) v) _ _ (planned Write v (writePlan (d .settings) o (v .total) (aligned v))) (refused Segment))
-  by-job Zeroes o n v = only lent _ (planned Zeroes (vectorOf []) (zeroPlan (d .settings) false o n))
-  by-job AllocatedZeroes o n v = only lent _ (planned Zeroes (vectorOf []) (zeroPlan (d .settings) true o n))
-  by-job Discard o n v = only lent _ (planned Discard (vectorOf []) (discardPlan (d .settings) o n))
+  admitted : (v : IoVector) (plan : Plan) → Seats d (placedIn d v (admitAt (d .blockers) F (d .settings .bounce) v memory scratch plan))
+  admitted v NothingToDo = λ p e. let z : _≡_ {A = ℕ} 0 1 = cc in absurd (omega arith)
+  admitted v (PlanRefused r) = λ p e. let z : _≡_ {A = ℕ} 0 1 = cc in absurd (omega arith)
+  admitted v (Started x) = go (enterAt (d .blockers) F (F * d .settings .bounce) x v memory scratch .outcome)
+    where
+      go : (o : Outcome) → Seats d (placedIn d v (admitBy o (d .blockers) F x (enterAt (d .blockers) F (F * d .settings .bounce) x v memory scratch)))
+      go Done = λ p e. cc
+      go (Refused r) = λ p e. let z : _≡_ {A = ℕ} 0 1 = cc in absurd (omega arith)
 
   by-asked : (q : Asked) → Seats d (beginOf d q memory scratch)
   unfolding beginOf
-  by-asked q = by-job (q .job) (q .offset) (q .length) (q .vector)
+  by-asked q = admitted (vectorFor q) (decidedFor d q (length memory) (length scratch))
 
 -- it is the slot whose part has the job's bytes
 pub seated : {w w' : Held} (b : Begins w w') (p : ℕ) → b .answer ≡ Placed p → p ≡ b .slot

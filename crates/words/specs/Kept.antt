@@ -1,30 +1,25 @@
 -- What a call leaves in lent words, and what it should: a tell's step kept in its slot, a begin's job placed there. Held beside the dock by
 -- `told-kept` and `begun-placed` of KeptLaws.
-use mathlib.Core.Bool.{Bool, true, false}
 use mathlib.Core.List.{List}
 use Prim.Native.Nat.{ℕ}
 use lib.ListN.{set}
+use Rattle.arithmetic.specs.Refusals.{whenDone}
 use Rattle.arithmetic.specs.declared.refusals.Outcome.{Outcome}
 use Rattle.arithmetic.specs.declared.refusals.Outcome.the-variants.{Done, Refused}
 use Rattle.vectors.specs.declared.vector.IoVector.{IoVector}
 use Rattle.blockers.specs.declared.Blockers.{Blockers}
 use Rattle.stages.specs.declared.state.State.{State}
-use Rattle.dock.specs.Begin.{thenDo, blockersWith}
-use Rattle.dock.specs.Tell.{blockersWithout}
-use Rattle.dock.specs.Slots.{Stepped, Admitted}
+use Rattle.dock.specs.Begin.{blockersWith, Admitted}
+use Rattle.dock.specs.Tell.{blockersWithout, Stepped}
 use Rattle.dock.specs.declared.begin.Begun.{Begun}
 use Rattle.dock.specs.declared.begin.Begun.the-variants.{Done as NoRequest, Placed, Refused as BeginRefused}
 use Rattle.words.specs.View.{blockersOf, statesOf, vectorsOf}
-
-abbrev pub isDone : Outcome → Bool
-isDone Done = true
-isDone (Refused r) = false
 
 -- ---- tell
 
 -- the blocker of slot p leaves for the stage of x, and enters for that of y: what comes of it
 abbrev pub changes : Blockers → ℕ → State → State → Outcome
-changes b p x y = thenDo (blockersWithout b p x .outcome) (blockersWith (blockersWithout b p x .blockers) p y .outcome)
+changes b p x y = whenDone (blockersWithout b p x .outcome) (blockersWith (blockersWithout b p x .blockers) p y .outcome) Refused
 
 pub record Kept : Type 0 where
   pub outcome : Outcome
@@ -39,8 +34,9 @@ keeps o b x memory scratch = record { outcome = o; blockers = blockersOf b; stat
 
 -- a step of slot p, kept where it is done
 abbrev pub keptBy : Outcome → Blockers → List State → ℕ → Stepped → Kept
-keptBy Done b xs p t = record { outcome = Done; blockers = t .blockers; states = set xs p (t .state); memory = t .memory; scratch = t .scratch }
-keptBy (Refused r) b xs p t = record { outcome = Refused r; blockers = b; states = xs; memory = t .memory; scratch = t .scratch }
+keptBy o b xs p t =
+    whenDone o (record { outcome = Done; blockers = t .blockers; states = set xs p (t .state); memory = t .memory; scratch = t .scratch })
+    (λ r. record { outcome = Refused r; blockers = b; states = xs; memory = t .memory; scratch = t .scratch })
 
 abbrev pub kept : Blockers → List State → ℕ → Stepped → Kept
 kept b xs p t = keptBy (t .outcome) b xs p t

@@ -27,7 +27,8 @@ ghost use lib.ListN.{length};
 ghost use Rattle.stages.specs.declared.plan.Plan.the-variants.{Started};
 ghost use Rattle.dock.specs.Dock.{meetsAt, overlapsOf};
 ghost use Rattle.dock.specs.Next.{isSeated};
-ghost use Rattle.dock.specs.Slots.{admitAt, PlanSeated};
+ghost use Rattle.dock.specs.Slots.{PlanSeated};
+ghost use Rattle.dock.specs.Begin.{admitAt};
 ghost use Rattle.words.specs.View.{blockersOf, statesOf, vectorsOf};
 ghost use Rattle.words.specs.Kept.{seats, placedIn};
 

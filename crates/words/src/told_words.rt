@@ -28,8 +28,8 @@ ghost use lib.ListN.{length, getD};
 ghost use Rattle.dock.specs.Dock.{isOutBy, lentFits, noVector};
 ghost use Rattle.dock.specs.Begin.{fills};
 ghost use Rattle.dock.specs.Next.{isSeated};
-ghost use Rattle.dock.specs.Tell.{hands};
-ghost use Rattle.dock.specs.Slots.{filledShare, handedShare, staysAt, endsAt, entersAt, steppedAt, toldAt, StepSeated};
+ghost use Rattle.dock.specs.Tell.{hands, staysAt, endsAt, entersAt, steppedAt, toldAt};
+ghost use Rattle.dock.specs.Slots.{filledShare, handedShare, StepSeated};
 ghost use Rattle.words.specs.View.{blockersOf, statesOf, vectorsOf};
 ghost use Rattle.words.specs.Kept.{keeps, kept};
 

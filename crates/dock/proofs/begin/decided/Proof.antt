@@ -15,7 +15,7 @@ use Rattle.arithmetic.specs.declared.refusals.Outcome.the-variants.{Done}
 use Rattle.stages.specs.declared.state.State.{State}
 use Rattle.stages.specs.declared.plan.Plan.{Plan}
 use Rattle.stages.specs.declared.plan.Plan.the-variants.{Done as NothingToDo, Started, Refused}
-use Rattle.dock.specs.Slots.{allowedBy, decidedOf}
+use Rattle.dock.specs.Begin.{allowedBy, decidedOf}
 use borrow.Author.Needs.{needs}
 use Rattle.dock.proofs.begin.decided.Statement.{statement}
 use Rattle.dock.proofs.begin.decided.Tie as tie

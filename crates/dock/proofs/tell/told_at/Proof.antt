@@ -1,7 +1,7 @@
 -- `dock::tell::told_at` meets its contract: 208 where the request is not out or the job not kept, else what the code leads to, whose bytes lie in the share. Assumes nothing.
 use denote.Ref.{now}
 use mathlib.Core.Path.{sym, ap, _∙_}
-use Rattle.dock.specs.Slots.{steps}
+use Rattle.dock.specs.Tell.{steps}
 use Rattle.dock.specs.declared.tell.Stepping.{Stepping}
 use native.Mathlib.Omega.{arith}
 use borrow.Author.Tests.{not-true, not-false}

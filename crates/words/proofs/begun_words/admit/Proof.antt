@@ -1,7 +1,7 @@
 -- `words::begun_words::admit` meets its contract: each plan by its case of the definition. Assumes nothing.
 use mathlib.Core.Path.{sym, ap, _∙_}
 use Rattle.stages.specs.declared.plan.Plan.{Plan}
-use Rattle.dock.specs.Slots.{admitAt}
+use Rattle.dock.specs.Begin.{admitAt}
 use Rattle.words.specs.View.{blockersOf, statesOf, vectorsOf}
 use Rattle.words.specs.Kept.{placedIn}
 use Rattle.words.proofs.Begun.{seated-slot}
