@@ -193,7 +193,7 @@ final-zero a e = cc
 refused-final : {A : Type 0} {r : Refusal} → _≡_ {A = Collected} (NotCollected r) (Final 0) → A
 refused-final e = let z : _≡_ {A = ℕ} 0 1 = cc in absurd (omega arith)
 
-module _ (w : World) (m : Plain) (I : Inv w m) (l : Lends) (lent : LentOf w l) where
+module _ (w : World) (m : Plain) (I : Inv w m) (l : Lends) (lent : LentOf w m l) where
   -- buffers of other lengths: 205
   lent-other : fitsLent w l ≡ false → lentOf (w .dock .settings) (w .dock .buffers) (length (l .memory)) (length (l .scratch)) ≡ Refused Buffer
   unfolding lentOf
@@ -329,20 +329,20 @@ carry-event w m I p code c (some q) e = carried-inv w m I p q (out-of w p q e) c
 
 -- ---- every event
 
-step-keeps : (w : World) (m : Plain) → Inv w m → (e : Event) → Allowed w e → Inv (step w e) (plainStep m (fed w e))
+step-keeps : (w : World) (m : Plain) → Inv w m → (e : Event) → Allowed w m e → Inv (step w e) (plainStep m (fed w e))
 unfolding step fed plainStep
 step-keeps w m I (begins q l) a = begin-event w m I l a q
 step-keeps w m I (carries p code c) a = carry-event w m I p code c (outIn w p) refl
 step-keeps w m I (tells p code l) a = tell-event w m I l (a .0) p code (a .1)
 step-keeps w m I (collects p l) a = collect-event w m I l a p
 
-owed-at : (w : World) (m : Plain) → Inv w m → (e : Event) → Allowed w e → Owed w m e
+owed-at : (w : World) (m : Plain) → Inv w m → (e : Event) → Allowed w m e → Owed w m e
 owed-at w m I (begins q l) a = tt
 owed-at w m I (carries p code c) a = tt
 owed-at w m I (tells p code l) a = tt
 owed-at w m I (collects p l) a = owed-at-collect w m I l a p
 
-claimed : (w : World) (m : Plain) → Inv w m → (es : List Event) → Lawful w es → Claim w m es
+claimed : (w : World) (m : Plain) → Inv w m → (es : List Event) → Lawful w m es → Claim w m es
 claimed w m I [] k = I .same
 claimed w m I (e ∷ es) k = (I .same, owed-at w m I e (k .0), claimed (step w e) (plainStep m (fed w e)) (step-keeps w m I e (k .0)) es (k .1))
 

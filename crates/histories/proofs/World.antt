@@ -1,9 +1,9 @@
 -- The invariant of the two sides, slot by slot and pair by pair; that a slot keeps it where others change; that lending other data keeps it; and who waits as others enter and leave. Assumes nothing.
-use mathlib.Core.Path.{_≡_, refl, sym, ap, _∙_}
+use mathlib.Core.Path.{_≡_, refl, sym, ap, _∙_, subst}
 use mathlib.Core.Bool.{Bool, true, false}
 use mathlib.Core.Logic.{_≢_}
 use mathlib.Core.List.{List}
-use mathlib.Core.Option.{none, some}
+use mathlib.Core.Option.{Option, none, some}
 use Prim.Native.Nat.{ℕ, _+_, _*_, _<_, _≤_}
 use native.Mathlib.Omega.{arith}
 use native.Mathlib.Decide.{ℕ-discrete}
@@ -16,7 +16,9 @@ use Rattle.arithmetic.specs.declared.settings.Buffers.{Buffers}
 use Rattle.arithmetic.specs.declared.offsets.Range.{Range}
 use Rattle.arithmetic.specs.declared.refusals.Outcome.the-variants.{Done}
 use Rattle.vectors.specs.Vectors.{liesIn, allSegments, segmentsOf, bytesOf, overlapOf, selfOverlapOf}
+use Rattle.vectors.specs.Places.{covered}
 use Rattle.vectors.specs.SegmentLaws.{valid}
+use Rattle.vectors.specs.declared.vector.IoVector.{IoVector}
 use Rattle.blockers.specs.Blockers.{overlaps, isEntered, present, blockerAt, enteredOf, leftOf, hasNoted, waitsOf}
 use Rattle.blockers.specs.Reached.{Reached, Entered}
 use Rattle.blockers.specs.Laws.{entered-other, left-kind, left-note, left-notes, waits-here, waits-for}
@@ -33,7 +35,7 @@ use Rattle.histories.specs.Held.{SlotOf, Held}
 use Rattle.histories.specs.MadeLaws.{data-long}
 use Rattle.histories.specs.Store.{inRange}
 use Rattle.histories.specs.PlainStore.{Tracked, Plain}
-use Rattle.histories.specs.Histories.{Lends, World, fitsLent, LentOf, Same, called}
+use Rattle.histories.specs.Histories.{Lends, World, fitsLent, dataOf, LentOf, Same, called}
 use Rattle.histories.proofs.Lists.{bytes-agree}
 use Rattle.histories.proofs.Invariant.{share, Flight, flight-frame}
 
@@ -117,12 +119,18 @@ module _ (w w' : World) (m m' : Plain) (I : Inv w m) (q : ℕ) (h : q < 8)
 abbrev pub withData : World → List ℕ → World
 withData w memory = called w (w .dock) memory (w .scratch)
 
-module _ (w : World) (m : Plain) (I : Inv w m) (l : Lends) (fit : fitsLent w l ≡ true) (lent : LentOf w l) where
+module _ (w : World) (m : Plain) (I : Inv w m) (l : Lends) (fit : fitsLent w l ≡ true) (lent : LentOf w m l) where
   pub lent-scratch : l .scratch ≡ w .scratch
   lent-scratch = lent fit .0
 
   lent-long : length (l .memory) ≡ length (w .memory)
   lent-long = data-long (w .dock .buffers) (length (l .memory)) (length (l .scratch)) fit ∙ sym (data-long (w .dock .buffers) (length (w .memory)) (length (w .scratch)) (I .long))
+
+  -- the dock's vector is the one that was handed to begin
+  in-flight : (q : ℕ) → q < 8 → Taken (w .dock) q → (k : ℕ) → covered (segmentsOf (vectorAt (w .dock) q)) k ≡ true → covered (dataOf (m .jobs q)) k ≡ true
+  in-flight q h f k c =
+      let t = I .slots q h .tracks f in
+      subst (λ (o : Option Tracked). covered (dataOf o) k ≡ true) (sym (t .is)) (subst (λ (v : IoVector). covered (segmentsOf v) k ≡ true) (sym (t .flight .asked .vector)) c)
 
   pub lent-keeps : Inv (withData w (l .memory)) m
   lent-keeps = record {
@@ -133,7 +141,7 @@ module _ (w : World) (m : Plain) (I : Inv w m) (l : Lends) (fit : fitsLent w l �
     buffers = I .buffers;
     slots = λ q h.
         slot-frame w (withData w (l .memory)) m m I q h refl refl refl refl refl
-        (λ f u. bytes-agree (l .memory) (w .memory) (segmentsOf (vectorAt (w .dock) q)) lent-long (rw lent-long (segments-lie w m I q h f u)) (λ k c. lent fit .1 q k h f c))
+        (λ f u. bytes-agree (l .memory) (w .memory) (segmentsOf (vectorAt (w .dock) q)) lent-long (rw lent-long (segments-lie w m I q h f u)) (λ k c. lent fit .1 q k (in-flight q h f k c)))
         (λ i k. refl) (λ a b c i k. refl) (λ e. e);
     apart = I .apart;
     alone = I .alone;

@@ -72,42 +72,44 @@ abbrev pub allAllowed : World → List Act → Bool
 allAllowed w [] = true
 allAllowed w (a ∷ rest) = isAllowed w a && allAllowed (step w (eventOf w a)) rest
 
-lent-own : (w : World) → LentOf w (own w)
-lent-own w e = (refl, λ p k h f c. refl)
+lent-own : (w : World) (m : Plain) → LentOf w m (own w)
+lent-own w m e = (refl, λ p k c. refl)
 
 code-of : (o : Option ℕ) (code : ℕ) → isCode o code ≡ true → CodeOf o code
 code-of none code e = absurd (false≢true e)
 code-of (some c) code e = eqb-true c code e
 
 -- other buffers may be lent where they do not fit: 205
-lent-other : (w : World) (l : Lends) → not (fitsLent w l) ≡ true → LentOf w l
-lent-other w l e f = absurd (false≢true (sym (ap not f) ∙ e))
+lent-other : (w : World) (m : Plain) (l : Lends) → not (fitsLent w l) ≡ true → LentOf w m l
+lent-other w m l e f = absurd (false≢true (sym (ap not f) ∙ e))
 
 hands-in : (w : World) (p code : ℕ) → isAllowed w (tell p code) ≡ true → HandsIn w p code (own w)
 hands-in w p code e d = code-of (w .carried p) code (rw d at e)
 
 -- a lawful list extends by each kind of event: a tell that is accepted by the code of its carry, every other in any state
-pub allowed : (w : World) (a : Act) → isAllowed w a ≡ true → Allowed w (eventOf w a)
-allowed w (begin q) e = lent-own w
-allowed w (begin-lent l q) e = lent-other w l e
-allowed w (carry p code c) e = tt
-allowed w (tell p code) e = (lent-own w, hands-in w p code e)
-allowed w (collect p) e = lent-own w
+pub allowed : (w : World) (m : Plain) (a : Act) → isAllowed w a ≡ true → Allowed w m (eventOf w a)
+allowed w m (begin q) e = lent-own w m
+allowed w m (begin-lent l q) e = lent-other w m l e
+allowed w m (carry p code c) e = tt
+allowed w m (tell p code) e = (lent-own w m, hands-in w p code e)
+allowed w m (collect p) e = lent-own w m
 
-pub lawful : (w : World) (rest : List Act) → allAllowed w rest ≡ true → Lawful w (eventsOf w rest)
-lawful w [] e = tt
-lawful w (a ∷ rest) e = (allowed w a (and-left _ _ e), lawful (step w (eventOf w a)) rest (and-right (isAllowed w a) _ e))
+pub lawful : (w : World) (m : Plain) (rest : List Act) → allAllowed w rest ≡ true → Lawful w m (eventsOf w rest)
+lawful w m [] e = tt
+lawful w m (a ∷ rest) e =
+    (allowed w m a (and-left _ _ e), lawful (step w (eventOf w a)) (plainStep m (fed w (eventOf w a))) rest (and-right (isAllowed w a) _ e))
 
 -- ---- a lawful list goes on
 
--- the real side after a list
-abbrev pub after : World → List Event → World
-after w [] = w
-after w (e ∷ es) = after (step w e) es
+-- the two sides after a list
+abbrev pub after : World → Plain → List Event → Sides
+after w m [] = record { real = w; plain = m }
+after w m (e ∷ es) = after (step w e) (plainStep m (fed w e)) es
 
-pub extends : (w : World) (es : List Event) (e : Event) → Lawful w es → Allowed (after w es) e → Lawful w (es ++ (e ∷ []))
-extends w [] e k a = (a, tt)
-extends w (d ∷ es) e k a = (k .0, extends (step w d) es e (k .1) a)
+pub extends : (w : World) (m : Plain) (es : List Event) (e : Event) → Lawful w m es → Allowed (after w m es .real) (after w m es .plain) e
+    → Lawful w m (es ++ (e ∷ []))
+extends w m [] e k a = (a, tt)
+extends w m (d ∷ es) e k a = (k .0, extends (step w d) (plainStep m (fed w d)) es e (k .1) a)
 
 -- ---- lists by computation
 

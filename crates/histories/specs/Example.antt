@@ -94,6 +94,10 @@ no-bytes = record { memory = []; scratch = [] }
 abbrev all-done : List Act
 all-done = jobs-done ++ (begin overlapping ∷ (begin-lent no-bytes overlapping ∷ []))
 
+-- and the seven collects
+abbrev pub whole-list : List Act
+whole-list = all-done ++ (collect 0 ∷ (collect 1 ∷ (collect 2 ∷ (collect 3 ∷ (collect 4 ∷ (collect 5 ∷ (collect 6 ∷ [])))))))
+
 abbrev begun : World → Asked → Lends → Begun
 begun w q l = beginOf (w .dock) q (l .memory) (l .scratch) .answer
 
@@ -130,8 +134,8 @@ pub record Computed : Type 0 where
   -- both reads hold what they yielded, and the bytes beside them are as they were
   pub holds : take 16 (drop 10 (run world plain all-done .real .memory))
       ≡ 3 ∷ 4 ∷ 5 ∷ 6 ∷ 77 ∷ 77 ∷ 9 ∷ 9 ∷ 31 ∷ 9 ∷ 9 ∷ 9 ∷ 9 ∷ 9 ∷ 77 ∷ 77 ∷ []
-  -- and the list is lawful
-  pub is-lawful : allAllowed world all-done ≡ true
+  -- and the list is lawful, with the collects
+  pub is-lawful : allAllowed world whole-list ≡ true
 
 pub computed : Computed
 unfolding computing-lists
@@ -154,13 +158,5 @@ computed = record {
   is-lawful = refl;
 }
 
--- the seven collects at the end too
-abbrev pub whole-list : List Act
-whole-list = all-done ++ (collect 0 ∷ (collect 1 ∷ (collect 2 ∷ (collect 3 ∷ (collect 4 ∷ (collect 5 ∷ (collect 6 ∷ [])))))))
-
-pub all-lawful : allAllowed world whole-list ≡ true
-unfolding computing-lists
-all-lawful = refl
-
-pub example : Lawful world (eventsOf world whole-list)
-example = lawful world whole-list all-lawful
+pub example : Lawful world plain (eventsOf world whole-list)
+example = lawful world plain whole-list (computed .is-lawful)

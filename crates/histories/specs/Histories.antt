@@ -4,7 +4,7 @@ use mathlib.Core.Path.{_≡_}
 use mathlib.Core.Bool.{Bool, true, false, _&&_}
 use mathlib.Core.List.{List, [], _∷_}
 use mathlib.Core.Option.{Option, none, some}
-use Prim.Native.Nat.{ℕ, _-_, _<_}
+use Prim.Native.Nat.{ℕ, _-_}
 use lib.Dec.{eqb}
 use lib.ListN.{length, getD}
 use Rattle.arithmetic.specs.Rounding.{pick}
@@ -15,12 +15,12 @@ use Rattle.arithmetic.specs.declared.refusals.Outcome.{Outcome}
 use Rattle.arithmetic.specs.declared.refusals.Outcome.the-variants.{Done, Refused as NotDone}
 use Rattle.vectors.specs.Vectors.{segmentsOf, bytesOf}
 use Rattle.vectors.specs.Places.{covered}
+use Rattle.vectors.specs.declared.vector.Segment.{Segment}
 use Rattle.vectors.specs.declared.vector.IoVector.{IoVector}
-use Rattle.stages.specs.Stages.{isFree}
 use Rattle.stages.specs.declared.state.Job.{Job}
 use Rattle.stages.specs.declared.state.Job.the-variants.{Read, Write, Zeroes, AllocatedZeroes, Discard}
 use Rattle.stages.specs.declared.state.Request.{Request}
-use Rattle.dock.specs.Dock.{openOf, stateAt, vectorAt, lentFits}
+use Rattle.dock.specs.Dock.{openOf, lentFits}
 use Rattle.dock.specs.Begin.{Begins, vectorFor, beginOf}
 use Rattle.dock.specs.Next.{nextOf}
 use Rattle.dock.specs.Tell.{Told, tellOf, collectOf}
@@ -137,14 +137,17 @@ fed w (collects p l) = collect p (collectOf (w .dock) p (length (l .memory)) (le
 
 -- ---- what a list may assume
 
+-- the data of the job in a slot: its vector's, as it was handed to begin
+abbrev pub dataOf : Option Tracked → List Segment
+dataOf none = []
+dataOf (some j) = segmentsOf (vectorFor (j .asked))
+
 -- "scratch and the data of jobs in flight are as the last event left them, other data may change, and a call refused with 205 may be lent
 -- other buffers"
-abbrev pub LentOf : World → Lends → Type 0
-LentOf w l =
+abbrev pub LentOf : World → Plain → Lends → Type 0
+LentOf w m l =
     fitsLent w l ≡ true →
-    (l .scratch ≡ w .scratch)
-    × ((p k : ℕ) → p < 8 → isFree (stateAt (w .dock) p .phase) ≡ false → covered (segmentsOf (vectorAt (w .dock) p)) k ≡ true
-    → getD (l .memory) k 0 ≡ getD (w .memory) k 0)
+    (l .scratch ≡ w .scratch) × ((p k : ℕ) → covered (dataOf (m .jobs p)) k ≡ true → getD (l .memory) k 0 ≡ getD (w .memory) k 0)
 
 -- the code of a carry; a request that was not carried out has none
 abbrev pub CodeOf : Option ℕ → ℕ → Type 0
@@ -155,15 +158,15 @@ CodeOf (some c) code = c ≡ code
 abbrev pub HandsIn : World → ℕ → ℕ → Lends → Type 0
 HandsIn w p code l = tellOf (w .dock) p code (l .memory) (l .scratch) .outcome ≡ Done → CodeOf (w .carried p) code
 
-abbrev pub Allowed : World → Event → Type 0
-Allowed w (begins q l) = LentOf w l
-Allowed w (carries p code c) = Unit {0}
-Allowed w (tells p code l) = LentOf w l × HandsIn w p code l
-Allowed w (collects p l) = LentOf w l
+abbrev pub Allowed : World → Plain → Event → Type 0
+Allowed w m (begins q l) = LentOf w m l
+Allowed w m (carries p code c) = Unit {0}
+Allowed w m (tells p code l) = LentOf w m l × HandsIn w p code l
+Allowed w m (collects p l) = LentOf w m l
 
-abbrev pub Lawful : World → List Event → Type 0
-Lawful w [] = Unit {0}
-Lawful w (e ∷ es) = Allowed w e × Lawful (step w e) es
+abbrev pub Lawful : World → Plain → List Event → Type 0
+Lawful w m [] = Unit {0}
+Lawful w m (e ∷ es) = Allowed w m e × Lawful (step w e) (plainStep m (fed w e)) es
 
 -- ---- what is claimed
 
@@ -225,4 +228,5 @@ abbrev pub EveryList : Type 0
 EveryList =
     (s : Settings) (b : Buffers) → openOf s b .outcome ≡ Done → (content : Bytes) (memory scratch : List ℕ)
     → lentFits b (length memory) (length scratch) ≡ true → (es : List Event)
-    → Lawful (opened s b content memory scratch) es → Claim (opened s b content memory scratch) (plainOpened s b content) es
+    → Lawful (opened s b content memory scratch) (plainOpened s b content) es
+    → Claim (opened s b content memory scratch) (plainOpened s b content) es

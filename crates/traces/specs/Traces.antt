@@ -8,7 +8,6 @@ use lib.ListN.{length, replicate}
 use Rattle.arithmetic.specs.Offsets.{storeAt}
 use Rattle.arithmetic.specs.declared.refusals.Outcome.the-variants.{Done}
 use Rattle.vectors.specs.Vectors.{vectorOf, segment}
-use Rattle.vectors.specs.declared.vector.Segment.{Segment}
 use Rattle.blockers.specs.Blockers.{blockerAt}
 use Rattle.blockers.specs.declared.Kind.{Kind as Blocking}
 use Rattle.blockers.specs.declared.Kind.the-variants.{Weak, Strong}
