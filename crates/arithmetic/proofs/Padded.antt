@@ -7,6 +7,7 @@ use Rattle.arithmetic.specs.RoundingLaws.{sum-fits, sum-over, up-fits, u
 use Rattle.arithmetic.specs.Offsets.{storeAt, bufferAt}
 use Rattle.arithmetic.specs.Padding.{paddedStart, roundedEnd, paddedLength, paddedEnd, paddingFits, spanOf, paddedOf}
 use Rattle.arithmetic.specs.declared.refusals.Refusal.the-variants.{Overflow}
+use Rattle.arithmetic.specs.declared.offsets.BufferOffset.{BufferOffset}
 use Rattle.arithmetic.specs.declared.offsets.Sum.the-variants.{Fits, Over}
 use Rattle.arithmetic.specs.declared.padding.Padding.the-variants.{Padded, Refused}
 
@@ -78,10 +79,10 @@ module _ (r l o n end rnd start len : ℕ) (e : sumOf o n ≡ Fits end) (f : upO
   pub padded-end-is : (pend : ℕ) → sumOf start len ≡ Fits pend → pend ≡ paddedEnd r l o n
   padded-end-is pend h = rw (m .start-is, length-is) at (sum-fits start len pend h .is)
 
-  pub padded-all : (pend pre suf : ℕ) → sumOf start len ≡ Fits pend → pre ≡ roundUp (o - start) l → suf ≡ roundUp (pend - end) l
-      → Padded (record { start = storeAt start; end = storeAt pend; head = bufferAt (o - start); length = len; prefix = pre; suffix = suf }) ≡ paddedOf r l o n
+  pub padded-all : (pend pre suf : ℕ) (head : BufferOffset) → sumOf start len ≡ Fits pend → head ≡ bufferAt (o - start) → pre ≡ roundUp (o - start) l → suf ≡ roundUp (pend - end) l
+      → Padded (record { start = storeAt start; end = storeAt pend; head = head; length = len; prefix = pre; suffix = suf }) ≡ paddedOf r l o n
   unfolding paddedOf paddingFits spanOf
-  padded-all pend pre suf h p q =
+  padded-all pend pre suf head h b p q =
       let x : fits (paddedEnd r l o n) ≡ true = rw (m .start-is, length-is) at (sum-fits start len pend h .ok) in
       simp (m .end-ok, m .rounded-ok, length-ok, x)
-      (rw (p, q, padded-end-is pend h, length-is, m .start-is, end-is r l o n end e))
+      (rw (b, p, q, padded-end-is pend h, length-is, m .start-is, end-is r l o n end e))

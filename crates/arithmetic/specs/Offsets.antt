@@ -1,6 +1,9 @@
 -- Document 01: "An offset on the store and an offset in the bounce buffer count from different zeros." What converts between them.
-use Prim.Native.Nat.{ℕ, _+_, _-_}
+use mathlib.Core.Path.{_≡_}
+use mathlib.Core.Bool.{true}
+use Prim.Native.Nat.{ℕ, _+_, _-_, _≤_}
 use lib.Dec.{leb}
+use borrow.Author.Tests.{le-leb}
 use Rattle.arithmetic.specs.Rounding.{pick, fits}
 use Rattle.arithmetic.specs.declared.refusals.Refusal.the-variants.{Overflow}
 use Rattle.arithmetic.specs.declared.offsets.StoreOffset.{StoreOffset}
@@ -25,6 +28,16 @@ rangeOf a e = record { start = storeAt a; end = storeAt e }
 unfoldable pub inBufferOf : StoreOffset → StoreOffset → InBuffer
 inBufferOf o start = pick (leb (start .0) (o .0)) (BufferAt (bufferAt (o .0 - start .0))) (NotInBuffer Overflow)
 
+-- at or behind the start it lies as many bytes in
+pub in-buffer-at : (o start : StoreOffset) → start .0 ≤ o .0 → inBufferOf o start ≡ BufferAt (bufferAt (o .0 - start .0))
+unfolding inBufferOf
+in-buffer-at o start h = rw (le-leb (start .0) (o .0) h)
+
 -- where byte b of a buffer lies on the store, if its first byte lies at start
 unfoldable pub onStoreOf : BufferOffset → StoreOffset → OnStore
 onStoreOf b start = pick (fits (start .0 + b .0)) (StoreAt (storeAt (start .0 + b .0))) (NotOnStore Overflow)
+
+-- it lies there, where that is an offset
+pub on-store-at : (b : BufferOffset) (start : StoreOffset) → fits (start .0 + b .0) ≡ true → onStoreOf b start ≡ StoreAt (storeAt (start .0 + b .0))
+unfolding onStoreOf
+on-store-at b start h = rw h

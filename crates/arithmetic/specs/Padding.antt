@@ -84,6 +84,12 @@ transferOf a o n vectorAligned =
     (NoTransfer Overflow))
     (NoTransfer Unfit)
 
+-- why it is refused; of one that is not, 207
+abbrev pub transferRefusal : Transfer → Refusal
+transferRefusal (Direct r) = Overflow
+transferRefusal (Bounced s) = Overflow
+transferRefusal (NoTransfer r) = r
+
 -- why a transfer is refused
 abbrev pub paddingRefusal : Alignments → Refusal
 paddingRefusal a = pick (alignmentsFit a) Overflow Unfit

@@ -1,5 +1,6 @@
 // Direct or padded; the padded range of a request; the reads of a padded write (imago: readv and writev of storage/ext.rs).
 use crate::offsets::BufferOffset;
+use crate::offsets::InBuffer;
 use crate::offsets::Range;
 use crate::offsets::StoreOffset;
 use crate::offsets::Sum;
@@ -12,7 +13,7 @@ ghost use mathlib.Core.Path.{_≡_};
 ghost use Prim.Native.Nat.{_+_, _%_, _<_, _≤_};
 ghost use lib.Dec.{eqb};
 ghost use Rattle.arithmetic.specs.Rounding.{roundUp};
-ghost use Rattle.arithmetic.specs.Padding.{paddedOf, paddingOf, isDirect, transferOf, readsOf};
+ghost use Rattle.arithmetic.specs.Padding.{paddedOf, paddingOf, isDirect, transferOf, transferRefusal, readsOf};
 
 // A padded range, which a bounce buffer holds from its start.
 pub struct Span {
@@ -71,10 +72,13 @@ fn padded(at: u64, n: u64, r: u64, l: u64) -> Padding
     let Sum::Fits(padded_end) = add(start, length) else {
         return Padding::Refused(Refusal::Overflow);
     };
+    let InBuffer::At(head) = StoreOffset(at).in_buffer(StoreOffset(start)) else {
+        return Padding::Refused(Refusal::Overflow);
+    };
     Padding::Padded(Span {
         start: StoreOffset(start),
         end: StoreOffset(padded_end),
-        head: BufferOffset((at - start) as usize),
+        head,
         length,
         prefix: edge(at - start, l),
         suffix: edge(padded_end - end, l),
@@ -125,6 +129,19 @@ pub fn direct_or_padded(
     match padded(at, length, r, align.length_align()) {
         Padding::Padded(span) => Transfer::Bounced(span),
         Padding::Refused(r) => Transfer::Refused(r),
+    }
+}
+
+impl Transfer {
+    // Why it is refused; of one that is not, 207.
+    pub fn refusal(self) -> Refusal
+        ensures { λ r. ⌜ r ≡ transferRefusal self ⌝ }
+    {
+        match self {
+            Transfer::Direct(_) => Refusal::Overflow,
+            Transfer::Bounced(_) => Refusal::Overflow,
+            Transfer::Refused(r) => r,
+        }
     }
 }
 

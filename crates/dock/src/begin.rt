@@ -127,11 +127,11 @@ pub fn moved(job: Job, vector: IoVector) -> IoVector
 fn is_aligned(v: IoVector, align: Alignments, data: Lent) -> bool
     ensures { λ t. ⌜ t ≡ isAligned (alignmentOf align «data» v) ⌝ }
 {
-    match v.is_aligned(align, data) {
-        Alignment::Aligned => true,
-        Alignment::Unaligned => false,
-        Alignment::Refused(_) => false,
-    }
+    let answer = v.is_aligned(align, data);
+    let Alignment::Aligned = answer else {
+        return false; // for what is no vector over the data too: begin refuses that before it looks at the plan
+    };
+    true
 }
 
 // The first stage of what is asked: 207 and 206, or no request to make.

@@ -70,7 +70,11 @@ fn merge(start: usize, n: usize, job: Job, v: IoVector, data: &[u8], scratch: &m
 {
     let end = start + n;
     if is_write_job(job) {
-        return v.copy_into_slice(data, &mut scratch[start..end]);
+        let copied = v.copy_into_slice(data, &mut scratch[start..end]);
+        let Outcome::Done = copied else {
+            return copied; // no vector over the data, or of another length: the scratch is as it was
+        };
+        return Outcome::Done;
     }
     fill_bytes(&mut scratch[start..end], 0);
     Outcome::Done
@@ -99,7 +103,11 @@ fn copy_out(start: usize, n: usize, v: IoVector, data: &mut [u8], scratch: &[u8]
     ensures { λ r. ⌜ hands r (now («data» .exit)) ≡ copiedAt start n v (now («data» .entry)) (now (scratch .entry)) ⌝ }
 {
     let end = start + n;
-    v.copy_from_slice(data, &scratch[start..end])
+    let copied = v.copy_from_slice(data, &scratch[start..end]);
+    let Outcome::Done = copied else {
+        return copied; // no vector over the data, or of another length: the data is as it was
+    };
+    Outcome::Done
 }
 
 // As a padded read ends with 0, its asked bytes are copied out of its share, which starts at `share`.

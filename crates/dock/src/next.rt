@@ -2,14 +2,12 @@
 use crate::dock::Dock;
 use crate::dock::SLOTS;
 use crate::dock::lent_fits;
-use arithmetic::offsets::Range;
 use arithmetic::refusals::Refusal;
 use arithmetic::settings::Buffers;
 use arithmetic::settings::Settings;
 use blockers::Blockers;
 use stages::state::Phase;
 use stages::state::Request;
-use stages::state::Stage;
 use stages::state::State;
 use stages::state::has_ended;
 use stages::state::is_free;
@@ -20,7 +18,7 @@ ghost use mathlib.Core.Bool.{true};
 ghost use mathlib.Core.Path.{_≡_};
 ghost use Prim.Native.Nat.{_+_, _<_, _^_};
 ghost use lib.ListN.{length};
-ghost use Rattle.stages.specs.Stages.{secondAt, isSound};
+ghost use Rattle.stages.specs.Stages.{isSound};
 ghost use Rattle.dock.specs.Dock.{isOutBy};
 ghost use Rattle.dock.specs.Next.{dueIn, nextOf, isKeptBy, isSeated, inScratch, inData, pieceBy, pieceIn, pieceAt, pieceOf, partOf, bytesAt, pieceBytes};
 
@@ -140,17 +138,6 @@ fn in_data(i: usize, data_len: usize, v: IoVector) -> Piece
     Piece::InData(segment)
 }
 
-// Where the second read's bytes start in the bounce buffer.
-fn second_at(stage: Stage) -> u64
-    ensures { λ n. ⌜ n ≡ secondAt stage ⌝ }
-{
-    let request = stage.request;
-    let second = stage.second;
-    let start = request.start;
-    let end = second.start;
-    size(Range { start, end })
-}
-
 // Piece i of the request of the job x, whose share starts at `share` and has `bounce` bytes.
 fn piece_of(x: State, v: IoVector, share: u64, bounce: u64, i: usize, data_len: usize) -> Piece
     requires { ⌜ (isSound bounce x ≡ true) × (share + bounce < 2 ^ 64) ⌝ }
@@ -165,8 +152,8 @@ fn piece_of(x: State, v: IoVector, share: u64, bounce: u64, i: usize, data_len: 
         Phase::BouncedRead => in_scratch(i, share, size(stage.request)),
         Phase::FirstRead => in_scratch(i, share, size(stage.first)),
         Phase::SecondRead => {
-            let start = share + second_at(stage);
-            in_scratch(i, start, size(stage.second))
+            let place = stage.second_at();
+            in_scratch(i, share + place.0 as u64, size(stage.second))
         }
         Phase::BouncedWrite => in_scratch(i, share, size(stage.request)),
         Phase::DirectWrite => in_data(i, data_len, v),

@@ -10,14 +10,11 @@ use denote.Enum.Declared.{declared, tagOf}
 use borrow.Author.Tests.{eq-eqb, ne-eqb, le-leb, lt-leb}
 use Rattle.arithmetic.specs.Rounding.{isMultiple}
 use Rattle.arithmetic.specs.Settings.{lengthAlign}
-use Rattle.arithmetic.specs.Padding.{transferOf, paddingRefusal}
-use Rattle.arithmetic.specs.PaddingLaws.{transfer-refused}
+use Rattle.arithmetic.specs.Padding.{transferOf, transferRefusal}
 use Rattle.arithmetic.specs.Zeroes.{zeroCutOf}
-use Rattle.arithmetic.specs.declared.refusals.Refusal.{Refusal}
 use Rattle.arithmetic.specs.declared.refusals.Refusal.the-variants.{TooLong}
 use Rattle.arithmetic.specs.declared.offsets.StoreOffset.{StoreOffset}
 use Rattle.arithmetic.specs.declared.offsets.Range.{Range}
-use Rattle.arithmetic.specs.declared.settings.Alignments.{Alignments}
 use Rattle.arithmetic.specs.declared.settings.Settings.{Settings}
 use Rattle.arithmetic.specs.declared.padding.Span.{Span}
 use Rattle.arithmetic.specs.declared.padding.Transfer.{Transfer}
@@ -54,17 +51,11 @@ padded-parts f j w w′ m m′ c x r r′ g ph e ew em eg er ep =
     let k : g ≡ paddedStage x r′ = eg ∙ ap (paddedStage x) er in
     from-parts j w w′ m m′ c g (paddedStage x r′) ph (f (paddedStage x r′)) e ew em k (ep ∙ ap f k)
 
--- a transfer that is neither direct nor bounced
-refusing : (x : Transfer) → OneOf (1 ∷ 2 ∷ []) (tagOf (declared enum) x) → OneOf (0 ∷ 2 ∷ []) (tagOf (declared enum) x) → (r : Refusal) × (x ≡ NoTransfer r)
-refusing (Direct r) k l = absurd (⊎-elim (λ e. omega arith) (λ e. omega arith) k)
-refusing (Bounced s) k l = absurd (⊎-elim (λ e. omega arith) (λ e. omega arith) l)
-refusing (NoTransfer r) k l = (r, refl)
-
-pub refused-is : (a : Alignments) (o : StoreOffset) (n : ℕ) (t : Bool) {x : Transfer} → x ≡ transferOf a o n t
-    → OneOf (1 ∷ 2 ∷ []) (tagOf (declared enum) x) → OneOf (0 ∷ 2 ∷ []) (tagOf (declared enum) x) → x ≡ NoTransfer (paddingRefusal a)
-refused-is a o n t {x} e k l =
-    let q = refusing x k l in
-    q .1 ∙ ap NoTransfer (transfer-refused a o n t (q .0) (sym e ∙ q .1))
+-- a transfer that is neither direct nor bounced is refused, for what it says
+pub refused-is : (x : Transfer) → OneOf (1 ∷ 2 ∷ []) (tagOf (declared enum) x) → OneOf (0 ∷ 2 ∷ []) (tagOf (declared enum) x) → x ≡ NoTransfer (transferRefusal x)
+refused-is (Direct r) k l = absurd (⊎-elim (λ e. omega arith) (λ e. omega arith) k)
+refused-is (Bounced s) k l = absurd (⊎-elim (λ e. omega arith) (λ e. omega arith) l)
+refused-is (NoTransfer r) k l = refl
 
 -- a job over a vector
 

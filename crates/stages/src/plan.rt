@@ -7,6 +7,7 @@ use crate::state::State;
 use crate::state::nowhere;
 use crate::state::size;
 use arithmetic::offsets::BufferOffset;
+use arithmetic::offsets::OnStore;
 use arithmetic::offsets::Range;
 use arithmetic::offsets::StoreOffset;
 use arithmetic::offsets::is_multiple;
@@ -15,7 +16,6 @@ use arithmetic::padding::Span;
 use arithmetic::padding::Transfer;
 use arithmetic::padding::direct_or_padded;
 use arithmetic::refusals::Refusal;
-use arithmetic::settings::Alignments;
 use arithmetic::settings::Settings;
 use arithmetic::zeroes::DiscardCut;
 use arithmetic::zeroes::ZeroCut;
@@ -25,7 +25,7 @@ ghost use mathlib.Core.Path.{_≡_};
 ghost use Prim.Native.Nat.{_+_, _-_, _<_, _≤_, _^_};
 ghost use Rattle.arithmetic.specs.Offsets.{rangeOf};
 ghost use Rattle.stages.specs.Stages.{Holds, directStage, firstOf, secondOf, paddedStage, firstPhase, stateOf, asked, bouncedPhase, vectorPlan, readPlan, writePlan, zeroesPlan, zeroJob, zeroPlan, discardPlan};
-ghost use Rattle.arithmetic.specs.Padding.{paddingRefusal, readsOf};
+ghost use Rattle.arithmetic.specs.Padding.{readsOf};
 
 // What a job begins with: nothing to do, its first stage, or a refusal.
 pub enum Plan {
@@ -47,17 +47,16 @@ fn direct_stage(r: Range) -> Stage
     }
 }
 
-// The first `length` bytes of a padded range.
-fn first_bytes(s: Span, length: u64) -> Range
-    requires { ⌜ s .start .0 + length < 2 ^ 64 ⌝ }
-    ensures { λ r. ⌜ r ≡ rangeOf (s .start .0) (s .start .0 + length) ⌝ }
+// The bytes of a padded range that its bounce buffer holds before `end`.
+fn first_bytes(s: Span, end: BufferOffset) -> Range
+    requires { ⌜ s .start .0 + end .0 < 2 ^ 64 ⌝ }
+    ensures { λ r. ⌜ r ≡ rangeOf (s .start .0) (s .start .0 + end .0) ⌝ }
 {
     let start = s.start;
-    let end = start.0 + length;
-    Range {
-        start,
-        end: StoreOffset(end),
-    }
+    let OnStore::At(end) = end.on_store(start) else {
+        return nowhere();
+    };
+    Range { start, end }
 }
 
 // The last `length` bytes of a padded range.
@@ -83,9 +82,9 @@ fn first_read(s: Span) -> Range
     match s.reads() {
         Reads::Nothing => nowhere(),
         Reads::Whole => Range { start, end },
-        Reads::Head(_) => first_bytes(s, s.prefix),
+        Reads::Head(_) => first_bytes(s, BufferOffset(s.prefix as usize)),
         Reads::Tail(_) => nowhere(),
-        Reads::HeadThenTail(_, _) => first_bytes(s, s.prefix),
+        Reads::HeadThenTail(_, _) => first_bytes(s, BufferOffset(s.prefix as usize)),
     }
 }
 
@@ -169,17 +168,6 @@ fn asked_range(offset: StoreOffset, n: u64) -> Range
     }
 }
 
-// Why a transfer is refused: 201 for alignments that do not fit, else 207 (law transfer-refused).
-fn padding_refusal(align: Alignments) -> Refusal
-    ensures { λ r. ⌜ r ≡ paddingRefusal align ⌝ }
-{
-    if align.fit() {
-        Refusal::Overflow
-    } else {
-        Refusal::Unfit
-    }
-}
-
 // The first phase of a padded request: a read is one request, a write has its reads first.
 fn bounced_phase(job: Job, g: Stage) -> Phase
     ensures { λ p. ⌜ p ≡ bouncedPhase job g ⌝ }
@@ -209,7 +197,7 @@ fn vector_plan(
         return started(job, r, nowhere(), Course::Last, direct_stage(r), direct);
     }
     let Transfer::Bounced(span) = transfer else {
-        return Plan::Refused(padding_refusal(settings.align));
+        return Plan::Refused(transfer.refusal());
     };
     if settings.bounce < span.length {
         return Plan::Refused(Refusal::TooLong);
@@ -234,42 +222,43 @@ pub fn write_plan(settings: Settings, offset: StoreOffset, n: u64, aligned: bool
     vector_plan(settings, Job::Write, Phase::DirectWrite, offset, n, aligned)
 }
 
-// A write of zeroes over `part` as a stage of a zero job over `range`. The bounce buffer starts at a multiple of M, so the write is
-// aligned where its length is a multiple of L.
-pub fn zeroes_plan(
-    settings: Settings,
-    job: Job,
-    range: Range,
-    middle: Range,
-    course: Course,
-    part: Range,
-) -> Plan
-    ensures { λ p. ⌜ p ≡ zeroesPlan settings job range middle course part ⌝ }
-{
-    let align = settings.align;
-    let n = size(part);
-    let transfer = direct_or_padded(part.start, n, is_multiple(n, align.length_align()), align);
-    if let Transfer::Direct(_) = transfer {
-        if settings.bounce < n {
+impl State {
+    // The job at its next stage. Phase and course are enums, and a store to one is not covered: they are set as the state is made anew.
+    fn at_stage(mut self, course: Course, stage: Stage, phase: Phase) -> State
+        ensures { λ y. ⌜ y ≡ stateOf (self .job) (self .range) (self .middle) course stage phase ⌝ }
+    {
+        self.answer = 0;
+        self.stage = stage;
+        State {
+            phase,
+            course,
+            ..self
+        }
+    }
+
+    // A write of zeroes over `part` as the next stage of a zero job. The bounce buffer starts at a multiple of M, so the write is
+    // aligned where its length is a multiple of L.
+    pub fn zeroes_plan(self, settings: Settings, course: Course, part: Range) -> Plan
+        ensures { λ p. ⌜ p ≡ zeroesPlan settings (self .job) (self .range) (self .middle) course part ⌝ }
+    {
+        let align = settings.align;
+        let n = size(part);
+        let transfer = direct_or_padded(part.start, n, is_multiple(n, align.length_align()), align);
+        if let Transfer::Direct(_) = transfer {
+            if settings.bounce < n {
+                return Plan::Refused(Refusal::TooLong);
+            }
+            return Plan::Started(self.at_stage(course, direct_stage(part), Phase::BouncedWrite));
+        }
+        let Transfer::Bounced(s) = transfer else {
+            return Plan::Refused(transfer.refusal());
+        };
+        if settings.bounce < s.length {
             return Plan::Refused(Refusal::TooLong);
         }
-        return started(
-            job,
-            range,
-            middle,
-            course,
-            direct_stage(part),
-            Phase::BouncedWrite,
-        );
+        let stage = padded_stage(s, part);
+        Plan::Started(self.at_stage(course, stage, first_phase(stage)))
     }
-    let Transfer::Bounced(s) = transfer else {
-        return Plan::Refused(padding_refusal(align));
-    };
-    if settings.bounce < s.length {
-        return Plan::Refused(Refusal::TooLong);
-    }
-    let stage = padded_stage(s, part);
-    started(job, range, middle, course, stage, first_phase(stage))
 }
 
 pub fn zero_job(allocate: bool) -> Job
@@ -289,7 +278,18 @@ pub fn zero_plan(settings: Settings, allocate: bool, offset: StoreOffset, n: u64
     let job = zero_job(allocate);
     match zero_cut(offset, n, settings.align) {
         ZeroCut::Nothing => Plan::Done,
-        ZeroCut::Whole(r) => zeroes_plan(settings, job, r, nowhere(), Course::Last, r),
+        ZeroCut::Whole(r) => {
+            let x = State {
+                phase: Phase::Free,
+                answer: 0,
+                job,
+                range: r,
+                middle: nowhere(),
+                course: Course::Last,
+                stage: direct_stage(r),
+            };
+            x.zeroes_plan(settings, Course::Last, r)
+        }
         ZeroCut::Split(c) => {
             let range = asked_range(offset, n);
             started(

@@ -1,12 +1,13 @@
 // The state of one job.
 use arithmetic::offsets::BufferOffset;
+use arithmetic::offsets::InBuffer;
 use arithmetic::offsets::Range;
 use arithmetic::offsets::StoreOffset;
 ghost use mathlib.Core.Path.{_≡_};
 ghost use Prim.Native.Nat.{_+_};
 ghost use lib.Dec.{leb};
-ghost use Rattle.arithmetic.specs.Offsets.{rangeOf};
-ghost use Rattle.stages.specs.Stages.{sizeOf, isFree, hasEnded, isBlocking, usesBounce, liesIn, isSound, zeroKind, request, requestOf};
+ghost use Rattle.arithmetic.specs.Offsets.{bufferAt, rangeOf};
+ghost use Rattle.stages.specs.Stages.{sizeOf, isFree, hasEnded, isBlocking, usesBounce, secondAt, liesIn, isSound, zeroKind, request, requestOf};
 
 // What a job was begun as.
 pub enum Job {
@@ -203,20 +204,30 @@ fn both_within(a: u64, b: u64, n: u64) -> bool
     b <= n - a
 }
 
+impl Stage {
+    // Where the bytes of the second read start in the bounce buffer, which holds the store from the request's start on.
+    pub fn second_at(self) -> BufferOffset
+        ensures { λ b. ⌜ b ≡ bufferAt (secondAt self) ⌝ }
+    {
+        let request = self.request;
+        let second = self.second;
+        let InBuffer::At(place) = second.start.in_buffer(request.start) else {
+            return BufferOffset(0); // a stage without one
+        };
+        place
+    }
+}
+
 // Whether a stage's bytes lie in a bounce buffer of n bytes.
 fn lies_in(g: Stage, n: u64) -> bool
     ensures { λ t. ⌜ t ≡ liesIn n g ⌝ }
 {
     let head = g.head;
-    let request = g.request;
-    let second = g.second;
-    let start = request.start;
-    let end = second.start;
-    let before = size(Range { start, end });
+    let tail = g.second_at();
     let asked = both_within(head.0 as u64, size(g.asked), n);
     let first = size(g.first) <= n;
-    let last = both_within(before, size(second), n);
-    asked & (size(request) <= n) & first & last
+    let last = both_within(tail.0 as u64, size(g.second), n);
+    asked & (size(g.request) <= n) & first & last
 }
 
 impl State {

@@ -1,6 +1,5 @@
 // What a told code leads to.
 use crate::plan::Plan;
-use crate::plan::zeroes_plan;
 use crate::state::Course;
 use crate::state::Phase;
 use crate::state::State;
@@ -23,7 +22,8 @@ pub enum Step {
 }
 
 impl State {
-    fn in_phase(mut self, phase: Phase) -> State
+    // The job in another phase. A store to a field that is an enum is not covered: the state is made anew of the other fields.
+    fn in_phase(self, phase: Phase) -> State
         ensures { λ y. ⌜ y ≡ inPhase phase self ⌝ }
     {
         State { phase, ..self }
@@ -33,11 +33,8 @@ impl State {
     fn ended_with(mut self, answer: u8) -> State
         ensures { λ y. ⌜ y ≡ endedWith answer self ⌝ }
     {
-        State {
-            phase: Phase::Ended,
-            answer,
-            ..self
-        }
+        self.answer = answer;
+        self.in_phase(Phase::Ended)
     }
 
     // The job ends: a failure ends it with its number.
@@ -61,10 +58,7 @@ impl State {
     fn zeroes(self, settings: Settings, course: Course, part: Range) -> Step
         ensures { λ t. ⌜ t ≡ zeroesNext settings self course part ⌝ }
     {
-        let job = self.job;
-        let range = self.range;
-        let middle = self.middle;
-        self.later(zeroes_plan(settings, job, range, middle, course, part))
+        self.later(self.zeroes_plan(settings, course, part))
     }
 
     // The next chunk of write_full_zeroes, from `start` to the end of the job's range.
@@ -138,7 +132,7 @@ impl State {
     }
 
     // The request is done.
-    pub fn done(mut self, settings: Settings) -> Step
+    pub fn done(self, settings: Settings) -> Step
         ensures { λ t. ⌜ t ≡ doneNext (self .phase) settings self ⌝ }
     {
         let phase = self.phase;
@@ -157,7 +151,7 @@ impl State {
     }
 
     // The store does not support the request.
-    pub fn unsupported(mut self, settings: Settings) -> Step
+    pub fn unsupported(self, settings: Settings) -> Step
         ensures { λ t. ⌜ t ≡ unsupportedNext (self .phase) settings self ⌝ }
     {
         let phase = self.phase;

@@ -1,11 +1,13 @@
 -- `arithmetic::padding::padded` meets its contract: each sum that fits is the definition's, and the first that does not is its 207. Assumes nothing.
 use borrow.Author.Needs.{needs}
-use mathlib.Core.Path.{_≡_}
+use mathlib.Core.Path.{_≡_, _∙_}
 use Prim.Native.Nat.{ℕ, _-_, _<_, _≤_}
 use native.Mathlib.Omega.{arith}
 use Rattle.arithmetic.specs.Rounding.{sumOf, upOf}
 use Rattle.arithmetic.specs.PaddingLaws.{start-le, head-below, end-ge, tail-below, rounded-ge}
 use Rattle.arithmetic.specs.Padding.{paddedStart}
+use Rattle.arithmetic.specs.Offsets.{bufferAt, in-buffer-at}
+use Rattle.arithmetic.specs.declared.offsets.InBuffer.the-variants.{At as BufferAt}
 use Rattle.arithmetic.specs.declared.offsets.Sum.the-variants.{Fits}
 use Rattle.arithmetic.proofs.Padded.{over-end, over-rounded, over-length, over-padded, padded-all, end-is, rounded-is, padded-end-is}
 use Rattle.arithmetic.proofs.padding.padded.Statement.{statement}
@@ -15,12 +17,13 @@ use Rattle.arithmetic.proofs.padding.padded.Lts as lts
 use Rattle.arithmetic.proofs.offsets.add.Reads as add-reads
 use Rattle.arithmetic.proofs.offsets.down.Reads as down-reads
 use Rattle.arithmetic.proofs.offsets.up.Reads as up-reads
+use Rattle.arithmetic.proofs.offsets.StoreOffset.in_buffer.Reads as in-buffer-reads
 use Rattle.arithmetic.proofs.padding.edge.Reads as edge-reads
 
 -- ---- the four sums, each with what it was asked for
 
 abbrev Args : Type 0
-Args = lts.Args (add-reads.Asked, add-reads.Learnt, up-reads.Asked, up-reads.Learnt, down-reads.Asked, down-reads.Learnt, edge-reads.Asked, edge-reads.Learnt) reads.Pre reads.Post
+Args = lts.Args (add-reads.Asked, add-reads.Learnt, up-reads.Asked, up-reads.Learnt, down-reads.Asked, down-reads.Learnt, in-buffer-reads.Asked, in-buffer-reads.Learnt, edge-reads.Asked, edge-reads.Learnt) reads.Pre reads.Post
 
 abbrev args1 : tie.After-known-told → Args
 args1 c = c .before .before .before .before .args
@@ -169,29 +172,45 @@ returns-4 c =
     let b = d .before in
     over-padded _ _ _ _ (end-of (first b)) (rounded-of b) (d .down .result) (length-of t) (e1 (first b)) (e2 b) (d .down .ensures) (e3 t) (cc)
 
-sub-t15 : tie.Need-sub-t15
-sub-t15 c = start-lies (second (third c))
+in-buffer-requires : tie.Need-in-buffer-requires
+in-buffer-requires c κs = search needs
 
-sub-edge : tie.Need-sub-edge
-sub-edge c = start-lies (second (third c))
+enum-known-head : tie.Need-enum-known-head
+enum-known-head c = search needs
 
-edge-requires : tie.Need-edge-requires
-edge-requires c κs = lies c .head
+enum-told-5 : tie.Need-enum-told-5
+enum-told-5 c = search needs
 
-sub-edge-2 : tie.Need-sub-edge-2
-sub-edge-2 c = lies (c .before) .end
-
-edge-requires-2 : tie.Need-edge-requires-2
-edge-requires-2 c κs = lies (c .before) .tail
+-- the asked offset lies behind the padded start, so in the buffer
+in-buffer-is : (c : tie.After-in-buffer) → c .in-buffer .result ≡ BufferAt (bufferAt (args4 (c .before) .at - second (third (c .before)) .down .result))
+in-buffer-is c = c .in-buffer .ensures ∙ in-buffer-at _ _ (start-lies (second (third (c .before))))
 
 returns-5 : tie.Need-returns-5
-returns-5 c =
-    let q = c .before .before in
+returns-5 c = let e = in-buffer-is (c .before .before) in let z : _≡_ {A = ℕ} 0 1 = cc in absurd (omega arith)
+
+sub-edge : tie.Need-sub-edge
+sub-edge c = start-lies (second (third (c .before .before .before .before)))
+
+edge-requires : tie.Need-edge-requires
+edge-requires c κs = lies (c .before .before .before .before) .head
+
+sub-edge-2 : tie.Need-sub-edge-2
+sub-edge-2 c = lies (c .before .before .before .before .before) .end
+
+edge-requires-2 : tie.Need-edge-requires-2
+edge-requires-2 c κs = lies (c .before .before .before .before .before) .tail
+
+returns-6 : tie.Need-returns-6
+returns-6 c =
+    let i = c .before .before .before .before .before in
+    let q = i .before in
     let t = third q in
     let d = second t in
     let b = d .before in
+    let e = in-buffer-is i in
+    let g : c .before .before .before .head .given .0 .0 ≡ bufferAt (args4 q .at - d .down .result) = cc in
     padded-all _ _ _ _ (end-of (first b)) (rounded-of b) (d .down .result) (length-of t) (e1 (first b)) (e2 b) (d .down .ensures) (e3 t)
-    (padded-end-of q) (c .before .edge .result) (c .edge2 .result) (e4 q) (c .before .edge .ensures) (c .edge2 .ensures)
+    (padded-end-of q) (c .before .edge .result) (c .edge2 .result) _ (e4 q) g (c .before .edge .ensures) (c .edge2 .ensures)
 
 pub padded-spec : {M : Type 1} → statement M
 padded-spec =
@@ -215,9 +234,12 @@ padded-spec =
     enum-known-padded-end
     enum-told-4
     returns-4
-    sub-t15
+    in-buffer-requires
+    enum-known-head
+    enum-told-5
+    returns-5
     sub-edge
     edge-requires
     sub-edge-2
     edge-requires-2
-    returns-5)
+    returns-6)

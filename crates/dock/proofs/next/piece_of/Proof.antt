@@ -2,6 +2,7 @@
 use native.Mathlib.Omega.{arith}
 use Prim.Native.Nat.{ℕ, _+_}
 use mathlib.Core.Path.{_≡_, refl, sym, ap, _∙_}
+use Rattle.arithmetic.specs.declared.offsets.BufferOffset.{BufferOffset}
 use Rattle.vectors.specs.declared.vector.IoVector.{IoVector}
 use Rattle.stages.specs.declared.state.Phase.{Phase}
 use Rattle.stages.specs.declared.state.State.{State}
@@ -53,11 +54,11 @@ enum-told-6 c = search needs
 second-at-requires : tie.Need-second-at-requires
 second-at-requires c κs = tt
 
-add-start : tie.Need-add-start
-add-start c =
+add-in-scratch : tie.Need-add-in-scratch
+add-in-scratch c =
     let s = c .before .before .before .before in
     let l = second-in (s .args .bounce) (s .args .x) (c .before .enum-told6 .given .1) (s .pre .0) in
-    omega (arith, c .second-at .ensures)
+    omega (arith, ap (λ (b : BufferOffset). b .0) (c .second-at .ensures))
 
 size-requires-3 : tie.Need-size-requires-3
 size-requires-3 c κs = tt
@@ -114,7 +115,7 @@ returns-5 c =
 returns-6 : tie.Need-returns-6
 returns-6 c =
     let a = c .before .before .before .before .before .before .args in
-    in-case _ (a .share) (a .i) (a .data-len) (a .x) (a .v) (c .before .before .before .enum-told6 .given .1) (c .in-scratch3 .ensures ∙ ap (λ (n : ℕ). inScratch (a .i) (a .share + c .before .before .second-at .result) n) (c .before .size3 .ensures) ∙ ap (λ (n : ℕ). inScratch (a .i) (a .share + n) (sizeOf (a .x .stage .second))) (c .before .before .second-at .ensures))
+    in-case _ (a .share) (a .i) (a .data-len) (a .x) (a .v) (c .before .before .before .enum-told6 .given .1) (c .in-scratch3 .ensures ∙ ap (λ (n : ℕ). inScratch (a .i) (a .share + c .before .before .second-at .result .0) n) (c .before .size3 .ensures) ∙ ap (λ (b : BufferOffset). inScratch (a .i) (a .share + b .0) (sizeOf (a .x .stage .second))) (c .before .before .second-at .ensures))
 
 returns-7 : tie.Need-returns-7
 returns-7 c =
@@ -152,7 +153,7 @@ piece-of-spec =
     in-scratch-requires-2
     enum-told-6
     second-at-requires
-    add-start
+    add-in-scratch
     size-requires-3
     in-scratch-requires-3
     enum-told-7

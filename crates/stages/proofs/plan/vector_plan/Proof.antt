@@ -53,14 +53,13 @@ returns-2 c =
 enum-known-transfer-2 : tie.Need-enum-known-transfer-2
 enum-known-transfer-2 c = c .match2 .keys1
 
-padding-refusal-requires : tie.Need-padding-refusal-requires
-padding-refusal-requires c κs = tt
+refusal-requires : tie.Need-refusal-requires
+refusal-requires c κs = tt
 
 returns-3 : tie.Need-returns-3
 returns-3 c =
-    let a = c .before .before .before .before .before .args in
     let d = c .before .before .before in
-    by d (NoTransfer _) (refused-is (a .settings .align) (a .offset) (a .n) (a .aligned) (d .direct-or-padded .ensures) (c .before .before .match .keys2) (c .before .match2 .keys2)) (ap Refused (c .padding-refusal .ensures))
+    by d (NoTransfer _) (refused-is _ (c .before .before .match .keys2) (c .before .match2 .keys2)) (ap Refused (c .refusal .ensures))
 
 returns-4 : tie.Need-returns-4
 returns-4 c =
@@ -103,7 +102,7 @@ vector-plan-spec =
     started-requires
     returns-2
     enum-known-transfer-2
-    padding-refusal-requires
+    refusal-requires
     returns-3
     returns-4
     asked-range-requires

@@ -3,40 +3,40 @@ use Rattle.stages.specs.Stages.{liesIn}
 use Rattle.stages.proofs.state.lies_in.Statement.{statement}
 use Rattle.stages.proofs.state.lies_in.Tie as tie
 
+second-at-requires : tie.Need-second-at-requires
+second-at-requires c κs = tt
+
 size-requires : tie.Need-size-requires
 size-requires c κs = tt
-
-size-requires-2 : tie.Need-size-requires-2
-size-requires-2 c κs = tt
 
 both-within-requires : tie.Need-both-within-requires
 both-within-requires c κs = tt
 
+size-requires-2 : tie.Need-size-requires-2
+size-requires-2 c κs = tt
+
 size-requires-3 : tie.Need-size-requires-3
 size-requires-3 c κs = tt
-
-size-requires-4 : tie.Need-size-requires-4
-size-requires-4 c κs = tt
 
 both-within-requires-2 : tie.Need-both-within-requires-2
 both-within-requires-2 c κs = tt
 
-size-requires-5 : tie.Need-size-requires-5
-size-requires-5 c κs = tt
+size-requires-4 : tie.Need-size-requires-4
+size-requires-4 c κs = tt
 
 returns : tie.Need-returns
 unfolding liesIn
-returns c = rw (c .before .before .before .before .both-within .ensures, c .before .both-within2 .ensures, c .before .before .before .before .before .size2 .ensures, c .size5 .ensures, c .before .before .before .size3 .ensures, c .before .before .before .before .before .before .size .ensures, c .before .before .size4 .ensures)
+returns c = rw (c .before .before .before .before .both-within .ensures, c .before .both-within2 .ensures, c .before .before .before .before .before .size .ensures, c .size4 .ensures, c .before .before .before .size2 .ensures, c .before .before .before .before .before .before .second-at .ensures, c .before .before .size3 .ensures)
 
 pub lies-in-spec : {M : Type 1} → statement M
 lies-in-spec =
     tie.close
     (tie.spec
+    second-at-requires
     size-requires
-    size-requires-2
     both-within-requires
+    size-requires-2
     size-requires-3
-    size-requires-4
     both-within-requires-2
-    size-requires-5
+    size-requires-4
     returns)

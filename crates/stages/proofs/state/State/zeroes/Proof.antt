@@ -11,7 +11,7 @@ later-requires : tie.Need-later-requires
 later-requires c κs = tt
 
 returns : tie.Need-returns
-returns c = c .later .ensures ∙ ap (laterStage (c .before .before .before .before .args .self)) (c .before .zeroes-plan .ensures)
+returns c = c .later .ensures ∙ ap (laterStage (c .before .before .args .self)) (c .before .zeroes-plan .ensures)
 
 pub zeroes-spec : {M : Type 1} → statement M
 zeroes-spec = tie.close (tie.spec zeroes-plan-requires later-requires returns)
