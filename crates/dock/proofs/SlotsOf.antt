@@ -17,7 +17,7 @@ use Rattle.stages.specs.declared.state.Phase.{Phase}
 use Rattle.stages.specs.declared.state.Phase.the-variants.{SecondRead}
 use Rattle.stages.specs.declared.state.State.{State}
 use Rattle.dock.specs.Dock.{lentFits, isOutBy, isOut, stateAt, vectorAt}
-use Rattle.dock.specs.Next.{isKeptBy, isKept, pieceIn, pieceAt, pieceOf}
+use Rattle.dock.specs.Next.{isSoundIn, isSoundOf, pieceIn, pieceAt, pieceOf}
 use Rattle.dock.specs.declared.dock.Dock.{Dock}
 use Rattle.dock.specs.declared.next.Piece.the-variants.{Refused as NoPiece}
 
@@ -37,23 +37,23 @@ share-in p b h =
     omega (arith, l)
 
 -- and the scratch has its length of opening, which is the one it is lent with
-pub share-kept : (p : ℕ) (x : State) (s : Settings) (b : Buffers) (m n : ℕ) → p < 8 → lentFits b m n ≡ true → isKeptBy x s b ≡ true → p * s .bounce + s .bounce ≤ n
-unfolding lentFits isKeptBy
-share-kept p x s b m n h f k =
+pub share-sound : (p : ℕ) (x : State) (s : Settings) (b : Buffers) (m n : ℕ) → p < 8 → lentFits b m n ≡ true → isSoundIn x s b ≡ true → p * s .bounce + s .bounce ≤ n
+unfolding lentFits isSoundIn
+share-sound p x s b m n h f k =
     let e = eqb-true n (b .scratch .length) (and-right (eqb m (b .«data» .length)) _ f) in
     let l = leb-true (8 * s .bounce) (b .scratch .length) (and-right (isSound (s .bounce) x) _ k) in
     omega (arith, share-in p (s .bounce) h)
 
 -- where the scratch is as long as at opening, it has room for the share
-pub share-room-kept : (p : ℕ) (x : State) (s : Settings) (b : Buffers) → p < 8 → isKeptBy x s b ≡ true → p * s .bounce + s .bounce ≤ b .scratch .length
-unfolding isKeptBy
-share-room-kept p x s b h k =
+pub share-room-sound : (p : ℕ) (x : State) (s : Settings) (b : Buffers) → p < 8 → isSoundIn x s b ≡ true → p * s .bounce + s .bounce ≤ b .scratch .length
+unfolding isSoundIn
+share-room-sound p x s b h k =
     let l = leb-true (8 * s .bounce) (b .scratch .length) (and-right (isSound (s .bounce) x) _ k) in
     omega (arith, share-in p (s .bounce) h)
 
-pub kept-sound : (x : State) (s : Settings) (b : Buffers) → isKeptBy x s b ≡ true → isSound (s .bounce) x ≡ true
-unfolding isKeptBy
-kept-sound x s b k = and-left _ _ k
+pub sound-share : (x : State) (s : Settings) (b : Buffers) → isSoundIn x s b ≡ true → isSound (s .bounce) x ≡ true
+unfolding isSoundIn
+sound-share x s b k = and-left _ _ k
 
 -- the second read's bytes start in the share
 pub second-in : (n : ℕ) (x : State) → x .phase ≡ SecondRead → isSound n x ≡ true → secondAt (x .stage) ≤ n
@@ -81,5 +81,5 @@ module _ (d : Dock) (p i m n : ℕ) where
     piece-no-slot h = simp (f, le-ltb p 8 h)
 
     pub piece-there : p < 8 → pieceAt (d .blockers) p (d .settings) (d .buffers) (stateAt d p) (vectorAt d p) i m ≡ pieceOf d p i m n
-    unfolding pieceOf isOut isKept pieceIn pieceAt
+    unfolding pieceOf isOut isSoundOf pieceIn pieceAt
     piece-there h = simp (f, lt-ltb p 8 h) (both (isOutBy (d .blockers) (stateAt d p) p) _ _ _)

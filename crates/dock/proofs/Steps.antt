@@ -30,9 +30,9 @@ use Rattle.stages.specs.declared.told.Step.{Step}
 use Rattle.stages.specs.declared.told.Step.the-variants.{Stays, Ends, Enters}
 use Rattle.dock.specs.Dock.{stateAt, vectorAt, isOutBy, lentFits, lentOf, overlapsOf, firstFree}
 use Rattle.dock.specs.Begin.{Filled, fills, filled, blockersWith, begins, withJob, movedOf, planOf, beginOf, Entered, enters, enterAt, decidedOf, admits, unplaced, admitBy, admitAt, PlanInShare, seatedBy, seated}
-use Rattle.dock.specs.Next.{isKeptBy}
+use Rattle.dock.specs.Next.{isSoundIn}
 use Rattle.dock.specs.Tell.{Handed, hands, handed, blockersWithout, tells, tellOf, Stepped, steps, unstepped, endsAt, entersBy, entersAt, StepInShare, answeredOf, answeredBy, toldAt, storedBy, stored}
-use Rattle.dock.specs.SeatLaws.{plan-sound, started, lent-done, leads-told, begin-whole}
+use Rattle.dock.specs.SlotLaws.{plan-sound, started, lent-done, leads-told, begin-whole}
 use Rattle.dock.specs.declared.dock.Dock.{Dock}
 use Rattle.dock.specs.declared.begin.Asked.{Asked}
 use Rattle.dock.specs.declared.begin.Begun.{Begun}
@@ -102,11 +102,11 @@ module _ (b : Blockers) (p : ℕ) (s : Settings) (l : Buffers) (x : State) (v : 
   unfolding toldAt
   told-none o t te = ap (λ (z : Stepping). steps z memory scratch) te ∙ simp o
 
-  pub told-unkept : isOutBy b x p ≡ true → isKeptBy x s l ≡ false → (t : Stepping) → t ≡ unstepped b x Slot → steps t memory scratch ≡ toldAt b p s l x v code memory scratch
+  pub told-unsound : isOutBy b x p ≡ true → isSoundIn x s l ≡ false → (t : Stepping) → t ≡ unstepped b x Slot → steps t memory scratch ≡ toldAt b p s l x v code memory scratch
   unfolding toldAt
-  told-unkept o k t te = ap (λ (z : Stepping). steps z memory scratch) te ∙ simp (o, k)
+  told-unsound o k t te = ap (λ (z : Stepping). steps z memory scratch) te ∙ simp (o, k)
 
-  pub told-answered : isOutBy b x p ≡ true → isKeptBy x s l ≡ true → (a : Answered) → a ≡ answeredOf s x code → (w : Answered) → a ≡ w
+  pub told-answered : isOutBy b x p ≡ true → isSoundIn x s l ≡ true → (a : Answered) → a ≡ answeredOf s x code → (w : Answered) → a ≡ w
       → (r : Stepped) → r ≡ answeredBy w b p (p * s .bounce) x code v memory scratch → r ≡ toldAt b p s l x v code memory scratch
   unfolding toldAt
   told-answered o k a e w f r q = q ∙ ap (λ (z : Answered). answeredBy z b p (p * s .bounce) x code v memory scratch) (sym f ∙ e) ∙ simp (o, k)
@@ -215,10 +215,10 @@ module _ (d : Dock) (q : Asked) (memory scratch : List ℕ) (v : IoVector) (ve :
 
 -- ---- a job that a call made
 
--- what a kept job's scratch has room for
-pub kept-room : (x : State) (s : Settings) (b : Buffers) (m n : ℕ) → lentFits b m n ≡ true → isKeptBy x s b ≡ true → 8 * s .bounce ≤ n
-unfolding lentFits isKeptBy
-kept-room x s b m n l k =
+-- what the scratch of a sound job has room for
+pub sound-room : (x : State) (s : Settings) (b : Buffers) (m n : ℕ) → lentFits b m n ≡ true → isSoundIn x s b ≡ true → 8 * s .bounce ≤ n
+unfolding lentFits isSoundIn
+sound-room x s b m n l k =
     let e = eqb-true n (b .scratch .length) (and-right (eqb m (b .«data» .length)) (eqb n (b .scratch .length)) l) in
     let h = leb-true (8 * s .bounce) (b .scratch .length) (and-right (isSound (s .bounce) x) (leb (8 * s .bounce) (b .scratch .length)) k) in
     omega arith

@@ -175,7 +175,8 @@ allowedBy (PlanRefused r) met free = PlanRefused r
 allowedBy (Started x) met free = pick met (PlanRefused Overlap) (pick (ltb free 8) (Started x) (PlanRefused Full))
 
 abbrev pub decidedOf : Outcome → Bool → Plan → Bool → ℕ → Plan
-decidedOf lent valid plan met free = whenDone lent (pick valid (allowedBy plan met free) (PlanRefused Segment)) PlanRefused
+decidedOf (Refused r) valid plan met free = PlanRefused r
+decidedOf Done valid plan met free = pick valid (allowedBy plan met free) (PlanRefused Segment)
 
 -- what a begin leaves of the slot p that it takes
 pub record Admitted : Type 0 where

@@ -15,7 +15,7 @@ use Rattle.stages.specs.Stages.{chunkNext, tailNext, headNext, toldOf, requestO
 use Rattle.dock.specs.Dock.{vacant, fresh, openOf, openProfileOf, lentFits, lentOf, isOutBy, isOut}
 use Rattle.dock.specs.Dock.{meetsOf, meetsAt, overlapsOf, firstFree}
 use Rattle.dock.specs.Begin.{sourceOf, sourceFits, mergedAt, filled, blockersWith, enterAt, beginOf}
-use Rattle.dock.specs.Next.{nextOf, isKeptBy, isKept, pieceOf, partOf}
+use Rattle.dock.specs.Next.{nextOf, isSoundIn, isSoundOf, pieceOf, partOf}
 use Rattle.dock.specs.Tell.{blockersWithout, copiedAt, handed, endsAt, entersAt, answeredOf, toldAt, tellOf, collectOf}
 
 unfoldable pub computing : Unit {0}
@@ -30,6 +30,6 @@ unfolding numberOf fits isMultiple roundDown roundUp sumOf upOf anyBelow
     chunkNext tailNext headNext toldOf requestOf liesInBounce isSound
     vacant fresh openOf openProfileOf lentFits lentOf isOutBy isOut meetsOf meetsAt overlapsOf firstFree
     sourceOf sourceFits mergedAt filled blockersWith enterAt beginOf
-    nextOf isKeptBy isKept pieceOf partOf
+    nextOf isSoundIn isSoundOf pieceOf partOf
     blockersWithout copiedAt handed endsAt entersAt answeredOf toldAt tellOf collectOf
 computing = tt

@@ -6,5 +6,5 @@ pub mod Tell
 pub mod Slots
 pub mod Numbers
 pub mod RefusalLaws
-pub mod SeatLaws
+pub mod SlotLaws
 pub mod Computing

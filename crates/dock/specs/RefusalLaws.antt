@@ -26,7 +26,7 @@ use Rattle.stages.specs.declared.told.Step.{Step}
 use Rattle.stages.specs.declared.told.Step.the-variants.{Stays, Ends, Enters}
 use Rattle.dock.specs.Dock.{vacant, stateAt, vectorAt, lentFits, isOutBy, firstFree}
 use Rattle.dock.specs.Begin.{fills, isBouncedWrite, sourceOf, sourceFits, mergedAt, filled, blockersWith, Entered, enterAt, admitBy, admitAt, Begins, withJob, seated, vectorFor, decidedFor, beginOf}
-use Rattle.dock.specs.Next.{isKeptBy}
+use Rattle.dock.specs.Next.{isSoundIn}
 use Rattle.dock.specs.Tell.{hands, isBouncedRead, copiedAt, handed, blockersWithout, Stepped, steps, unstepped, endsAt, entersBy, entersAt, steppedAt, answeredOf, answeredBy, toldAt, Told, refusedTell, storedBy, stored, tellOf, collectOf}
 use Rattle.dock.specs.declared.dock.Dock.{Dock}
 use Rattle.dock.specs.declared.begin.Asked.{Asked}
@@ -130,7 +130,7 @@ module _ (b : Blockers) (p share : ℕ) (x : State) (code : ℕ) (v : IoVector) 
 
   told-unchanged : (s : Settings) (l : Buffers) → share ≡ p * s .bounce → StepUnchanged memory scratch (toldAt b p s l x v code memory scratch)
   unfolding toldAt answeredOf
-  told-unchanged s l h = rw (sym h) (go (isOutBy b x p && isKeptBy x s l) (ltb code 200))
+  told-unchanged s l h = rw (sym h) (go (isOutBy b x p && isSoundIn x s l) (ltb code 200))
     where
       go : (a u : Bool)
           → StepUnchanged memory scratch (pick a (answeredBy (pick u (Leads (toldOf s x code)) (NoLead NoAnswer)) b p share x code v memory scratch) (steps (unstepped b x Slot) memory scratch))

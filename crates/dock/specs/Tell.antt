@@ -25,7 +25,7 @@ use Rattle.stages.specs.declared.told.Step.{Step}
 use Rattle.stages.specs.declared.told.Step.the-variants.{Stays, Ends, Enters}
 use Rattle.dock.specs.Dock.{vacant, stateAt, vectorAt, lentFits, isOutBy}
 use Rattle.dock.specs.Begin.{filled, InShare, Entered, enterAt, withJob}
-use Rattle.dock.specs.Next.{isKeptBy}
+use Rattle.dock.specs.Next.{isSoundIn}
 use Rattle.dock.specs.declared.dock.Dock.{Dock}
 use Rattle.dock.specs.declared.tell.Telling.{Telling}
 use Rattle.dock.specs.declared.tell.Stepping.{Stepping}
@@ -137,7 +137,7 @@ answeredBy (Leads t) b p share x code v memory scratch = steppedAt b p share x c
 -- "Tell: [..] 208, 209"
 unfoldable pub toldAt : Blockers → ℕ → Settings → Buffers → State → IoVector → ℕ → List ℕ → List ℕ → Stepped
 toldAt b p s lent x v code memory scratch =
-    pick (isOutBy b x p && isKeptBy x s lent)
+    pick (isOutBy b x p && isSoundIn x s lent)
     (answeredBy (answeredOf s x code) b p (p * s .bounce) x code v memory scratch)
     (steps (unstepped b x Slot) memory scratch)
 

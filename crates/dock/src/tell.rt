@@ -5,8 +5,8 @@ use crate::bytes::hand_out;
 use crate::dock::Dock;
 use crate::dock::SLOTS;
 use crate::dock::lent_fits;
-use crate::next::is_kept;
 use crate::next::is_out;
+use crate::next::is_sound_in;
 use crate::open::vacant;
 use arithmetic::refusals::Outcome;
 use arithmetic::refusals::Refusal;
@@ -209,7 +209,7 @@ fn told_at(
     if !is_out(b, x, slot) {
         return unstepped(b, x, Refusal::Slot);
     }
-    if !is_kept(x, settings, buffers) {
+    if !is_sound_in(x, settings, buffers) {
         return unstepped(b, x, Refusal::Slot);
     }
     let answer = told(x, settings, code);

@@ -30,7 +30,7 @@ use Rattle.stages.specs.declared.state.Course.the-variants.{Last, Middle, Head,
 use Rattle.stages.specs.declared.state.State.{State}
 use Rattle.dock.specs.Dock.{noState, noVector, stateAt, vectorAt, isReadJob, meetsOf, meetsAt, overlapsOf, firstFree}
 use Rattle.dock.specs.Begin.{isWriteJob, isBouncedWrite, sourceOf, sourceFits, mergedAt, filled}
-use Rattle.dock.specs.SeatLaws.{lowest-free}
+use Rattle.dock.specs.SlotLaws.{lowest-free}
 use Rattle.dock.specs.declared.dock.Dock.{Dock}
 use Rattle.dock.specs.declared.begin.Asked.{Asked}
 use Rattle.histories.specs.Courses.{isZeroJob, puts, isRegular, suited, never}

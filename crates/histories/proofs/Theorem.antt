@@ -41,7 +41,7 @@ use Rattle.stages.specs.declared.told.Step.the-variants.{Stays, Ends, Enters}
 use Rattle.dock.specs.Dock.{stateAt, vectorAt, vacant, lentOf, isOutBy, isOut, overlapsOf, firstFree, isReadJob, openOf}
 use Rattle.dock.specs.Begin.{isAligned, Begins, withJob, movedOf, planOf, vectorFor, planFor, decidedFor, beginOf}
 use Rattle.dock.specs.Tell.{Told, refusedTell, tellOf, collectOf}
-use Rattle.dock.specs.SeatLaws.{started}
+use Rattle.dock.specs.SlotLaws.{started}
 use Rattle.dock.specs.declared.dock.Dock.{Dock}
 use Rattle.dock.specs.declared.begin.Asked.{Asked}
 use Rattle.dock.specs.declared.begin.Begun.{Begun}
@@ -155,8 +155,8 @@ module _ (w : World) (m : Plain) (I : Inv w m) where
       go (PlanRefused r) e = I
       go (Started x) e =
           let k =
-              started (lentOf (w .dock .settings) (w .dock .buffers) (length (w .memory)) (length (w .scratch))) (isValid (length (w .memory)) (vectorFor q))
-              (planFor (w .dock .settings) (w .dock .buffers) q) (overlapsOf (w .dock .states) (w .dock .vectors) (q .job) (vectorFor q)) (firstFree (w .dock .states)) x e in
+          started (lentOf (w .dock .settings) (w .dock .buffers) (length (w .memory)) (length (w .scratch))) (isValid (length (w .memory)) (vectorFor q))
+          (planFor (w .dock .settings) (w .dock .buffers) q) (overlapsOf (w .dock .states) (w .dock .vectors) (q .job) (vectorFor q)) (firstFree (w .dock .states)) x e in
           let f : Start (w .dock) q (vectorFor q) x = rw (k .planned) at (starts (w .dock) fits (q .offset) (q .job) (q .length) (q .vector) (rw long at (k .valid))) in
           subst (λ (u : Plan). Keeps q (begunRule (w .dock) (vectorFor q) (w .memory) (w .scratch) (Started x)) u (broughtBy q (w .memory))) (sym (k .planned))
           (begun-inv w m I q (vectorFor q) x f (k .apart) (k .slot))

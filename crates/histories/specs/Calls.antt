@@ -21,7 +21,7 @@ use Rattle.vectors.specs.declared.vector.IoVector.{IoVector}
 use Rattle.blockers.specs.Blockers.{isEntered, blockerAt}
 use Rattle.stages.specs.Stages.{sizeOf, isFree, hasEnded, isPending, isBlocking, isSound, asked, readPlan, writePlan, zeroJob, zeroPlan}
 use Rattle.stages.specs.Stages.{discardPlan, toldOf}
-use Rattle.stages.specs.Laws.{Placed, Opens, Starts, read-opens, write-opens, zero-opens, discard-opens, Continues, Finishes, told-stays}
+use Rattle.stages.specs.Laws.{OnStore, Opens, Starts, read-opens, write-opens, zero-opens, discard-opens, Continues, Finishes, told-stays}
 use Rattle.stages.specs.Laws.{told-ends, told-enters}
 use Rattle.stages.specs.declared.state.Job.{Job}
 use Rattle.stages.specs.declared.state.Job.the-variants.{Read, Write, Zeroes, AllocatedZeroes, Discard}
@@ -38,9 +38,9 @@ use Rattle.dock.specs.Begin.{isWriteJob, isBouncedWrite, sourceFits, mergedAt, 
 use Rattle.dock.specs.Begin.{Begins, seated, isAligned, movedOf, planOf}
 use Rattle.dock.specs.Tell.{blockersWithout, copiedAt, isBouncedRead, handed, staysAt, endsAt, entersAt, steppedAt}
 use Rattle.dock.specs.Tell.{Told, tells, accepted, storedBy, stored}
-use Rattle.dock.specs.SeatLaws.{lowest-free}
+use Rattle.dock.specs.SlotLaws.{lowest-free}
 use Rattle.dock.specs.declared.dock.Dock.{Dock}
-use Rattle.dock.specs.declared.begin.Begun.the-variants.{Done as NoRequest, Placed as InSlot, Refused as BeginRefused}
+use Rattle.dock.specs.declared.begin.Begun.the-variants.{Done as NoRequest, Placed, Refused as BeginRefused}
 use Rattle.histories.specs.Courses.{isZeroJob, hasVector, isLast, isRegular, suited, never, Sole, read-regular, write-regular}
 use Rattle.histories.specs.Courses.{zero-regular, discard-regular, Goes, stays-regular, enters-regular}
 use Rattle.histories.specs.Held.{SlotOf, Held}
@@ -181,7 +181,7 @@ handed-done share x code v memory scratch f = go (isBouncedRead (x .phase)) (eqb
 pub record Ready (s : Settings) (m : ℕ) (v : IoVector) (x : State) : Type 0 where
   pub sound : isSound (s .bounce) x ≡ true
   pub pending : isPending (x .phase) ≡ true
-  pub placed : Placed (x .stage)
+  pub on-store : OnStore (x .stage)
   pub regular : isRegular x ≡ true
   pub vector : hasVector (x .job) ≡ true → (x .stage .asked ≡ x .range) × (isValid m v ≡ true) × (v .total ≡ sizeOf (x .range))
 
@@ -196,7 +196,7 @@ module _ (s : Settings) (m : ℕ) (o : StoreOffset) where
   vector-ready j v x e k l = record {
     sound = k .sound;
     pending = k .pending;
-    placed = k .placed;
+    on-store = k .on-store;
     regular = l .0;
     vector = λ u. (l .1, e, rw (k .range) (omega arith));
   }
@@ -215,7 +215,7 @@ module _ (s : Settings) (m : ℕ) (o : StoreOffset) where
   -- a job without one
   bare-ready : (j : Job) (w : Range) (v : IoVector) (x : State) → hasVector j ≡ false → Opens s j w x → isRegular x ≡ true → Ready s m v x
   bare-ready j w v x n k l =
-      record { sound = k .sound; pending = k .pending; placed = k .placed; regular = l; vector = λ u. never (sym n ∙ (rw (k .job) at u)) }
+      record { sound = k .sound; pending = k .pending; on-store = k .on-store; regular = l; vector = λ u. never (sym n ∙ (rw (k .job) at u)) }
 
   zero-bare : (t : Bool) → hasVector (zeroJob t) ≡ false
   zero-bare true = refl
@@ -245,7 +245,7 @@ abbrev pub placed : Dock → ℕ → State → IoVector → List ℕ → List �
 placed d p x v memory scratch =
     record {
       dock = withJob d p (blockersWith (d .blockers) p x .blockers) x v;
-      answer = InSlot p;
+      answer = Placed p;
       scratch = filled (shareAt d p) x v memory scratch .scratch;
     }
 
@@ -290,7 +290,7 @@ module _ (d : Dock) (H : Held d) where
           (rw (getD-set-same (d .vectors) p v noVector (rw (H .vectors) h))
           (record {
             sound = r .sound;
-            placed = λ e. r .placed;
+            on-store = λ e. r .on-store;
             regular = r .regular;
             sole = λ e u. r .vector u .0;
             vector = λ e u. (r .vector u .1, r .vector u .2);
@@ -363,7 +363,7 @@ module _ (d : Dock) (H : Held d) (p : ℕ) (h : p < 8) (pending : isPending (sta
         slot-anew d H p h y (d .vectors) (record { blockers = d .blockers; outcome = Done }) kept (H .vectors) (λ q n. refl)
         (record {
           sound = C .sound (S .sound);
-          placed = λ u. rw (C .stage) (S .placed pending);
+          on-store = λ u. rw (C .stage) (S .on-store pending);
           regular = G .regular;
           sole = λ f u. rw (C .stage, C .range) (S .sole taken (rw (C .job) at u));
           vector = λ f u. rw (C .range) (S .vector taken (rw (C .job) at u));
@@ -393,7 +393,7 @@ module _ (d : Dock) (H : Held d) (p : ℕ) (h : p < 8) (pending : isPending (sta
         slot-anew d H p h y (d .vectors) (blockersWithout (d .blockers) p x) leaves (H .vectors) (λ q n. refl)
         (record {
           sound = rw (F .phase);
-          placed = λ u. never (rw (F .phase) at u);
+          on-store = λ u. never (rw (F .phase) at u);
           regular = rw (F .phase);
           sole = λ f u. rw (F .stage, F .range) (S .sole taken (rw (F .job) at u));
           vector = λ f u. rw (F .range) (S .vector taken (rw (F .job) at u));
@@ -440,7 +440,7 @@ module _ (d : Dock) (H : Held d) (p : ℕ) (h : p < 8) (pending : isPending (sta
         slot-anew d H p h y (d .vectors) (blockersWith (blockersWithout (d .blockers) p x .blockers) p y) moves (H .vectors) (λ q n. refl)
         (record {
           sound = O .sound;
-          placed = λ u. O .placed;
+          on-store = λ u. O .on-store;
           regular = enters-regular (d .settings) x (S .regular) code y e .1;
           sole = λ f u. never (sym bare ∙ u);
           vector = λ f u. never (sym bare ∙ u);

@@ -23,9 +23,9 @@ use Rattle.stages.specs.declared.plan.Plan.{Plan}
 use Rattle.stages.specs.declared.plan.Plan.the-variants.{Done as NothingToDo, Started, Refused as PlanRefused}
 use Rattle.dock.specs.Dock.{stateAt, vectorAt, shareAt, vacant, openOf, openBy, openProfileOf, lentFits, lentOf, isOutBy, isOut, overlapsOf, firstFree}
 use Rattle.dock.specs.Begin.{admitAt, withJob, Begins, seated, vectorFor, planFor, decidedFor, beginOf}
-use Rattle.dock.specs.Next.{isKeptBy, isKept}
+use Rattle.dock.specs.Next.{isSoundIn, isSoundOf}
 use Rattle.dock.specs.Tell.{steps, unstepped, answeredOf, answeredBy, toldAt, Told, refusedTell, stored, tellOf, collectOf}
-use Rattle.dock.specs.SeatLaws.{started, lent-done}
+use Rattle.dock.specs.SlotLaws.{started, lent-done}
 use Rattle.dock.specs.declared.dock.Dock.{Dock}
 use Rattle.dock.specs.declared.begin.Asked.{Asked}
 use Rattle.dock.specs.declared.tell.Answered.the-variants.{Leads, Refused as NoLead}
@@ -52,8 +52,8 @@ module _ (d : Dock) (H : Held d) (q : Asked) (memory scratch : List ℕ) where
       → (length memory ≡ d .buffers .«data» .length) × Ready (d .settings) (d .buffers .«data» .length) (vectorFor q) x × (firstFree (d .states) < 8)
   decided-ready x e =
       let w =
-          started (lentOf (d .settings) (d .buffers) (length memory) (length scratch)) (isValid (length memory) (vectorFor q)) (planFor (d .settings) (d .buffers) q)
-          (overlapsOf (d .states) (d .vectors) (q .job) (vectorFor q)) (firstFree (d .states)) x e in
+      started (lentOf (d .settings) (d .buffers) (length memory) (length scratch)) (isValid (length memory) (vectorFor q)) (planFor (d .settings) (d .buffers) q)
+      (overlapsOf (d .states) (d .vectors) (q .job) (vectorFor q)) (firstFree (d .states)) x e in
       let l = data-long (d .buffers) (length memory) (length scratch) (lent-done (d .settings) (d .buffers) (length memory) (length scratch) (w .lent) .1) in
       (l, (rw (w .planned) at (planned-ready (d .settings) (d .buffers .«data» .length) (q .offset) (d .buffers) (q .job) (q .length) (q .vector) (rw l at (w .valid)))), w .slot)
 
@@ -90,9 +90,9 @@ tellRule d p code memory scratch =
 
 module _ (d : Dock) (H : Held d) (p : ℕ) where
   -- the test of the job at hand is passed
-  pub kept-held : p < 8 → isKept d p ≡ true
-  unfolding isKept isKeptBy
-  kept-held h = simp (H .slots p h .sound, le-leb _ _ (opened (d .settings) (d .buffers) (H .opened) .room))
+  pub sound-held : p < 8 → isSoundOf d p ≡ true
+  unfolding isSoundOf isSoundIn
+  sound-held h = simp (H .slots p h .sound, le-leb _ _ (opened (d .settings) (d .buffers) (H .opened) .room))
 
   pub out-pending : isOutBy (d .blockers) (stateAt d p) p ≡ true → isPending (stateAt d p .phase) ≡ true
   unfolding isOutBy
@@ -104,15 +104,15 @@ module _ (d : Dock) (H : Held d) (p : ℕ) where
 
     abbrev told : Bool → Bool → Told
     told t u =
-        stored d p (pick (t && isKeptBy (stateAt d p) (d .settings) (d .buffers))
+        stored d p (pick (t && isSoundIn (stateAt d p) (d .settings) (d .buffers))
         (answeredBy (pick u (Leads (toldOf (d .settings) (stateAt d p) code)) (NoLead NoAnswer)) (d .blockers) p (shareAt d p) (stateAt d p) code (vectorAt d p)
         memory scratch) (steps (unstepped (d .blockers) (stateAt d p) Slot) memory scratch))
 
     there : p < 8 → length memory ≡ d .buffers .«data» .length → (t u : Bool) → isOutBy (d .blockers) (stateAt d p) p ≡ t
         → told t u ≡ pick t (pick u step (refusedTell d memory scratch NoAnswer)) (refusedTell d memory scratch Slot)
-    unfolding isKept
-    there h l true true e = simp (kept-held h) (told-done d H p h (out-pending e) code memory scratch l)
-    there h l true false e = simp (kept-held h)
+    unfolding isSoundOf
+    there h l true true e = simp (sound-held h) (told-done d H p h (out-pending e) code memory scratch l)
+    there h l true false e = simp (sound-held h)
     there h l false u e = refl
 
     pub tell-is : tellOf d p code memory scratch ≡ tellRule d p code memory scratch
@@ -180,8 +180,8 @@ made-held (collects {d} k p m n) = collect-held d (made-held k) p m n
 
 module _ {d : Dock} (k : Made d) where
   -- the test of the job at hand is passed
-  pub made-kept : (p : ℕ) → p < 8 → isKept d p ≡ true
-  made-kept p h = kept-held d (made-held k) p h
+  pub made-sound : (p : ℕ) → p < 8 → isSoundOf d p ≡ true
+  made-sound p h = sound-held d (made-held k) p h
 
   pub made-tell : (p code : ℕ) (memory scratch : List ℕ) → tellOf d p code memory scratch ≡ tellRule d p code memory scratch
   made-tell p code memory scratch = tell-is d (made-held k) p code memory scratch

@@ -18,7 +18,7 @@ use commands::lines::parse;
 use commands::words::Class;
 use commands::words::run_end;
 use dock::begin::Asked;
-use dock::begin::planned;
+use dock::begin::plan_asked;
 use stages::plan::Plan;
 use vectors::vector::IoVector;
 use vectors::vector::Segment;
@@ -85,7 +85,7 @@ pub(crate) fn asked(e: Entry, slot: usize) -> Asked
 
 // What the dock would refuse a job for, in any slot and whatever else is in flight.
 fn judged(e: Entry, s: Settings) -> Outcome {
-    match planned(asked(e, 0), s, buffers()) {
+    match plan_asked(asked(e, 0), s, buffers()) {
         Plan::Refused(r) => Outcome::Refused(r),
         _ => Outcome::Done,
     }

@@ -17,7 +17,7 @@ use Rattle.stages.specs.declared.state.State.{State}
 use Rattle.stages.specs.declared.told.Step.{Step}
 use Rattle.dock.specs.Dock.{lentFits, isOutBy, stateAt, vectorAt}
 use Rattle.dock.specs.Begin.{Filled, fills, filled, blockersWith}
-use Rattle.dock.specs.Next.{isKeptBy}
+use Rattle.dock.specs.Next.{isSoundIn}
 use Rattle.dock.specs.Tell.{Handed, hands, handed, blockersWithout, tells, tellOf, Stepped, staysAt, endsAt, entersAt, steppedAt, answeredOf, answeredBy, toldAt}
 use Rattle.dock.specs.declared.tell.Answered.{Answered}
 use Rattle.dock.specs.declared.tell.Answered.the-variants.{Leads, Refused as NoLead}
@@ -101,11 +101,11 @@ module _ (b x : List ℕ) (p : ℕ) (s : Settings) (l : Buffers) (w : State) (v 
   told-not-out o = simp o
 
   module _ (o : isOutBy (blockersOf b) w p ≡ true) where
-    pub told-not-kept : isKeptBy w s l ≡ false → keeps (Refused Slot) b x memory scratch ≡ kept (blockersOf b) (statesOf x) p Tell
+    pub told-not-sound : isSoundIn w s l ≡ false → keeps (Refused Slot) b x memory scratch ≡ kept (blockersOf b) (statesOf x) p Tell
     unfolding toldAt
-    told-not-kept k = simp (o, k)
+    told-not-sound k = simp (o, k)
 
-    module _ (k : isKeptBy w s l ≡ true) (a : Answered) (e : a ≡ answeredOf s w code) where
+    module _ (k : isSoundIn w s l ≡ true) (a : Answered) (e : a ≡ answeredOf s w code) where
       by : (z : Answered) → a ≡ z → answeredBy z (blockersOf b) p (p * s .bounce) w code v memory scratch ≡ Tell
       unfolding toldAt
       by z q = ap (λ (y : Answered). answeredBy y (blockersOf b) p (p * s .bounce) w code v memory scratch) (sym q ∙ e) ∙ simp (o, k)

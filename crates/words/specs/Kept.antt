@@ -34,9 +34,8 @@ keeps o b x memory scratch = record { outcome = o; blockers = blockersOf b; stat
 
 -- a step of slot p, kept where it is done
 abbrev pub keptBy : Outcome → Blockers → List State → ℕ → Stepped → Kept
-keptBy o b xs p t =
-    whenDone o (record { outcome = Done; blockers = t .blockers; states = set xs p (t .state); memory = t .memory; scratch = t .scratch })
-    (λ r. record { outcome = Refused r; blockers = b; states = xs; memory = t .memory; scratch = t .scratch })
+keptBy Done b xs p t = record { outcome = Done; blockers = t .blockers; states = set xs p (t .state); memory = t .memory; scratch = t .scratch }
+keptBy (Refused r) b xs p t = record { outcome = Refused r; blockers = b; states = xs; memory = t .memory; scratch = t .scratch }
 
 abbrev pub kept : Blockers → List State → ℕ → Stepped → Kept
 kept b xs p t = keptBy (t .outcome) b xs p t

@@ -24,11 +24,11 @@ use arithmetic::settings::drive_profile;
 use arithmetic::settings::opening;
 use dock::begin::Asked;
 use dock::begin::Begun;
-use dock::begin::decided;
+use dock::begin::decide;
 use dock::begin::moved;
-use dock::begin::planned;
+use dock::begin::plan_asked;
 use dock::dock::SLOTS;
-use dock::dock::lent;
+use dock::dock::check_lent;
 use dock::dock::lent_fits;
 use dock::next::Due;
 use dock::next::Piece;
@@ -137,10 +137,10 @@ pub(crate) fn begin(
     let job = asked.job;
     let v = moved(job, asked.vector);
     let met = overlaps(states, vectors, job, v);
-    let lent = lent(s, b, data.len(), scratch.len());
+    let lent = check_lent(s, b, data.len(), scratch.len());
     let free = first_free(states);
-    let plan = planned(asked, s, b);
-    let plan = decided(lent, v.valid(data.len()), plan, met, free);
+    let first = plan_asked(asked, s, b);
+    let plan = decide(lent, v.valid(data.len()), first, met, free);
     admit(
         blockers,
         states,

@@ -14,7 +14,7 @@ use dock::bytes::fill_share;
 use dock::bytes::hand_out_share;
 use dock::bytes::is_bounced_read;
 use dock::bytes::is_bounced_write;
-use dock::next::is_kept;
+use dock::next::is_sound_in;
 use dock::tell::Answered;
 use dock::tell::told;
 use stages::state::State;
@@ -27,9 +27,9 @@ ghost use Prim.Native.Nat.{_*_, _<_};
 ghost use lib.ListN.{length, getD};
 ghost use Rattle.dock.specs.Dock.{isOutBy, lentFits, noVector};
 ghost use Rattle.dock.specs.Begin.{fills};
-ghost use Rattle.dock.specs.Next.{isSeated};
+ghost use Rattle.dock.specs.Next.{isSoundAt};
 ghost use Rattle.dock.specs.Tell.{hands, staysAt, endsAt, entersAt, steppedAt, toldAt};
-ghost use Rattle.dock.specs.Slots.{filledShare, handedShare, StepSeated};
+ghost use Rattle.dock.specs.Slots.{filledShare, handedShare, StepSound};
 ghost use Rattle.words.specs.View.{blockersOf, statesOf, vectorsOf};
 ghost use Rattle.words.specs.Kept.{keeps, kept};
 
@@ -103,7 +103,7 @@ fn stays(
     data: &[u8],
     scratch: &mut [u8],
 ) -> Outcome
-    requires { ⌜ (length (now states) ≡ 144) × (length (now vectors) ≡ 272) × (slot < 8) × (isSeated slot y settings buffers (length (now scratch)) ≡ true) ⌝ }
+    requires { ⌜ (length (now states) ≡ 144) × (length (now vectors) ≡ 272) × (slot < 8) × (isSoundAt slot y settings buffers (length (now scratch)) ≡ true) ⌝ }
     ensures { λ r. ⌜ keeps r (now (blockers .entry)) (now (states .exit)) (now («data» .entry)) (now (scratch .exit))
         ≡ kept (blockersOf (now (blockers .entry))) (statesOf (now (states .entry))) slot (staysAt (blockersOf (now (blockers .entry))) (slot * settings .bounce) y (getD (vectorsOf (now (vectors .entry))) slot noVector) (now («data» .entry)) (now (scratch .entry))) ⌝ }
 {
@@ -129,7 +129,7 @@ fn ends(
     data: &mut [u8],
     scratch: &[u8],
 ) -> Outcome
-    requires { ⌜ (length (now blockers) ≡ 88) × (length (now states) ≡ 144) × (length (now vectors) ≡ 272) × (slot < 8) × (isSeated slot x settings buffers (length (now scratch)) ≡ true) ⌝ }
+    requires { ⌜ (length (now blockers) ≡ 88) × (length (now states) ≡ 144) × (length (now vectors) ≡ 272) × (slot < 8) × (isSoundAt slot x settings buffers (length (now scratch)) ≡ true) ⌝ }
     ensures { λ r. ⌜ keeps r (now (blockers .exit)) (now (states .exit)) (now («data» .exit)) (now (scratch .entry))
         ≡ kept (blockersOf (now (blockers .entry))) (statesOf (now (states .entry))) slot (endsAt (blockersOf (now (blockers .entry))) slot (slot * settings .bounce) x code y (getD (vectorsOf (now (vectors .entry))) slot noVector) (now («data» .entry)) (now (scratch .entry))) ⌝ }
 {
@@ -158,7 +158,7 @@ fn enters(
     data: &[u8],
     scratch: &mut [u8],
 ) -> Outcome
-    requires { ⌜ (length (now blockers) ≡ 88) × (length (now states) ≡ 144) × (length (now vectors) ≡ 272) × (slot < 8) × (isSeated slot y settings buffers (length (now scratch)) ≡ true) ⌝ }
+    requires { ⌜ (length (now blockers) ≡ 88) × (length (now states) ≡ 144) × (length (now vectors) ≡ 272) × (slot < 8) × (isSoundAt slot y settings buffers (length (now scratch)) ≡ true) ⌝ }
     ensures { λ r. ⌜ keeps r (now (blockers .exit)) (now (states .exit)) (now («data» .entry)) (now (scratch .exit))
         ≡ kept (blockersOf (now (blockers .entry))) (statesOf (now (states .entry))) slot (entersAt (blockersOf (now (blockers .entry))) slot (slot * settings .bounce) x y (getD (vectorsOf (now (vectors .entry))) slot noVector) (now («data» .entry)) (now (scratch .entry))) ⌝ }
 {
@@ -188,7 +188,7 @@ fn step(
     data: &mut [u8],
     scratch: &mut [u8],
 ) -> Outcome
-    requires { ⌜ (length (now b) ≡ 88) × (length (now xs) ≡ 144) × (length (now vs) ≡ 272) × (slot < 8) × StepSeated slot s l x (length (now scratch)) step ⌝ }
+    requires { ⌜ (length (now b) ≡ 88) × (length (now xs) ≡ 144) × (length (now vs) ≡ 272) × (slot < 8) × StepSound slot s l x (length (now scratch)) step ⌝ }
     ensures { λ r. ⌜ keeps r (now (b .exit)) (now (xs .exit)) (now («data» .exit)) (now (scratch .exit))
         ≡ kept (blockersOf (now (b .entry))) (statesOf (now (xs .entry))) slot (steppedAt (blockersOf (now (b .entry))) slot (slot * s .bounce) x code (getD (vectorsOf (now (vs .entry))) slot noVector) (now («data» .entry)) (now (scratch .entry)) step) ⌝ }
 {
@@ -219,7 +219,7 @@ pub(crate) fn told_at(
     if !is_out(b, x, slot) {
         return Outcome::Refused(Refusal::Slot);
     }
-    if !is_kept(x, s, l) {
+    if !is_sound_in(x, s, l) {
         return Outcome::Refused(Refusal::Slot);
     }
     let answer = told(x, s, code);

@@ -6,7 +6,7 @@ use Prim.Native.Nat.{_≤_, _-_}
 use mathlib.Core.Path.{_≡_, sym, _∙_}
 use lib.ListN.{length}
 use Rattle.arithmetic.specs.Loops.{array-long}
-use Rattle.dock.specs.SeatLaws.{NoneFree, lowest-here, lowest-none}
+use Rattle.dock.specs.SlotLaws.{NoneFree, lowest-here, lowest-none}
 use Rattle.dock.proofs.dock.first_free.Statement.{statement}
 use Rattle.dock.proofs.dock.first_free.Tie as tie
 

@@ -2,7 +2,7 @@
 use mathlib.Core.Path.{sym, _∙_}
 use Prim.Native.Nat.{_*_}
 use borrow.Author.Tests.{not-true, not-false}
-use Rattle.dock.specs.SeatLaws.{filled-share}
+use Rattle.dock.specs.SlotLaws.{filled-share}
 use Rattle.words.proofs.Begun.{seat-not, seat-refused, seat-done}
 use borrow.Author.Needs.{needs}
 use Rattle.words.proofs.begun_words.seat.Statement.{statement}

@@ -12,7 +12,7 @@ use Rattle.dock.specs.Dock.{noState}
 use Rattle.words.specs.Rows.{rows-length}
 use Rattle.words.specs.View.{phaseOf, stateOf, statesOf}
 use Rattle.words.specs.Laws.{phase-word}
-use Rattle.dock.specs.SeatLaws.{NoneFree, lowest-here, lowest-none}
+use Rattle.dock.specs.SlotLaws.{NoneFree, lowest-here, lowest-none}
 use Rattle.words.proofs.state_words.first_free.Statement.{statement}
 use Rattle.words.proofs.state_words.first_free.Tie as tie
 

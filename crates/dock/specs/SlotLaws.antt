@@ -1,4 +1,4 @@
--- What a seated job's calls rely on: which jobs are seated, what is filled and copied out then, and how a begin is decided. Assumes nothing.
+-- What the calls on a slot rely on: which jobs are sound there, what is filled and copied out then, the lowest free slot, and how a begin is decided. Assumes nothing.
 use mathlib.Core.Path.{_≡_, refl, sym, ap, _∙_}
 use mathlib.Core.Bool.{Bool, true, false, _&&_, _||_}
 use mathlib.Core.List.{List, [], _∷_}
@@ -32,22 +32,22 @@ use Rattle.stages.specs.declared.plan.Plan.{Plan}
 use Rattle.stages.specs.declared.plan.Plan.the-variants.{Done as NothingToDo, Started, Refused as PlanRefused}
 use Rattle.dock.specs.Dock.{noState, lentFits, lentOf, meetsAt, meetsItself, overlapsOf, firstFree}
 use Rattle.dock.specs.Begin.{Filled, fills, isBouncedWrite, merged, filled, decidedOf, admitAt, seated, movedOf, planOf, beginOf}
-use Rattle.dock.specs.Next.{isKeptBy, isSeated}
+use Rattle.dock.specs.Next.{isSoundIn, isSoundAt}
 use Rattle.dock.specs.Tell.{Handed, hands, isBouncedRead, copiedOut, handed, answeredOf}
-use Rattle.dock.specs.Slots.{filledShare, handedShare, PlanSeated, StepSeated}
+use Rattle.dock.specs.Slots.{filledShare, handedShare, PlanSound, StepSound}
 use Rattle.dock.specs.declared.dock.Dock.{Dock}
 use Rattle.dock.specs.declared.begin.Asked.{Asked}
 use Rattle.dock.specs.declared.tell.Answered.the-variants.{Leads, Refused as NoLead}
 
--- ---- a kept job, in one of the eight slots and over the buffers of opening, is seated
+-- ---- a sound job is sound in each of the eight slots, over the buffers of opening
 
-pub seated-here : (p : ℕ) (x : State) (s : Settings) (b : Buffers) (m n : ℕ) → p < 8 → lentFits b m n ≡ true → isKeptBy x s b ≡ true → isSeated p x s b n ≡ true
-unfolding isSeated lentFits
-seated-here p x s b m n h l k = simp (lt-ltb p 8 h, k) (and-right (eqb m (b .«data» .length)) (eqb n (b .scratch .length)) l)
+pub sound-here : (p : ℕ) (x : State) (s : Settings) (b : Buffers) (m n : ℕ) → p < 8 → lentFits b m n ≡ true → isSoundIn x s b ≡ true → isSoundAt p x s b n ≡ true
+unfolding isSoundAt lentFits
+sound-here p x s b m n h l k = simp (lt-ltb p 8 h, k) (and-right (eqb m (b .«data» .length)) (eqb n (b .scratch .length)) l)
 
 -- ---- what is filled, and copied out, then
 
-pub filled-share : (p : ℕ) (s : Settings) (b : Buffers) (x : State) (v : IoVector) (memory scratch : List ℕ) → isSeated p x s b (length scratch) ≡ true
+pub filled-share : (p : ℕ) (s : Settings) (b : Buffers) (x : State) (v : IoVector) (memory scratch : List ℕ) → isSoundAt p x s b (length scratch) ≡ true
     → filledShare p s b x v memory scratch ≡ filled (p * s .bounce) x v memory scratch
 unfolding filledShare filled
 filled-share p s b x v memory scratch e = rw e (go (isBouncedWrite (x .phase)) (merged (p * s .bounce) x v memory scratch) (fills Done scratch))
@@ -56,7 +56,7 @@ filled-share p s b x v memory scratch e = rw e (go (isBouncedWrite (x .phase)) (
     go true k z = refl
     go false k z = refl
 
-pub handed-share : (p : ℕ) (s : Settings) (b : Buffers) (x : State) (code : ℕ) (v : IoVector) (memory scratch : List ℕ) → isSeated p x s b (length scratch) ≡ true
+pub handed-share : (p : ℕ) (s : Settings) (b : Buffers) (x : State) (code : ℕ) (v : IoVector) (memory scratch : List ℕ) → isSoundAt p x s b (length scratch) ≡ true
     → handedShare p s b x code v memory scratch ≡ handed (p * s .bounce) x code v memory scratch
 unfolding handedShare handed
 handed-share p s b x code v memory scratch e = rw e (go (isBouncedRead (x .phase) && eqb code 0) (copiedOut (p * s .bounce) x v memory scratch) (hands Done memory))
@@ -76,23 +76,23 @@ leads-told s x code t e = leads (ltb code 200) e
     leads true e = cc
     leads false e = let z : _≡_ {A = ℕ} 0 1 = cc in absurd (omega arith)
 
--- a job whose stage is sound is kept where another one is
-kept-too : (x y : State) (s : Settings) (b : Buffers) → isKeptBy x s b ≡ true → isSound (s .bounce) y ≡ true → isKeptBy y s b ≡ true
-unfolding isKeptBy
-kept-too x y s b k e = rw e (and-right (isSound (s .bounce) x) (leb (8 * s .bounce) (b .scratch .length)) k)
+-- a job whose stage is sound is sound where another one is
+sound-too : (x y : State) (s : Settings) (b : Buffers) → isSoundIn x s b ≡ true → isSound (s .bounce) y ≡ true → isSoundIn y s b ≡ true
+unfolding isSoundIn
+sound-too x y s b k e = rw e (and-right (isSound (s .bounce) x) (leb (8 * s .bounce) (b .scratch .length)) k)
 
-kept-sound : (x : State) (s : Settings) (b : Buffers) → isKeptBy x s b ≡ true → isSound (s .bounce) x ≡ true
-unfolding isKeptBy
-kept-sound x s b k = and-left (isSound (s .bounce) x) (leb (8 * s .bounce) (b .scratch .length)) k
+sound-share : (x : State) (s : Settings) (b : Buffers) → isSoundIn x s b ≡ true → isSound (s .bounce) x ≡ true
+unfolding isSoundIn
+sound-share x s b k = and-left (isSound (s .bounce) x) (leb (8 * s .bounce) (b .scratch .length)) k
 
-pub leads-seated : (p : ℕ) (s : Settings) (b : Buffers) (x : State) (code m n : ℕ) → p < 8 → lentFits b m n ≡ true → isKeptBy x s b ≡ true → (t : Step) → answeredOf s x code ≡ Leads t
-    → StepSeated p s b x n t
-leads-seated p s b x code m n h l k t e = by t (leads-told s x code t e)
+pub leads-sound : (p : ℕ) (s : Settings) (b : Buffers) (x : State) (code m n : ℕ) → p < 8 → lentFits b m n ≡ true → isSoundIn x s b ≡ true → (t : Step) → answeredOf s x code ≡ Leads t
+    → StepSound p s b x n t
+leads-sound p s b x code m n h l k t e = by t (leads-told s x code t e)
   where
-    by : (t : Step) → toldOf s x code ≡ t → StepSeated p s b x n t
-    by (Stays y) e = seated-here p y s b m n h l (kept-too x y s b k (told-stays s x code y e .sound (kept-sound x s b k)))
-    by (Ends y) e = seated-here p x s b m n h l k
-    by (Enters y) e = seated-here p y s b m n h l (kept-too x y s b k (told-enters s x code y e .sound))
+    by : (t : Step) → toldOf s x code ≡ t → StepSound p s b x n t
+    by (Stays y) e = sound-here p y s b m n h l (sound-too x y s b k (told-stays s x code y e .sound (sound-share x s b k)))
+    by (Ends y) e = sound-here p x s b m n h l k
+    by (Enters y) e = sound-here p y s b m n h l (sound-too x y s b k (told-enters s x code y e .sound))
 
 -- ---- a begin meets the vectors of other jobs, one slot after the other
 
@@ -182,20 +182,20 @@ lent-done s b m n e = go (openingOf s b) (lentFits b m n) e
     go Done false e = let z : _≡_ {A = ℕ} 0 1 = cc in absurd (omega arith)
     go (Refused r) t e = let z : _≡_ {A = ℕ} 0 1 = cc in absurd (omega arith)
 
--- over what a begin is lent, a job whose stage is sound is seated in a slot of the eight
-lent-seats : (s : Settings) (b : Buffers) (m n p : ℕ) (x : State) → lentOf s b m n ≡ Done → p < 8 → isSound (s .bounce) x ≡ true → isSeated p x s b n ≡ true
-unfolding isSeated isKeptBy
-lent-seats s b m n p x d h w =
+-- over what a begin is lent, a job whose stage is sound is sound in a slot of the eight
+lent-sound : (s : Settings) (b : Buffers) (m n p : ℕ) (x : State) → lentOf s b m n ≡ Done → p < 8 → isSound (s .bounce) x ≡ true → isSoundAt p x s b n ≡ true
+unfolding isSoundAt isSoundIn
+lent-sound s b m n p x d h w =
     let k = lent-done s b m n d in
-    seated-here p x s b m n h (k .1) (simp w (le-leb (8 * s .bounce) (b .scratch .length) (omega (arith, opened s b (k .0) .room))))
+    sound-here p x s b m n h (k .1) (simp w (le-leb (8 * s .bounce) (b .scratch .length) (omega (arith, opened s b (k .0) .room))))
 
-pub decided-seated : (j : Job) (s : Settings) (b : Buffers) (o : StoreOffset) (k : ℕ) (v : IoVector) (m n : ℕ) (l : Outcome) → l ≡ lentOf s b m n → (t : Bool) (plan : Plan) → plan ≡ planOf j s b o k v
-    → (met : Bool) (f : ℕ) (q : Plan) → q ≡ decidedOf l t plan met f → PlanSeated f s b n q
-decided-seated j s b o k v m n l le t plan pe met f NothingToDo e = tt
-decided-seated j s b o k v m n l le t plan pe met f (PlanRefused r) e = tt
-decided-seated j s b o k v m n l le t plan pe met f (Started x) e =
+pub decided-sound : (j : Job) (s : Settings) (b : Buffers) (o : StoreOffset) (k : ℕ) (v : IoVector) (m n : ℕ) (l : Outcome) → l ≡ lentOf s b m n → (t : Bool) (plan : Plan) → plan ≡ planOf j s b o k v
+    → (met : Bool) (f : ℕ) (q : Plan) → q ≡ decidedOf l t plan met f → PlanSound f s b n q
+decided-sound j s b o k v m n l le t plan pe met f NothingToDo e = tt
+decided-sound j s b o k v m n l le t plan pe met f (PlanRefused r) e = tt
+decided-sound j s b o k v m n l le t plan pe met f (Started x) e =
     let w = started l t plan met f x (sym e) in
-    lent-seats s b m n f x (sym le ∙ w .lent) (w .slot) (plan-sound j s b o k v x (sym pe ∙ w .planned))
+    lent-sound s b m n f x (sym le ∙ w .lent) (w .slot) (plan-sound j s b o k v x (sym pe ∙ w .planned))
 
 -- what is asked, planned, decided and admitted, each as its definition says, is begun
 module _ (d : Dock) (q : Asked) (memory scratch : List ℕ) (v : IoVector) (ve : v ≡ movedOf (q .job) (q .vector)) (met : Bool) (me : met ≡ overlapsOf (d .states) (d .vectors) (q .job) v)
