@@ -33,7 +33,7 @@ use Rattle.dock.specs.Begin.{isWriteJob, isBouncedWrite, sourceOf, sourceFits, 
 use Rattle.dock.specs.SlotLaws.{lowest-free}
 use Rattle.dock.specs.declared.dock.Dock.{Dock}
 use Rattle.dock.specs.declared.begin.Asked.{Asked}
-use Rattle.histories.specs.Courses.{isZeroJob, puts, isRegular, suited, never}
+use Rattle.histories.specs.Courses.{isZeroJob, bounces, isRegular, suited, never}
 use Rattle.histories.specs.Calls.{Ready, free-idle, write-vector, copied, placed, free-there, place-held}
 use Rattle.histories.specs.MadeLaws.{data-long}
 use Rattle.histories.specs.Store.{Bytes}
@@ -151,7 +151,7 @@ pub record Start (d : Dock) (q : Asked) (v : IoVector) (x : State) : Type 0 wher
 pub bounced-puts : (x : State) (ph : Phase) → x .phase ≡ ph → isRegular x ≡ true → isBouncedWrite ph ≡ true → isWriteJob (x .job) ≡ true ⊎ isZeroJob (x .job) ≡ true
 bounced-puts x BouncedWrite p k e = by (x .course) (suited x k BouncedWrite p)
   where
-    by : (c : Course) → puts c (x .job) ≡ true → isWriteJob (x .job) ≡ true ⊎ isZeroJob (x .job) ≡ true
+    by : (c : Course) → bounces c (x .job) ≡ true → isWriteJob (x .job) ≡ true ⊎ isZeroJob (x .job) ≡ true
     by Last e = or-cases (isWriteJob (x .job)) (isZeroJob (x .job)) e
     by Middle e = never e
     by Head e = inr e

@@ -43,14 +43,14 @@ use Rattle.stages.specs.declared.told.Step.the-variants.{Stays, Ends, Enters}
 use Rattle.dock.specs.Dock.{noState, noVector, vacant, stateAt, vectorAt, lentFits, isReadJob}
 use Rattle.dock.specs.Begin.{isWriteJob, sourceOf, filled}
 use Rattle.dock.specs.Tell.{blockersWithout, copiedAt, isBouncedRead, handed}
-use Rattle.histories.specs.Courses.{isZeroJob, isDiscardJob, hasVector, isLast, isMiddle, puts, suits, isRegular, suited, never, enters-regular}
+use Rattle.histories.specs.Courses.{isZeroJob, isDiscardJob, hasVector, isLast, isMiddle, bounces, suits, isRegular, suited, never, enters-regular}
 use Rattle.histories.specs.Held.{Held, SlotOf}
 use Rattle.histories.specs.Calls.{read-no-write, write-vector, read-vector, direct-reads, bounced-reads, pending-taken, copied, told-held, entered, after}
 use Rattle.histories.specs.Keeping.{Changes, leave-changes}
 use Rattle.histories.specs.MadeLaws.{data-long}
 use Rattle.histories.specs.Store.{Bytes}
 use Rattle.histories.specs.PlainStore.{Did, yielded, wrote, zeroed, Tracked, Plain, newBytes, standing, stateOf, putJob, withCode}
-use Rattle.histories.specs.Histories.{World, Among, here, later, puts as putsAt, putBy, OwedBy, answered}
+use Rattle.histories.specs.Histories.{World, Among, here, later, puts, putBy, OwedBy, answered}
 use Rattle.histories.proofs.Lists.{list-ext, share-room, share-put-off}
 use Rattle.histories.proofs.Geometry.{Beside, AsAsked, Zone}
 use Rattle.histories.proofs.Progress.{Put, Before, Follows, Goes as Leads, done-goes, chunk-goes}
@@ -113,9 +113,9 @@ more-put : (t : Bool) (ds : List Did) (y : ℕ) → putBy ds y ≡ true → pick
 more-put true ds y f = refl
 more-put false ds y f = f
 
-among-put : (d : Did) {ds : List Did} (y : ℕ) → Among d ds → putsAt d y ≡ true → putBy ds y ≡ true
+among-put : (d : Did) {ds : List Did} (y : ℕ) → Among d ds → puts d y ≡ true → putBy ds y ≡ true
 among-put d y (here {ds}) i = rw i
-among-put d y (later {e} {ds} k) i = more-put (putsAt e y) ds y (among-put d y k i)
+among-put d y (later {e} {ds} k) i = more-put (puts e y) ds y (among-put d y k i)
 
 wrote-put : (ds : List Did) (r : Range) (new : Bytes) → Among (wrote r 0 new) ds → Put ds (r .start .0) (r .end .0)
 wrote-put ds r new k y h l = among-put (wrote r 0 new) y k (rw (le-leb (r .start .0) y h, lt-ltb y (r .end .0) l))
@@ -324,7 +324,7 @@ module _ (w : World) (m : Plain) (I : Inv w m) (p : ℕ) (h : p < 8) (pending : 
       put-it : Put (T .j .steps) (x .stage .asked .start .0) (x .stage .asked .end .0)
       put-it = wrote-put (T .j .steps) (x .stage .asked) (newBytes (x .job) (x .stage .asked .start .0) (T .j .bytes)) wrote-it
 
-      by : (c : Course) → x .course ≡ c → puts c (x .job) ≡ true → Good (stageDone c (w .dock .settings) x)
+      by : (c : Course) → x .course ≡ c → bounces c (x .job) ≡ true → Good (stageDone c (w .dock .settings) x)
       by Last i k = ⊎-elim (λ u. λ a. owed-write u wrote-it handing) (λ u. good-zero u Last i put-it) (or-cases (isWriteJob (x .job)) (isZeroJob (x .job)) k)
       by Middle i k = never k
       by Head i k = good-zero k Head i put-it
@@ -385,7 +385,7 @@ module _ (w : World) (m : Plain) (I : Inv w m) (p : ℕ) (h : p < 8) (pending : 
             ]
           ]
 
-  regular-written : (ph : Phase) → x .phase ≡ ph → (suits ph (x .course) (x .job) ≡ true → puts (x .course) (x .job) ≡ true) → isRegular (inPhase BouncedWrite x) ≡ true
+  regular-written : (ph : Phase) → x .phase ≡ ph → (suits ph (x .course) (x .job) ≡ true → bounces (x .course) (x .job) ≡ true) → isRegular (inPhase BouncedWrite x) ≡ true
   unfolding isRegular
   regular-written ph e f = simp (f (suited x (S .regular) ph e))
 

@@ -73,20 +73,20 @@ isMiddle Head = false
 isMiddle Chunks = false
 
 -- a job whose stage in this course writes from the bounce buffer: a write has one stage, a zero job's middle is a zero request
-abbrev pub puts : Course → Job → Bool
-puts Last j = isWriteJob j || isZeroJob j
-puts Middle j = false
-puts Head j = isZeroJob j
-puts Chunks j = isZeroJob j
+abbrev pub bounces : Course → Job → Bool
+bounces Last j = isWriteJob j || isZeroJob j
+bounces Middle j = false
+bounces Head j = isZeroJob j
+bounces Chunks j = isZeroJob j
 
 abbrev pub suits : Phase → Course → Job → Bool
 suits Free c j = true
 suits Ended c j = true
 suits DirectRead c j = isLast c && isReadJob j
 suits BouncedRead c j = isLast c && isReadJob j
-suits FirstRead c j = puts c j
-suits SecondRead c j = puts c j
-suits BouncedWrite c j = puts c j
+suits FirstRead c j = bounces c j
+suits SecondRead c j = bounces c j
+suits BouncedWrite c j = bounces c j
 suits DirectWrite c j = isLast c && isWriteJob j
 suits ZeroRequest c j = isMiddle c && isZeroJob j
 suits DiscardRequest c j = isLast c && isDiscardJob j
@@ -119,7 +119,7 @@ never e = absurd (false≢true e)
 
 -- ---- plans
 
-first-regular : (j : Job) (c : Course) (g : Stage) → puts c j ≡ true → regular (firstPhase g) c j g ≡ true
+first-regular : (j : Job) (c : Course) (g : Stage) → bounces c j ≡ true → regular (firstPhase g) c j g ≡ true
 unfolding firstPhase
 first-regular j c g h = go (ltb 0 (sizeOf (g .first))) (ltb 0 (sizeOf (g .second))) refl refl
   where
@@ -158,7 +158,7 @@ module _ (s : Settings) (o : StoreOffset) (n : ℕ) where
   unfolding writePlan
   write-regular t = starts-some Sole n _ (λ h. write-by (transferOf (s .align) o n t))
 
-module _ (s : Settings) (j : Job) (w m : Range) (c : Course) (r : Range) (h : puts c j ≡ true) where
+module _ (s : Settings) (j : Job) (w m : Range) (c : Course) (r : Range) (h : bounces c j ≡ true) where
   zeroes-by : (t : Transfer) → Starts Regular (zeroesBy s j w m c r t)
   unfolding isRegular
   zeroes-by (Direct x) = starts-within Regular (sizeOf r) (s .bounce) _ (λ k. simp h)
@@ -173,18 +173,18 @@ zero-job : (t : Bool) → isZeroJob (zeroJob t) ≡ true
 zero-job true = refl
 zero-job false = refl
 
-last-puts : (j : Job) → isZeroJob j ≡ true → puts Last j ≡ true
-last-puts Read e = e
-last-puts Write e = refl
-last-puts Zeroes e = refl
-last-puts AllocatedZeroes e = refl
-last-puts Discard e = e
+last-bounces : (j : Job) → isZeroJob j ≡ true → bounces Last j ≡ true
+last-bounces Read e = e
+last-bounces Write e = refl
+last-bounces Zeroes e = refl
+last-bounces AllocatedZeroes e = refl
+last-bounces Discard e = e
 
 module _ (s : Settings) (o : StoreOffset) (n : ℕ) where
   zero-by : (t : Bool) (x : ZeroCut) → Starts Regular (zeroBy s (zeroJob t) o n x)
   unfolding isRegular
   zero-by t NoCut = tt
-  zero-by t (Whole r) = zeroes-regular s (zeroJob t) r (rangeOf 0 0) Last r (last-puts (zeroJob t) (zero-job t))
+  zero-by t (Whole r) = zeroes-regular s (zeroJob t) r (rangeOf 0 0) Last r (last-bounces (zeroJob t) (zero-job t))
   zero-by t (Split c) = simp (zero-job t)
   zero-by t (CutRefused r) = tt
 
@@ -223,7 +223,7 @@ module _ (s : Settings) (x : State) where
     later-regular (Started y) k = (z, k)
     later-regular (Refused r) k = tt
 
-    next-regular : (c : Course) (r : Range) → puts c (x .job) ≡ true → StepRegular x (zeroesNext s x c r)
+    next-regular : (c : Course) (r : Range) → bounces c (x .job) ≡ true → StepRegular x (zeroesNext s x c r)
     next-regular c r h =
         later-regular (zeroesPlan s (x .job) (x .range) (x .middle) c r) (zeroes-regular s (x .job) (x .range) (x .middle) c r h)
 
@@ -237,7 +237,7 @@ module _ (s : Settings) (x : State) where
     chunk-regular o = chunk-by (chunkOf s (record { start = o; end = x .range .end }))
 
     -- a write of zeroes over r, where not empty
-    some-regular : (r : Range) (c : Course) (b : Step) → puts c (x .job) ≡ true → StepRegular x b
+    some-regular : (r : Range) (c : Course) (b : Step) → bounces c (x .job) ≡ true → StepRegular x b
         → StepRegular x (pick (ltb 0 (sizeOf r)) (zeroesNext s x c r) b)
     some-regular r c b h l = go (ltb 0 (sizeOf r))
       where
@@ -248,13 +248,13 @@ module _ (s : Settings) (x : State) where
     tail-regular : StepRegular x (tailNext s x)
     unfolding tailNext
     tail-regular =
-        some-regular (record { start = x .middle .end; end = x .range .end }) Last (Ends (endedWith 0 x)) (last-puts (x .job) z) tt
+        some-regular (record { start = x .middle .end; end = x .range .end }) Last (Ends (endedWith 0 x)) (last-bounces (x .job) z) tt
 
     head-regular : StepRegular x (headNext s x)
     unfolding headNext
     head-regular = some-regular (record { start = x .range .start; end = x .middle .start }) Head (tailNext s x) z tail-regular
 
-  write-done : (c : Course) → puts c (x .job) ≡ true → StepRegular x (stageDone c s x)
+  write-done : (c : Course) → bounces c (x .job) ≡ true → StepRegular x (stageDone c s x)
   write-done Last h = tt
   write-done Middle h = never h
   write-done Head h = tail-regular h
@@ -266,7 +266,7 @@ module _ (s : Settings) (x : State) where
   zero-done Head h = never h
   zero-done Chunks h = never h
 
-  second-regular : puts (x .course) (x .job) ≡ true → (t : Bool) → ltb 0 (sizeOf (x .stage .second)) ≡ t
+  second-regular : bounces (x .course) (x .job) ≡ true → (t : Bool) → ltb 0 (sizeOf (x .stage .second)) ≡ t
       → regular (pick t SecondRead BouncedWrite) (x .course) (x .job) (x .stage) ≡ true
   second-regular h true e = simp (h, e)
   second-regular h false e = simp h
