@@ -21,8 +21,9 @@
  *   calls; from then on only the copy that the newest call was made with counts. Two threads must not be in calls on
  *   one dock at once.
  *
- * A call that refuses changes nothing: not the dock, not the vector, not the lent bytes. Only a refused opening writes
- * the dock, which then refuses every begin with the same number.
+ * A call that refuses changes nothing: not a word of the dock, not the vector, not the lent bytes. Nor does a refused
+ * opening: a dock that was open stays open with its jobs, and memory that was no dock is none after it. Zeroes count as
+ * a dock that refuses all: every begin with 201, every other call with 205 or 208.
  *
  * Null pointers: a buffer of length 0 may be null. One that is null and has a length is refused with 205; at opening
  * 201 comes before it, in other calls nothing does. The dock, the vector and the lent buffers' struct must not be null.
@@ -257,7 +258,7 @@ static inline uint64_t dock_address(const uint8_t *bytes, size_t length)
 
 /* ---- Opening ---- */
 
-/* Opens a dock with no job in flight. 0, 201 or 205; refused, the dock refuses every begin likewise. */
+/* Opens a dock with no job in flight. 0, 201 or 205; refused, every word of it is as it was. */
 static inline uint8_t dock_open(struct dock *dock, const struct dock_settings *settings, const struct dock_lent *lent)
 {
     return dock_words_open(dock->settings, dock->blockers, dock->states, dock->vectors, settings->mem, settings->req,

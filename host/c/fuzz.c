@@ -295,10 +295,11 @@ static int same_outside_bounce(size_t slot)
     return same_but(LENT_SCRATCH, slot * (size_t)bounce(), (size_t)bounce());
 }
 
-/* What opening writes depends on its arguments alone. */
+/* What an accepted opening writes depends on its arguments alone; a refused one writes nothing. */
 static void open_twice(int by_row, const uint64_t *args, uint64_t data_len, uint64_t scratch_len)
 {
     struct dock other;
+    struct dock before;
     uint8_t again;
     uint8_t number;
     uint64_t *s = words(SETTINGS);
@@ -308,6 +309,7 @@ static void open_twice(int by_row, const uint64_t *args, uint64_t data_len, uint
     uint64_t data = (uint64_t)(uintptr_t)areas[LENT_DATA].at;
     uint64_t scratch = (uint64_t)(uintptr_t)areas[LENT_SCRATCH].at;
     memset(&other, (int)below(256), sizeof other);
+    before = other;
     at_call = by_row ? OPEN_ROW : OPEN;
     keep();
     number = by_row ? dock_words_open_row(s, b, x, v, (size_t)args[0], args[4], data, data_len, scratch, scratch_len)
@@ -318,9 +320,13 @@ static void open_twice(int by_row, const uint64_t *args, uint64_t data_len, uint
                    : dock_words_open(other.settings, other.blockers, other.states, other.vectors, args[0], args[1],
                                      args[2], args[3], args[4], data, data_len, scratch, scratch_len);
     check_number(number == 0 || number == 201 || number == 205);
-    check(number == again && memcmp(s, other.settings, 72) == 0 && memcmp(b, other.blockers, 704) == 0
-              && memcmp(x, other.states, 1152) == 0 && memcmp(v, other.vectors, 2176) == 0,
-          "wrote what its arguments do not say");
+    check(number == again, "answered by what its arguments do not say");
+    if (number != 0)
+        check(all_same() && memcmp(&before, &other, sizeof other) == 0, "was refused and wrote");
+    else
+        check(memcmp(s, other.settings, 72) == 0 && memcmp(b, other.blockers, 704) == 0
+                  && memcmp(x, other.states, 1152) == 0 && memcmp(v, other.vectors, 2176) == 0,
+              "wrote what its arguments do not say");
     check(same_but(SETTINGS, 0, 72) && same_but(BLOCKERS, 0, 704) && same_but(STATES, 0, 1152)
               && same_but(VECTORS, 0, 2176) && same(VECTOR) && same(LENT_DATA) && same(LENT_SCRATCH),
           "wrote outside its arrays");

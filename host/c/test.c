@@ -229,13 +229,13 @@ static void test_rows(void)
         memset(&dock, 0xff, sizeof dock);
         CHECK(dock_open_row(&dock, row, settings.bounce, &lent) == 0);
         CHECK(memcmp(&dock_before, &dock, sizeof dock) == 0);
-        CHECK(dock_open_row(&dock, row, settings.bounce - step, &lent) == DOCK_UNFIT);
+        REFUSED(DOCK_UNFIT, dock_open_row(&dock, row, settings.bounce - step, &lent));
     }
-    CHECK(dock_open_row(&dock, DOCK_ROWS, BOUNCE, &lent) == DOCK_UNFIT);
-    CHECK(dock_open_row(&dock, SIZE_MAX, BOUNCE, &lent) == DOCK_UNFIT);
+    REFUSED(DOCK_UNFIT, dock_open_row(&dock, DOCK_ROWS, BOUNCE, &lent));
+    REFUSED(DOCK_UNFIT, dock_open_row(&dock, SIZE_MAX, BOUNCE, &lent));
 }
 
-/* A refused dock refuses each begin with the same number. */
+/* Each begin is refused with this number. */
 static void refuses_all(unsigned number, int line)
 {
     struct dock_vector vector = one_segment(0, 512);
@@ -245,10 +245,40 @@ static void refuses_all(unsigned number, int line)
     refused_vector(number, DOCK_DISCARD, 0, &vector, line);
 }
 
+/* A dock of zeroes. */
+static void test_zeroes(void)
+{
+    lent = bench_lent(DATA, SCRATCH);
+    memset(&dock, 0, sizeof dock);
+    refuses_all(DOCK_UNFIT, __LINE__);
+}
+
+/* Refused over any words, and every one of them stays. */
 static void refused_opening(unsigned number, const struct dock_settings *settings, int line)
 {
+    memset(&dock, 0xa5, sizeof dock);
+    keep(NULL);
     check(dock_open(&dock, settings, &lent) == number, "opening is refused with its number", line);
-    refuses_all(number, line);
+    check(kept(NULL), "and has changed nothing", line);
+}
+
+/* A refused opening leaves an open dock and its job, which goes on. */
+static void test_refused_opening_of_open_dock(void)
+{
+    static const struct wanted wanted[] = {
+        { DOCK_READ, 0, 512, 0 }, { DOCK_READ, 0, 512, 0 }, { DOCK_WRITE, 0, 512, 0 },
+    };
+    struct dock_settings unfit = { 3, 512, 512, 512, BOUNCE };
+    size_t slot;
+    open_row(ROW, BOUNCE);
+    slot = write_at(100, 0, 10);
+    REFUSED(DOCK_UNFIT, dock_open(&dock, &unfit, &lent));
+    REFUSED(DOCK_UNFIT, dock_open_row(&dock, DOCK_ROWS, BOUNCE, &lent));
+    lent.scratch_len -= 1;
+    REFUSED(DOCK_BUFFER, dock_open_row(&dock, ROW, BOUNCE, &lent));
+    lent.scratch_len += 1;
+    RUNS(slot, 0, wanted);
+    CHECK(store_has(100, 0, 10));
 }
 
 static void test_unfit(void)
@@ -269,8 +299,7 @@ static void test_unfit(void)
         refused_opening(DOCK_UNFIT, &discard, __LINE__);
         refused_opening(DOCK_UNFIT, &bounce, __LINE__);
     }
-    CHECK(dock_open_row(&dock, DOCK_ROWS, BOUNCE, &lent) == DOCK_UNFIT);
-    refuses_all(DOCK_UNFIT, __LINE__);
+    REFUSED(DOCK_UNFIT, dock_open_row(&dock, DOCK_ROWS, BOUNCE, &lent));
 }
 
 /* Opening with alignment 1, told addresses and lengths: address plus length is at most 2^64 - 1. */
@@ -916,8 +945,10 @@ static void test_row_zero(void)
 int main(void)
 {
     test_rows();
+    test_zeroes();
     test_unfit();
     test_unfit_buffers();
+    test_refused_opening_of_open_dock();
     test_traced_writes();
     test_traced_gap();
     test_traced_row_four();

@@ -117,7 +117,11 @@ impl DockSide {
         self.scratch.as_mut().expect("it is there until the side is dropped")
     }
 
+    /// What calls are lent; nothing before a dock is opened, as the words, which are zeroes then, have it.
     fn lengths(&self) -> Lengths {
+        if self.opened != 0 {
+            return (0, 0);
+        }
         (self.data.bytes().len(), self.scratch().bytes().len())
     }
 
@@ -142,15 +146,17 @@ impl DockSide {
         slot * share..(slot + 1) * share
     }
 
-    /// Opening by row must leave the same words and give the same number; a row past the last is unfit.
+    /// Opening by row must leave the same words and give the same number; a row past the last is unfit, and leaves the words.
     fn check_rows(&self, share: u64, buffers: [u64; 4]) {
         let mut other = Words::default();
         if let Some(row) = ROWS.iter().position(|a| *a == self.opening.align) {
             let opened = other.open_row(row, share, buffers);
             self.expect(opened == self.opened && other == self.words, || format!("row {row} opens otherwise"));
         }
+        let before = other.clone();
         let none = other.open_row(ROWS.len(), share, buffers);
         self.expect(none == document::UNFIT, || format!("row {} opens with {none}", ROWS.len()));
+        self.expect(other == before, || "a refused opening by row changed the dock".to_owned());
     }
 
     /// Calls that lend buffers of other lengths: each is refused with 205, and the words stay.
@@ -262,7 +268,9 @@ impl Side for DockSide {
         let data = address(o.data.address, self.data.bytes().as_ptr() as u64);
         let scratch = address(o.scratch.address, self.scratch().address());
         let buffers = [data, o.data.length, scratch, o.scratch.length];
+        let before = self.words.clone();
         self.opened = self.words.open(align_of(o), o.bounce, buffers);
+        self.expect(self.opened == 0 || self.words == before, || "a refused opening changed the dock".to_owned());
         self.opening = *o;
         self.check_rows(o.bounce, buffers);
         self.opened
@@ -283,6 +291,8 @@ impl Side for DockSide {
         self.expect(self.words == before, || "a begin that takes no slot changed the dock".to_owned());
         match number(&reply) {
             Some(0) => Begun::Done,
+            // No dock was opened. Zeroes are unfit; the list goes on with what opening was refused for.
+            Some(document::UNFIT) if self.opened != 0 => Begun::Refused(self.opened),
             Some(refusal) => Begun::Refused(refusal),
             None => {
                 self.complain(format!("begin gives {reply:?}"));

@@ -3,6 +3,8 @@ use mathlib.Core.List.{[], _∷_}
 use Prim.Native.Nat.{ℕ}
 use lib.ListN.{length, getD}
 use Rattle.arithmetic.specs.Refusals.{numberOf}
+use Rattle.arithmetic.specs.declared.settings.Settings.{Settings}
+use Rattle.arithmetic.specs.declared.settings.Buffers.{Buffers}
 use Rattle.arithmetic.specs.declared.planner.Count.{Count}
 use Rattle.arithmetic.specs.declared.planner.Count.the-variants.{Chunks, Refused as NotCounted}
 use Rattle.arithmetic.specs.declared.planner.Planned.{Planned}
@@ -15,6 +17,13 @@ use Rattle.dock.specs.declared.tell.Collected.{Collected}
 use Rattle.dock.specs.declared.numbers.Number.{Number}
 use Rattle.dock.specs.declared.numbers.Number.the-variants.{Of, None}
 use Rattle.boundary.specs.declared.replies.Reply.{Reply}
+
+-- the settings and the buffers of an opening, from its numbers
+abbrev pub settingsBy : ℕ → ℕ → ℕ → ℕ → ℕ → Settings
+settingsBy m r z d share = record { align = record { mem = m; req = r; zero = z; discard = d }; bounce = share }
+
+abbrev pub buffersBy : ℕ → ℕ → ℕ → ℕ → Buffers
+buffersBy a m b n = record { «data» = record { address = a; length = m }; scratch = record { address = b; length = n } }
 
 -- no number of the paper's is 256
 abbrev pub numberWord : Number → ℕ

@@ -28,7 +28,7 @@ use words::arrays::tell;
 use words::arrays::vector_of;
 ghost use mathlib.Core.Path.{_≡_};
 ghost use Rattle.arithmetic.specs.Offsets.{storeAt};
-ghost use Rattle.arithmetic.specs.Refusals.{outcomeNumber};
+ghost use Rattle.arithmetic.specs.Refusals.{outcomeNumber, isDone};
 ghost use Rattle.arithmetic.specs.Planner.{countOf, plannedOf};
 ghost use Rattle.dock.specs.Dock.{openOf, openProfileOf};
 ghost use Rattle.dock.specs.Begin.{beginOf, readOf, writeOf, zeroesOf, discardOf};
@@ -36,7 +36,8 @@ ghost use Rattle.dock.specs.Next.{nextOf, pieceOf};
 ghost use Rattle.dock.specs.Tell.{tellOf, collectOf};
 ghost use Rattle.dock.specs.Numbers.{begunPaper, duePaper, piecePaper};
 ghost use Rattle.words.specs.View.{flagOf, settingsOf, vectorFrom, dockOf};
-ghost use Rattle.boundary.specs.Replies.{replyOf, countPaper, plannedPaper, collectedNumber};
+ghost use Rattle.words.specs.Kept.{isPlaced, isFinal, sameTwo, sameThree, opensOver};
+ghost use Rattle.boundary.specs.Replies.{settingsBy, buffersBy, replyOf, countPaper, plannedPaper, collectedNumber};
 
 // Open with alignments.
 #[no_mangle]
@@ -55,8 +56,12 @@ pub extern "C" fn dock_words_open(
     scratch_address: u64,
     scratch_length: u64,
 ) -> u8
-    ensures { λ r. ⌜ (r ≡ outcomeNumber (openOf (record { align = record { mem = mem; req = req; zero = zero; discard = discard }; bounce = share }) (record { «data» = record { address = data_address; length = data_length }; scratch = record { address = «scratch_address»; length = «scratch_length» } }) .outcome))
-        × (dockOf (now (settings .exit)) (now (blockers .exit)) (now (states .exit)) (now (vectors .exit)) ≡ openOf (record { align = record { mem = mem; req = req; zero = zero; discard = discard }; bounce = share }) (record { «data» = record { address = data_address; length = data_length }; scratch = record { address = «scratch_address»; length = «scratch_length» } }) .dock) ⌝ }
+    ensures number { λ r. ⌜ r ≡ outcomeNumber (openOf (settingsBy mem req zero discard share)
+        (buffersBy data_address data_length «scratch_address» «scratch_length») .outcome) ⌝ }
+    ensures words { λ _. ⌜ opensOver (openOf (settingsBy mem req zero discard share)
+        (buffersBy data_address data_length «scratch_address» «scratch_length»))
+        (now (settings .entry)) (now (blockers .entry)) (now (states .entry)) (now (vectors .entry))
+        (now (settings .exit)) (now (blockers .exit)) (now (states .exit)) (now (vectors .exit)) ⌝ }
 {
     let align = Alignments {
         mem,
@@ -94,7 +99,12 @@ pub extern "C" fn dock_words_open_row(
     scratch_address: u64,
     scratch_length: u64,
 ) -> u8
-    ensures { λ r. ⌜ (r ≡ outcomeNumber (openProfileOf row share (record { «data» = record { address = data_address; length = data_length }; scratch = record { address = «scratch_address»; length = «scratch_length» } }) .outcome)) × (dockOf (now (settings .exit)) (now (blockers .exit)) (now (states .exit)) (now (vectors .exit)) ≡ openProfileOf row share (record { «data» = record { address = data_address; length = data_length }; scratch = record { address = «scratch_address»; length = «scratch_length» } }) .dock) ⌝ }
+    ensures number { λ r. ⌜ r ≡ outcomeNumber (openProfileOf row share
+        (buffersBy data_address data_length «scratch_address» «scratch_length») .outcome) ⌝ }
+    ensures words { λ _. ⌜ opensOver (openProfileOf row share
+        (buffersBy data_address data_length «scratch_address» «scratch_length»))
+        (now (settings .entry)) (now (blockers .entry)) (now (states .entry)) (now (vectors .entry))
+        (now (settings .exit)) (now (blockers .exit)) (now (states .exit)) (now (vectors .exit)) ⌝ }
 {
     let data = Lent {
         address: data_address,
@@ -121,9 +131,14 @@ pub extern "C" fn dock_words_begin_read(
     data: &[u8],
     scratch: &mut [u8],
 ) -> Reply
-    ensures { λ r. ⌜ (r ≡ replyOf (begunPaper (beginOf (dockOf (now (settings .entry)) (now (blockers .entry)) (now (states .entry)) (now (vectors .entry))) (readOf (storeAt offset) (vectorFrom (now (vector .entry)))) (now («data» .entry)) (now (scratch .entry)) .answer)))
+    ensures dock { λ r. ⌜ (r ≡ replyOf (begunPaper (beginOf (dockOf (now (settings .entry)) (now (blockers .entry)) (now (states .entry)) (now (vectors .entry))) (readOf (storeAt offset) (vectorFrom (now (vector .entry)))) (now («data» .entry)) (now (scratch .entry)) .answer)))
         × (dockOf (now (settings .entry)) (now (blockers .exit)) (now (states .exit)) (now (vectors .exit)) ≡ beginOf (dockOf (now (settings .entry)) (now (blockers .entry)) (now (states .entry)) (now (vectors .entry))) (readOf (storeAt offset) (vectorFrom (now (vector .entry)))) (now («data» .entry)) (now (scratch .entry)) .dock)
         × (now (scratch .exit) ≡ beginOf (dockOf (now (settings .entry)) (now (blockers .entry)) (now (states .entry)) (now (vectors .entry))) (readOf (storeAt offset) (vectorFrom (now (vector .entry)))) (now («data» .entry)) (now (scratch .entry)) .scratch) ⌝ }
+    ensures words { λ _. ⌜ sameThree (isPlaced (beginOf
+        (dockOf (now (settings .entry)) (now (blockers .entry)) (now (states .entry)) (now (vectors .entry)))
+        (readOf (storeAt offset) (vectorFrom (now (vector .entry)))) (now («data» .entry)) (now (scratch .entry)) .answer))
+        (now (blockers .entry)) (now (states .entry)) (now (vectors .entry))
+        (now (blockers .exit)) (now (states .exit)) (now (vectors .exit)) ⌝ }
 {
     let asked = Asked::read(StoreOffset(offset), vector_of(vector));
     begun_reply(begin(settings, blockers, states, vectors, asked, data, scratch))
@@ -141,9 +156,14 @@ pub extern "C" fn dock_words_begin_write(
     data: &[u8],
     scratch: &mut [u8],
 ) -> Reply
-    ensures { λ r. ⌜ (r ≡ replyOf (begunPaper (beginOf (dockOf (now (settings .entry)) (now (blockers .entry)) (now (states .entry)) (now (vectors .entry))) (writeOf (storeAt offset) (vectorFrom (now (vector .entry)))) (now («data» .entry)) (now (scratch .entry)) .answer)))
+    ensures dock { λ r. ⌜ (r ≡ replyOf (begunPaper (beginOf (dockOf (now (settings .entry)) (now (blockers .entry)) (now (states .entry)) (now (vectors .entry))) (writeOf (storeAt offset) (vectorFrom (now (vector .entry)))) (now («data» .entry)) (now (scratch .entry)) .answer)))
         × (dockOf (now (settings .entry)) (now (blockers .exit)) (now (states .exit)) (now (vectors .exit)) ≡ beginOf (dockOf (now (settings .entry)) (now (blockers .entry)) (now (states .entry)) (now (vectors .entry))) (writeOf (storeAt offset) (vectorFrom (now (vector .entry)))) (now («data» .entry)) (now (scratch .entry)) .dock)
         × (now (scratch .exit) ≡ beginOf (dockOf (now (settings .entry)) (now (blockers .entry)) (now (states .entry)) (now (vectors .entry))) (writeOf (storeAt offset) (vectorFrom (now (vector .entry)))) (now («data» .entry)) (now (scratch .entry)) .scratch) ⌝ }
+    ensures words { λ _. ⌜ sameThree (isPlaced (beginOf
+        (dockOf (now (settings .entry)) (now (blockers .entry)) (now (states .entry)) (now (vectors .entry)))
+        (writeOf (storeAt offset) (vectorFrom (now (vector .entry)))) (now («data» .entry)) (now (scratch .entry)) .answer))
+        (now (blockers .entry)) (now (states .entry)) (now (vectors .entry))
+        (now (blockers .exit)) (now (states .exit)) (now (vectors .exit)) ⌝ }
 {
     let asked = Asked::write(StoreOffset(offset), vector_of(vector));
     begun_reply(begin(settings, blockers, states, vectors, asked, data, scratch))
@@ -162,9 +182,14 @@ pub extern "C" fn dock_words_begin_zeroes(
     data: &[u8],
     scratch: &mut [u8],
 ) -> Reply
-    ensures { λ r. ⌜ (r ≡ replyOf (begunPaper (beginOf (dockOf (now (settings .entry)) (now (blockers .entry)) (now (states .entry)) (now (vectors .entry))) (zeroesOf (flagOf allocate) (storeAt offset) length) (now («data» .entry)) (now (scratch .entry)) .answer)))
+    ensures dock { λ r. ⌜ (r ≡ replyOf (begunPaper (beginOf (dockOf (now (settings .entry)) (now (blockers .entry)) (now (states .entry)) (now (vectors .entry))) (zeroesOf (flagOf allocate) (storeAt offset) length) (now («data» .entry)) (now (scratch .entry)) .answer)))
         × (dockOf (now (settings .entry)) (now (blockers .exit)) (now (states .exit)) (now (vectors .exit)) ≡ beginOf (dockOf (now (settings .entry)) (now (blockers .entry)) (now (states .entry)) (now (vectors .entry))) (zeroesOf (flagOf allocate) (storeAt offset) length) (now («data» .entry)) (now (scratch .entry)) .dock)
         × (now (scratch .exit) ≡ beginOf (dockOf (now (settings .entry)) (now (blockers .entry)) (now (states .entry)) (now (vectors .entry))) (zeroesOf (flagOf allocate) (storeAt offset) length) (now («data» .entry)) (now (scratch .entry)) .scratch) ⌝ }
+    ensures words { λ _. ⌜ sameThree (isPlaced (beginOf
+        (dockOf (now (settings .entry)) (now (blockers .entry)) (now (states .entry)) (now (vectors .entry)))
+        (zeroesOf (flagOf allocate) (storeAt offset) length) (now («data» .entry)) (now (scratch .entry)) .answer))
+        (now (blockers .entry)) (now (states .entry)) (now (vectors .entry))
+        (now (blockers .exit)) (now (states .exit)) (now (vectors .exit)) ⌝ }
 {
     let asked = Asked::zeroes(allocate != 0, StoreOffset(offset), length);
     begun_reply(begin(settings, blockers, states, vectors, asked, data, scratch))
@@ -182,9 +207,14 @@ pub extern "C" fn dock_words_begin_discard(
     data: &[u8],
     scratch: &mut [u8],
 ) -> Reply
-    ensures { λ r. ⌜ (r ≡ replyOf (begunPaper (beginOf (dockOf (now (settings .entry)) (now (blockers .entry)) (now (states .entry)) (now (vectors .entry))) (discardOf (storeAt offset) length) (now («data» .entry)) (now (scratch .entry)) .answer)))
+    ensures dock { λ r. ⌜ (r ≡ replyOf (begunPaper (beginOf (dockOf (now (settings .entry)) (now (blockers .entry)) (now (states .entry)) (now (vectors .entry))) (discardOf (storeAt offset) length) (now («data» .entry)) (now (scratch .entry)) .answer)))
         × (dockOf (now (settings .entry)) (now (blockers .exit)) (now (states .exit)) (now (vectors .exit)) ≡ beginOf (dockOf (now (settings .entry)) (now (blockers .entry)) (now (states .entry)) (now (vectors .entry))) (discardOf (storeAt offset) length) (now («data» .entry)) (now (scratch .entry)) .dock)
         × (now (scratch .exit) ≡ beginOf (dockOf (now (settings .entry)) (now (blockers .entry)) (now (states .entry)) (now (vectors .entry))) (discardOf (storeAt offset) length) (now («data» .entry)) (now (scratch .entry)) .scratch) ⌝ }
+    ensures words { λ _. ⌜ sameThree (isPlaced (beginOf
+        (dockOf (now (settings .entry)) (now (blockers .entry)) (now (states .entry)) (now (vectors .entry)))
+        (discardOf (storeAt offset) length) (now («data» .entry)) (now (scratch .entry)) .answer))
+        (now (blockers .entry)) (now (states .entry)) (now (vectors .entry))
+        (now (blockers .exit)) (now (states .exit)) (now (vectors .exit)) ⌝ }
 {
     let asked = Asked::discard(StoreOffset(offset), length);
     begun_reply(begin(settings, blockers, states, vectors, asked, data, scratch))
@@ -252,10 +282,14 @@ pub extern "C" fn dock_words_tell(
     data: &mut [u8],
     scratch: &mut [u8],
 ) -> u8
-    ensures { λ r. ⌜ (r ≡ outcomeNumber (tellOf (dockOf (now (settings .entry)) (now (blockers .entry)) (now (states .entry)) (now (vectors .entry))) slot code (now («data» .entry)) (now (scratch .entry)) .outcome))
+    ensures dock { λ r. ⌜ (r ≡ outcomeNumber (tellOf (dockOf (now (settings .entry)) (now (blockers .entry)) (now (states .entry)) (now (vectors .entry))) slot code (now («data» .entry)) (now (scratch .entry)) .outcome))
         × (dockOf (now (settings .entry)) (now (blockers .exit)) (now (states .exit)) (now (vectors .entry)) ≡ tellOf (dockOf (now (settings .entry)) (now (blockers .entry)) (now (states .entry)) (now (vectors .entry))) slot code (now («data» .entry)) (now (scratch .entry)) .dock)
         × (now («data» .exit) ≡ tellOf (dockOf (now (settings .entry)) (now (blockers .entry)) (now (states .entry)) (now (vectors .entry))) slot code (now («data» .entry)) (now (scratch .entry)) .memory)
         × (now (scratch .exit) ≡ tellOf (dockOf (now (settings .entry)) (now (blockers .entry)) (now (states .entry)) (now (vectors .entry))) slot code (now («data» .entry)) (now (scratch .entry)) .scratch) ⌝ }
+    ensures words { λ _. ⌜ sameTwo (isDone (tellOf
+        (dockOf (now (settings .entry)) (now (blockers .entry)) (now (states .entry)) (now (vectors .entry)))
+        slot code (now («data» .entry)) (now (scratch .entry)) .outcome))
+        (now (blockers .entry)) (now (states .entry)) (now (blockers .exit)) (now (states .exit)) ⌝ }
 {
     let outcome = tell(
         settings,
@@ -281,8 +315,11 @@ pub extern "C" fn dock_words_collect(
     data_len: usize,
     scratch_len: usize,
 ) -> u8
-    ensures { λ r. ⌜ (r ≡ collectedNumber (collectOf (dockOf (now (settings .entry)) (now (blockers .entry)) (now (states .entry)) (now (vectors .entry))) slot data_len «scratch_len» .answer))
+    ensures dock { λ r. ⌜ (r ≡ collectedNumber (collectOf (dockOf (now (settings .entry)) (now (blockers .entry)) (now (states .entry)) (now (vectors .entry))) slot data_len «scratch_len» .answer))
         × (dockOf (now (settings .entry)) (now (blockers .entry)) (now (states .exit)) (now (vectors .exit)) ≡ collectOf (dockOf (now (settings .entry)) (now (blockers .entry)) (now (states .entry)) (now (vectors .entry))) slot data_len «scratch_len» .dock) ⌝ }
+    ensures words { λ _. ⌜ sameTwo (isFinal (collectOf
+        (dockOf (now (settings .entry)) (now (blockers .entry)) (now (states .entry)) (now (vectors .entry)))
+        slot data_len «scratch_len» .answer)) (now (states .entry)) (now (vectors .entry)) (now (states .exit)) (now (vectors .exit)) ⌝ }
 {
     collected_number(collect(
         settings,

@@ -17,11 +17,12 @@ ghost use mathlib.Core.Path.{_≡_};
 ghost use lib.ListN.{length};
 ghost use Rattle.arithmetic.specs.Rounding.{pick};
 ghost use Rattle.arithmetic.specs.Offsets.{rangeOf};
-ghost use Rattle.arithmetic.specs.Refusals.{outcomeNumber, whenDone};
+ghost use Rattle.arithmetic.specs.Refusals.{outcomeNumber, whenDone, isDone};
 ghost use Rattle.vectors.specs.Vectors.{segment, pushOf, insertOf, appendOf, splitOf, splitTailOf, outcomeOf, copies, bytesOf, scatterOf, segmentsOf, isValid, fillOf, alignmentOf};
 ghost use Rattle.blockers.specs.Blockers.{enteredOf, leftOf, waitsOf};
 ghost use Rattle.dock.specs.Begin.{strength};
 ghost use Rattle.words.specs.View.{flagOf, flagWord, vectorFrom, blockersOf};
+ghost use Rattle.words.specs.Kept.{sameUnless};
 ghost use Rattle.boundary.specs.Replies.{replyOf, alignmentPaper};
 
 // The vector with a segment more at its end.
@@ -196,7 +197,9 @@ pub extern "C" fn dock_words_blockers_enter(
     end: u64,
 ) -> u8
     ensures { λ r. ⌜ (r ≡ outcomeNumber (enteredOf (strength (flagOf strong)) slot (rangeOf start end) (blockersOf (now (blockers .entry))) .outcome))
-        × (blockersOf (now (blockers .exit)) ≡ enteredOf (strength (flagOf strong)) slot (rangeOf start end) (blockersOf (now (blockers .entry))) .blockers) ⌝ }
+        × (blockersOf (now (blockers .exit)) ≡ enteredOf (strength (flagOf strong)) slot (rangeOf start end) (blockersOf (now (blockers .entry))) .blockers)
+        × sameUnless (isDone (enteredOf (strength (flagOf strong)) slot (rangeOf start end) (blockersOf (now (blockers .entry))) .outcome))
+        (now (blockers .entry)) (now (blockers .exit)) ⌝ }
 {
     let range = Range {
         start: StoreOffset(start),
@@ -211,7 +214,8 @@ pub extern "C" fn dock_words_blockers_enter(
 #[no_mangle]
 pub extern "C" fn dock_words_blockers_leave(blockers: &mut [u64; 88], slot: usize) -> u8
     ensures { λ r. ⌜ (r ≡ outcomeNumber (leftOf slot (blockersOf (now (blockers .entry))) .outcome))
-        × (blockersOf (now (blockers .exit)) ≡ leftOf slot (blockersOf (now (blockers .entry))) .blockers) ⌝ }
+        × (blockersOf (now (blockers .exit)) ≡ leftOf slot (blockersOf (now (blockers .entry))) .blockers)
+        × sameUnless (isDone (leftOf slot (blockersOf (now (blockers .entry))) .outcome)) (now (blockers .entry)) (now (blockers .exit)) ⌝ }
 {
     let outcome = leave(blockers, slot);
     outcome.number()

@@ -1,9 +1,11 @@
 -- What a call leaves in lent words, and what it should: a tell's step kept in its slot, a begin's job placed there. Held beside the dock by
 -- `told-kept` and `begun-placed` of KeptLaws.
+use mathlib.Core.Path.{_≡_}
+use mathlib.Core.Bool.{Bool, true, false}
 use mathlib.Core.List.{List}
 use Prim.Native.Nat.{ℕ}
 use lib.ListN.{set}
-use Rattle.arithmetic.specs.Refusals.{whenDone}
+use Rattle.arithmetic.specs.Refusals.{whenDone, isDone}
 use Rattle.arithmetic.specs.declared.refusals.Outcome.{Outcome}
 use Rattle.arithmetic.specs.declared.refusals.Outcome.the-variants.{Done, Refused}
 use Rattle.vectors.specs.declared.vector.IoVector.{IoVector}
@@ -11,9 +13,45 @@ use Rattle.blockers.specs.declared.Blockers.{Blockers}
 use Rattle.stages.specs.declared.state.State.{State}
 use Rattle.dock.specs.Begin.{blockersWith, Admitted}
 use Rattle.dock.specs.Tell.{blockersWithout, Stepped}
+use Rattle.dock.specs.declared.dock.Dock.{Dock}
+use Rattle.dock.specs.declared.open.Opened.{Opened}
 use Rattle.dock.specs.declared.begin.Begun.{Begun}
 use Rattle.dock.specs.declared.begin.Begun.the-variants.{Done as NoRequest, Placed, Refused as BeginRefused}
-use Rattle.words.specs.View.{blockersOf, statesOf, vectorsOf}
+use Rattle.dock.specs.declared.tell.Collected.{Collected}
+use Rattle.dock.specs.declared.tell.Collected.the-variants.{Final, Refused as NotCollected}
+use Rattle.words.specs.View.{blockersOf, statesOf, vectorsOf, dockOf}
+
+abbrev pub isPlaced : Begun → Bool
+isPlaced NoRequest = false
+isPlaced (Placed p) = true
+isPlaced (BeginRefused r) = false
+
+abbrev pub isFinal : Collected → Bool
+isFinal (Final code) = true
+isFinal (NotCollected r) = false
+
+-- "Each, as a refusal, leaves dock [..] unchanged": where a call is not carried out, every word after it is the one before it
+unfoldable pub sameUnless : Bool → List ℕ → List ℕ → Type 0
+sameUnless true before after = Unit {0}
+sameUnless false before after = after ≡ before
+
+-- the dock that an opening makes, where it is carried out
+unfoldable pub opensAs : Bool → Dock → Dock → Type 0
+opensAs true d made = d ≡ made
+opensAs false d made = Unit {0}
+
+-- the same of two arrays, and of three
+abbrev pub sameTwo : Bool → List ℕ → List ℕ → List ℕ → List ℕ → Type 0
+sameTwo t a b a′ b′ = sameUnless t a a′ × sameUnless t b b′
+
+abbrev pub sameThree : Bool → List ℕ → List ℕ → List ℕ → List ℕ → List ℕ → List ℕ → Type 0
+sameThree t a b c a′ b′ c′ = sameUnless t a a′ × sameUnless t b b′ × sameUnless t c c′
+
+-- an opening over words of settings, blockers, states and vectors: the dock that it makes, or every word as it was
+abbrev pub opensOver : Opened → List ℕ → List ℕ → List ℕ → List ℕ → List ℕ → List ℕ → List ℕ → List ℕ → Type 0
+opensOver o s b x v s′ b′ x′ v′ =
+    opensAs (isDone (o .outcome)) (dockOf s′ b′ x′ v′) (o .dock)
+    × sameUnless (isDone (o .outcome)) s s′ × sameThree (isDone (o .outcome)) b x v b′ x′ v′
 
 -- ---- tell
 

@@ -24,12 +24,50 @@ use Rattle.blockers.specs.declared.Blockers.{Blockers}
 use Rattle.blockers.specs.declared.Changed.{Changed}
 use Rattle.stages.specs.Stages.{isBlocking}
 use Rattle.stages.specs.declared.state.State.{State}
-use Rattle.dock.specs.Begin.{strength, blockersWith, filled, enterAt, Admitted, Begins, begins, seatedBy, seated}
-use Rattle.dock.specs.Tell.{blockersWithout, handed, Stepped, steps, unstepped, endsAt, entersBy, entersAt, Told, tells, storedBy, stored}
+use Rattle.dock.specs.Begin.{Begins, begins, strength, blockersWith, filled, enterAt, Admitted, seatedBy, seated}
+use Rattle.dock.specs.Tell.{Told, tells, blockersWithout, handed, Stepped, steps, unstepped, storedBy, stored, entersBy, endsAt, entersAt}
+use Rattle.dock.specs.declared.dock.Dock.{Dock}
+use Rattle.dock.specs.declared.open.Opened.{Opened}
 use Rattle.dock.specs.declared.begin.Begun.{Begun}
 use Rattle.dock.specs.declared.begin.Begun.the-variants.{Done as NoRequest, Placed, Refused as BeginRefused}
 use Rattle.words.specs.View.{blockersOf, statesOf, vectorsOf, settingsOf, buffersOf, dockOf}
+use Rattle.words.specs.Kept.{sameUnless, opensAs, opensOver}
 use Rattle.words.specs.Kept.{changes, Kept, keeps, keptBy, kept, Seats, seats, placedBy, placedIn}
+
+-- ---- what a call leaves in every word
+
+-- words that nothing was written to
+pub same-words : (t : Bool) (w : List ℕ) → sameUnless t w w
+unfolding sameUnless
+same-words true w = tt
+same-words false w = refl
+
+-- of a call that is carried out nothing is said
+pub done-words : (t : Bool) (w w′ : List ℕ) → t ≡ true → sameUnless t w w′
+unfolding sameUnless
+done-words true w w′ e = tt
+done-words false w w′ e = let z : _≡_ {A = Bool} false true = e in let y : _≡_ {A = ℕ} 0 1 = cc in absurd (omega arith)
+
+pub opened-as : (t : Bool) (d made : Dock) → d ≡ made → opensAs t d made
+unfolding opensAs
+opened-as true d made e = e
+opened-as false d made e = tt
+
+pub not-opened : (t : Bool) (d made : Dock) → t ≡ false → opensAs t d made
+unfolding opensAs
+not-opened true d made e = let z : _≡_ {A = Bool} true false = e in let y : _≡_ {A = ℕ} 0 1 = cc in absurd (omega arith)
+not-opened false d made e = tt
+
+-- an opening that is refused, over words that stay, and one that is carried out
+module _ (made : Opened) (o : Outcome) (e : o ≡ made .outcome) (s b x v : List ℕ) where
+  pub refused-opening : (r : Refusal) → o ≡ Refused r → (o ≡ made .outcome) × opensOver made s b x v s b x v
+  refused-opening r f = (e, (not-opened _ _ _ (ap isDone (sym e ∙ f)), same-words _ _, (same-words _ _, same-words _ _, same-words _ _)))
+
+  pub done-opening : o ≡ Done → (s′ b′ x′ v′ : List ℕ) → dockOf s′ b′ x′ v′ ≡ made .dock
+      → (Done ≡ made .outcome) × opensOver made s b x v s′ b′ x′ v′
+  done-opening f s′ b′ x′ v′ d =
+      let k = ap isDone (sym e ∙ f) in
+      (sym f ∙ e, (opened-as _ _ _ d, done-words _ _ _ k, (done-words _ _ _ k, done-words _ _ _ k, done-words _ _ _ k)))
 
 -- ---- what a call left, held beside the dock
 

@@ -20,6 +20,8 @@ ghost use Rattle.dock.specs.Begin.{begins, beginOf};
 ghost use Rattle.dock.specs.Next.{nextOf, pieceOf};
 ghost use Rattle.dock.specs.Tell.{tells, tellOf, collectOf};
 ghost use Rattle.words.specs.View.{settingsOf, vectorFrom, blockersOf, dockOf};
+ghost use Rattle.arithmetic.specs.Refusals.{isDone};
+ghost use Rattle.words.specs.Kept.{isPlaced, isFinal, sameUnless, sameTwo, sameThree, opensOver};
 
 // The settings that the dock was opened with.
 pub fn settings_of(settings: &[u64; 9]) -> Settings
@@ -44,7 +46,9 @@ pub fn open(
     s: Settings,
     b: Buffers,
 ) -> Outcome
-    ensures { λ r. ⌜ (r ≡ openOf s b .outcome) × (dockOf (now (settings .exit)) (now (blockers .exit)) (now (states .exit)) (now (vectors .exit)) ≡ openOf s b .dock) ⌝ }
+    ensures { λ r. ⌜ (r ≡ openOf s b .outcome) × opensOver (openOf s b)
+        (now (settings .entry)) (now (blockers .entry)) (now (states .entry)) (now (vectors .entry))
+        (now (settings .exit)) (now (blockers .exit)) (now (states .exit)) (now (vectors .exit)) ⌝ }
 {
     crate::calls::open(settings, blockers, states, vectors, s, b)
 }
@@ -59,7 +63,9 @@ pub fn open_profile(
     bounce: u64,
     b: Buffers,
 ) -> Outcome
-    ensures { λ r. ⌜ (r ≡ openProfileOf index bounce b .outcome) × (dockOf (now (settings .exit)) (now (blockers .exit)) (now (states .exit)) (now (vectors .exit)) ≡ openProfileOf index bounce b .dock) ⌝ }
+    ensures { λ r. ⌜ (r ≡ openProfileOf index bounce b .outcome) × opensOver (openProfileOf index bounce b)
+        (now (settings .entry)) (now (blockers .entry)) (now (states .entry)) (now (vectors .entry))
+        (now (settings .exit)) (now (blockers .exit)) (now (states .exit)) (now (vectors .exit)) ⌝ }
 {
     crate::calls::open_profile(settings, blockers, states, vectors, index, bounce, b)
 }
@@ -74,8 +80,10 @@ pub fn begin(
     data: &[u8],
     scratch: &mut [u8],
 ) -> Begun
-    ensures { λ r. ⌜ begins (record { answer = r; dock = dockOf (now (settings .entry)) (now (blockers .exit)) (now (states .exit)) (now (vectors .exit)) }) (now (scratch .exit))
+    ensures dock { λ r. ⌜ begins (record { answer = r; dock = dockOf (now (settings .entry)) (now (blockers .exit)) (now (states .exit)) (now (vectors .exit)) }) (now (scratch .exit))
         ≡ beginOf (dockOf (now (settings .entry)) (now (blockers .entry)) (now (states .entry)) (now (vectors .entry))) asked (now («data» .entry)) (now (scratch .entry)) ⌝ }
+    ensures words { λ r. ⌜ sameThree (isPlaced r) (now (blockers .entry)) (now (states .entry)) (now (vectors .entry))
+        (now (blockers .exit)) (now (states .exit)) (now (vectors .exit)) ⌝ }
 {
     crate::calls::begin(settings, blockers, states, vectors, asked, data, scratch)
 }
@@ -139,8 +147,9 @@ pub fn tell(
     data: &mut [u8],
     scratch: &mut [u8],
 ) -> Outcome
-    ensures { λ r. ⌜ tells (record { outcome = r; dock = dockOf (now (settings .entry)) (now (blockers .exit)) (now (states .exit)) (now (vectors .entry)) }) (now («data» .exit)) (now (scratch .exit))
+    ensures dock { λ r. ⌜ tells (record { outcome = r; dock = dockOf (now (settings .entry)) (now (blockers .exit)) (now (states .exit)) (now (vectors .entry)) }) (now («data» .exit)) (now (scratch .exit))
         ≡ tellOf (dockOf (now (settings .entry)) (now (blockers .entry)) (now (states .entry)) (now (vectors .entry))) slot code (now («data» .entry)) (now (scratch .entry)) ⌝ }
+    ensures words { λ r. ⌜ sameTwo (isDone r) (now (blockers .entry)) (now (states .entry)) (now (blockers .exit)) (now (states .exit)) ⌝ }
 {
     crate::calls::tell(
         settings,
@@ -164,8 +173,9 @@ pub fn collect(
     data_len: usize,
     scratch_len: usize,
 ) -> Collected
-    ensures { λ r. ⌜ (r ≡ collectOf (dockOf (now (settings .entry)) (now (blockers .entry)) (now (states .entry)) (now (vectors .entry))) slot data_len «scratch_len» .answer)
+    ensures dock { λ r. ⌜ (r ≡ collectOf (dockOf (now (settings .entry)) (now (blockers .entry)) (now (states .entry)) (now (vectors .entry))) slot data_len «scratch_len» .answer)
         × (dockOf (now (settings .entry)) (now (blockers .entry)) (now (states .exit)) (now (vectors .exit)) ≡ collectOf (dockOf (now (settings .entry)) (now (blockers .entry)) (now (states .entry)) (now (vectors .entry))) slot data_len «scratch_len» .dock) ⌝ }
+    ensures words { λ r. ⌜ sameTwo (isFinal r) (now (states .entry)) (now (vectors .entry)) (now (states .exit)) (now (vectors .exit)) ⌝ }
 {
     crate::calls::collect(
         settings,
@@ -188,7 +198,8 @@ pub fn put_vector_of(vector: &mut [u64; 34], v: IoVector)
 // Enter a blocker of this kind. Refused (208) past slot 7 and where one is entered.
 pub fn enter(blockers: &mut [u64; 88], kind: Kind, slot: usize, range: Range) -> Outcome
     ensures { λ r. ⌜ (r ≡ enteredOf kind slot range (blockersOf (now (blockers .entry))) .outcome)
-        × (blockersOf (now (blockers .exit)) ≡ enteredOf kind slot range (blockersOf (now (blockers .entry))) .blockers) ⌝ }
+        × (blockersOf (now (blockers .exit)) ≡ enteredOf kind slot range (blockersOf (now (blockers .entry))) .blockers)
+        × sameUnless (isDone r) (now (blockers .entry)) (now (blockers .exit)) ⌝ }
 {
     crate::blocker_words::enter(blockers, kind, slot, range)
 }
@@ -196,7 +207,8 @@ pub fn enter(blockers: &mut [u64; 88], kind: Kind, slot: usize, range: Range) ->
 // The slot's blocker is gone, and nobody notes it any more. Refused (208) past slot 7 and where none is entered.
 pub fn leave(blockers: &mut [u64; 88], slot: usize) -> Outcome
     ensures { λ r. ⌜ (r ≡ leftOf slot (blockersOf (now (blockers .entry))) .outcome)
-        × (blockersOf (now (blockers .exit)) ≡ leftOf slot (blockersOf (now (blockers .entry))) .blockers) ⌝ }
+        × (blockersOf (now (blockers .exit)) ≡ leftOf slot (blockersOf (now (blockers .entry))) .blockers)
+        × sameUnless (isDone r) (now (blockers .entry)) (now (blockers .exit)) ⌝ }
 {
     crate::blocker_words::leave(blockers, slot)
 }

@@ -30,7 +30,7 @@ ghost use Rattle.dock.specs.Next.{isSoundAt};
 ghost use Rattle.dock.specs.Slots.{PlanSound};
 ghost use Rattle.dock.specs.Begin.{admitAt};
 ghost use Rattle.words.specs.View.{blockersOf, statesOf, vectorsOf};
-ghost use Rattle.words.specs.Kept.{seats, placedIn};
+ghost use Rattle.words.specs.Kept.{isPlaced, sameThree, seats, placedIn};
 
 // Whether a job's vector meets that of slot i, of which one reads. A free slot's words are not read.
 fn meets_at(states: &[u64], vectors: &[u64], i: usize, job: Job, v: IoVector) -> bool
@@ -74,8 +74,10 @@ fn seat(
     scratch: &mut [u8],
 ) -> Begun
     requires { ⌜ (length (now blockers) ≡ 88) × (length (now states) ≡ 144) × (length (now vectors) ≡ 272) × (slot < 8) × (isSoundAt slot x settings buffers (length (now scratch)) ≡ true) ⌝ }
-    ensures { λ r. ⌜ seats r (now (blockers .exit)) (now (states .exit)) (now (vectors .exit)) (now (scratch .exit))
+    ensures dock { λ r. ⌜ seats r (now (blockers .exit)) (now (states .exit)) (now (vectors .exit)) (now (scratch .exit))
         ≡ placedIn (blockersOf (now (blockers .entry))) (statesOf (now (states .entry))) (vectorsOf (now (vectors .entry))) v (admitAt (blockersOf (now (blockers .entry))) slot (settings .bounce) v (now («data» .entry)) (now (scratch .entry)) (Started x)) ⌝ }
+    ensures words { λ r. ⌜ sameThree (isPlaced r) (now (blockers .entry)) (now (states .entry)) (now (vectors .entry))
+        (now (blockers .exit)) (now (states .exit)) (now (vectors .exit)) ⌝ }
 {
     if !may_enter(blockers, slot, x) {
         return Begun::Refused(Refusal::Slot);
@@ -104,8 +106,10 @@ pub(crate) fn admit(
     scratch: &mut [u8],
 ) -> Begun
     requires { ⌜ (length (now blockers) ≡ 88) × (length (now states) ≡ 144) × (length (now vectors) ≡ 272) × PlanSound slot settings buffers (length (now scratch)) plan ⌝ }
-    ensures { λ r. ⌜ seats r (now (blockers .exit)) (now (states .exit)) (now (vectors .exit)) (now (scratch .exit))
+    ensures dock { λ r. ⌜ seats r (now (blockers .exit)) (now (states .exit)) (now (vectors .exit)) (now (scratch .exit))
         ≡ placedIn (blockersOf (now (blockers .entry))) (statesOf (now (states .entry))) (vectorsOf (now (vectors .entry))) v (admitAt (blockersOf (now (blockers .entry))) slot (settings .bounce) v (now («data» .entry)) (now (scratch .entry)) plan) ⌝ }
+    ensures words { λ r. ⌜ sameThree (isPlaced r) (now (blockers .entry)) (now (states .entry)) (now (vectors .entry))
+        (now (blockers .exit)) (now (states .exit)) (now (vectors .exit)) ⌝ }
 {
     match plan {
         Plan::Done => Begun::Done,

@@ -21,6 +21,8 @@ ghost use Prim.Native.Nat.{_<_};
 ghost use lib.ListN.{length};
 ghost use Rattle.blockers.specs.Blockers.{present, notes, notesOf, forgetting, enteredOf, leftOf, waitsOf, blockerAt, isEntered};
 ghost use Rattle.words.specs.View.{kindOf, blockerOf, blockerWords, blockersOf};
+ghost use Rattle.arithmetic.specs.Refusals.{isDone};
+ghost use Rattle.words.specs.Kept.{sameUnless};
 
 // How many words a blocker has.
 const BLOCKER_WORDS: usize = 11;
@@ -111,7 +113,8 @@ pub(crate) fn waits(all: &[u64], slot: usize) -> bool
 pub(crate) fn enter(all: &mut [u64], kind: Kind, slot: usize, range: Range) -> Outcome
     requires { ⌜ length (now all) ≡ 88 ⌝ }
     ensures { λ r. ⌜ (r ≡ enteredOf kind slot range (blockersOf (now (all .entry))) .outcome)
-        × (blockersOf (now (all .exit)) ≡ enteredOf kind slot range (blockersOf (now (all .entry))) .blockers) ⌝ }
+        × (blockersOf (now (all .exit)) ≡ enteredOf kind slot range (blockersOf (now (all .entry))) .blockers)
+        × sameUnless (isDone r) (now (all .entry)) (now (all .exit)) ⌝ }
 {
     if SLOTS <= slot {
         return Outcome::Refused(Refusal::Slot);
@@ -142,7 +145,8 @@ fn forget(all: &mut [u64], slot: usize)
 pub(crate) fn leave(all: &mut [u64], slot: usize) -> Outcome
     requires { ⌜ length (now all) ≡ 88 ⌝ }
     ensures { λ r. ⌜ (r ≡ leftOf slot (blockersOf (now (all .entry))) .outcome)
-        × (blockersOf (now (all .exit)) ≡ leftOf slot (blockersOf (now (all .entry))) .blockers) ⌝ }
+        × (blockersOf (now (all .exit)) ≡ leftOf slot (blockersOf (now (all .entry))) .blockers)
+        × sameUnless (isDone r) (now (all .entry)) (now (all .exit)) ⌝ }
 {
     if SLOTS <= slot {
         return Outcome::Refused(Refusal::Slot);

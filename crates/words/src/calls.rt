@@ -16,7 +16,6 @@ use crate::vector_words::put_vector_at;
 use crate::vector_words::vector_at;
 use arithmetic::refusals::Outcome;
 use arithmetic::refusals::Refusal;
-use arithmetic::settings::Alignments;
 use arithmetic::settings::Buffers;
 use arithmetic::settings::Profile;
 use arithmetic::settings::Settings;
@@ -45,6 +44,8 @@ ghost use Rattle.dock.specs.Begin.{begins, beginOf};
 ghost use Rattle.dock.specs.Next.{nextOf, pieceOf};
 ghost use Rattle.dock.specs.Tell.{tells, tellOf, collectOf};
 ghost use Rattle.words.specs.View.{dockOf};
+ghost use Rattle.arithmetic.specs.Refusals.{isDone};
+ghost use Rattle.words.specs.Kept.{isPlaced, isFinal, sameTwo, sameThree, opensOver};
 
 // The words of a dock with eight free slots.
 fn set_fresh(
@@ -64,7 +65,7 @@ fn set_fresh(
     clear(vectors);
 }
 
-// Open with alignments: refused with 201, then 205.
+// Open with alignments: refused with 201, then 205, before a word is written.
 pub(crate) fn open(
     settings: &mut [u64],
     blockers: &mut [u64],
@@ -74,10 +75,16 @@ pub(crate) fn open(
     b: Buffers,
 ) -> Outcome
     requires { ⌜ (length (now settings) ≡ 9) × (length (now blockers) ≡ 88) × (length (now states) ≡ 144) × (length (now vectors) ≡ 272) ⌝ }
-    ensures { λ r. ⌜ (r ≡ openOf s b .outcome) × (dockOf (now (settings .exit)) (now (blockers .exit)) (now (states .exit)) (now (vectors .exit)) ≡ openOf s b .dock) ⌝ }
+    ensures { λ r. ⌜ (r ≡ openOf s b .outcome) × opensOver (openOf s b)
+        (now (settings .entry)) (now (blockers .entry)) (now (states .entry)) (now (vectors .entry))
+        (now (settings .exit)) (now (blockers .exit)) (now (states .exit)) (now (vectors .exit)) ⌝ }
 {
+    let outcome = opening(s, b);
+    let Outcome::Done = outcome else {
+        return outcome;
+    };
     set_fresh(settings, blockers, states, vectors, s, b);
-    opening(s, b)
+    Outcome::Done
 }
 
 // Open by drive profile: refused with 201, then 205.
@@ -91,30 +98,16 @@ pub(crate) fn open_profile(
     b: Buffers,
 ) -> Outcome
     requires { ⌜ (length (now settings) ≡ 9) × (length (now blockers) ≡ 88) × (length (now states) ≡ 144) × (length (now vectors) ≡ 272) ⌝ }
-    ensures { λ r. ⌜ (r ≡ openProfileOf index bounce b .outcome) × (dockOf (now (settings .exit)) (now (blockers .exit)) (now (states .exit)) (now (vectors .exit)) ≡ openProfileOf index bounce b .dock) ⌝ }
+    ensures { λ r. ⌜ (r ≡ openProfileOf index bounce b .outcome) × opensOver (openProfileOf index bounce b)
+        (now (settings .entry)) (now (blockers .entry)) (now (states .entry)) (now (vectors .entry))
+        (now (settings .exit)) (now (blockers .exit)) (now (states .exit)) (now (vectors .exit)) ⌝ }
 {
     match drive_profile(index) {
         Profile::Of(align) => {
             let s = Settings { align, bounce };
             open(settings, blockers, states, vectors, s, b)
         }
-        Profile::Refused(r) => {
-            let align = Alignments {
-                mem: 0,
-                req: 0,
-                zero: 0,
-                discard: 0,
-            };
-            set_fresh(
-                settings,
-                blockers,
-                states,
-                vectors,
-                Settings { align, bounce },
-                b,
-            );
-            Outcome::Refused(r)
-        }
+        Profile::Refused(r) => Outcome::Refused(r),
     }
 }
 
@@ -129,8 +122,10 @@ pub(crate) fn begin(
     scratch: &mut [u8],
 ) -> Begun
     requires { ⌜ (length (now settings) ≡ 9) × (length (now blockers) ≡ 88) × (length (now states) ≡ 144) × (length (now vectors) ≡ 272) ⌝ }
-    ensures { λ r. ⌜ begins (record { answer = r; dock = dockOf (now (settings .entry)) (now (blockers .exit)) (now (states .exit)) (now (vectors .exit)) }) (now (scratch .exit))
+    ensures dock { λ r. ⌜ begins (record { answer = r; dock = dockOf (now (settings .entry)) (now (blockers .exit)) (now (states .exit)) (now (vectors .exit)) }) (now (scratch .exit))
         ≡ beginOf (dockOf (now (settings .entry)) (now (blockers .entry)) (now (states .entry)) (now (vectors .entry))) asked (now («data» .entry)) (now (scratch .entry)) ⌝ }
+    ensures words { λ r. ⌜ sameThree (isPlaced r) (now (blockers .entry)) (now (states .entry)) (now (vectors .entry))
+        (now (blockers .exit)) (now (states .exit)) (now (vectors .exit)) ⌝ }
 {
     let s = get_settings(settings);
     let b = get_buffers(settings);
@@ -223,8 +218,9 @@ pub(crate) fn tell(
     scratch: &mut [u8],
 ) -> Outcome
     requires { ⌜ (length (now settings) ≡ 9) × (length (now blockers) ≡ 88) × (length (now states) ≡ 144) × (length (now vectors) ≡ 272) ⌝ }
-    ensures { λ r. ⌜ tells (record { outcome = r; dock = dockOf (now (settings .entry)) (now (blockers .exit)) (now (states .exit)) (now (vectors .entry)) }) (now («data» .exit)) (now (scratch .exit))
+    ensures dock { λ r. ⌜ tells (record { outcome = r; dock = dockOf (now (settings .entry)) (now (blockers .exit)) (now (states .exit)) (now (vectors .entry)) }) (now («data» .exit)) (now (scratch .exit))
         ≡ tellOf (dockOf (now (settings .entry)) (now (blockers .entry)) (now (states .entry)) (now (vectors .entry))) slot code (now («data» .entry)) (now (scratch .entry)) ⌝ }
+    ensures words { λ r. ⌜ sameTwo (isDone r) (now (blockers .entry)) (now (states .entry)) (now (blockers .exit)) (now (states .exit)) ⌝ }
 {
     let b = get_buffers(settings);
     if !lent_fits(b, data.len(), scratch.len()) {
@@ -260,8 +256,9 @@ pub(crate) fn collect(
     scratch_len: usize,
 ) -> Collected
     requires { ⌜ (length (now settings) ≡ 9) × (length (now states) ≡ 144) × (length (now vectors) ≡ 272) ⌝ }
-    ensures { λ r. ⌜ (r ≡ collectOf (dockOf (now (settings .entry)) (now (blockers .entry)) (now (states .entry)) (now (vectors .entry))) slot data_len «scratch_len» .answer)
+    ensures dock { λ r. ⌜ (r ≡ collectOf (dockOf (now (settings .entry)) (now (blockers .entry)) (now (states .entry)) (now (vectors .entry))) slot data_len «scratch_len» .answer)
         × (dockOf (now (settings .entry)) (now (blockers .entry)) (now (states .exit)) (now (vectors .exit)) ≡ collectOf (dockOf (now (settings .entry)) (now (blockers .entry)) (now (states .entry)) (now (vectors .entry))) slot data_len «scratch_len» .dock) ⌝ }
+    ensures words { λ r. ⌜ sameTwo (isFinal r) (now (states .entry)) (now (vectors .entry)) (now (states .exit)) (now (vectors .exit)) ⌝ }
 {
     let lent = get_buffers(settings);
     if !lent_fits(lent, data_len, scratch_len) {

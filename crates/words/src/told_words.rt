@@ -31,7 +31,8 @@ ghost use Rattle.dock.specs.Next.{isSoundAt};
 ghost use Rattle.dock.specs.Tell.{hands, staysAt, endsAt, entersAt, steppedAt, toldAt};
 ghost use Rattle.dock.specs.Slots.{filledShare, handedShare, StepSound};
 ghost use Rattle.words.specs.View.{blockersOf, statesOf, vectorsOf};
-ghost use Rattle.words.specs.Kept.{keeps, kept};
+ghost use Rattle.arithmetic.specs.Refusals.{isDone};
+ghost use Rattle.words.specs.Kept.{sameUnless, sameTwo, keeps, kept};
 
 // Whether the request of the job x in `slot` is out.
 pub(crate) fn is_out(blockers: &[u64], x: State, slot: usize) -> bool
@@ -104,8 +105,9 @@ fn stays(
     scratch: &mut [u8],
 ) -> Outcome
     requires { ⌜ (length (now states) ≡ 144) × (length (now vectors) ≡ 272) × (slot < 8) × (isSoundAt slot y settings buffers (length (now scratch)) ≡ true) ⌝ }
-    ensures { λ r. ⌜ keeps r (now (blockers .entry)) (now (states .exit)) (now («data» .entry)) (now (scratch .exit))
+    ensures dock { λ r. ⌜ keeps r (now (blockers .entry)) (now (states .exit)) (now («data» .entry)) (now (scratch .exit))
         ≡ kept (blockersOf (now (blockers .entry))) (statesOf (now (states .entry))) slot (staysAt (blockersOf (now (blockers .entry))) (slot * settings .bounce) y (getD (vectorsOf (now (vectors .entry))) slot noVector) (now («data» .entry)) (now (scratch .entry))) ⌝ }
+    ensures words { λ r. ⌜ sameUnless (isDone r) (now (states .entry)) (now (states .exit)) ⌝ }
 {
     let outcome = fill(vectors, slot, settings, buffers, y, data, scratch);
     let Outcome::Done = outcome else {
@@ -130,8 +132,9 @@ fn ends(
     scratch: &[u8],
 ) -> Outcome
     requires { ⌜ (length (now blockers) ≡ 88) × (length (now states) ≡ 144) × (length (now vectors) ≡ 272) × (slot < 8) × (isSoundAt slot x settings buffers (length (now scratch)) ≡ true) ⌝ }
-    ensures { λ r. ⌜ keeps r (now (blockers .exit)) (now (states .exit)) (now («data» .exit)) (now (scratch .entry))
+    ensures dock { λ r. ⌜ keeps r (now (blockers .exit)) (now (states .exit)) (now («data» .exit)) (now (scratch .entry))
         ≡ kept (blockersOf (now (blockers .entry))) (statesOf (now (states .entry))) slot (endsAt (blockersOf (now (blockers .entry))) slot (slot * settings .bounce) x code y (getD (vectorsOf (now (vectors .entry))) slot noVector) (now («data» .entry)) (now (scratch .entry))) ⌝ }
+    ensures words { λ r. ⌜ sameTwo (isDone r) (now (blockers .entry)) (now (states .entry)) (now (blockers .exit)) (now (states .exit)) ⌝ }
 {
     if !may_leave(blockers, slot, x) {
         return Outcome::Refused(Refusal::Slot);
@@ -159,8 +162,9 @@ fn enters(
     scratch: &mut [u8],
 ) -> Outcome
     requires { ⌜ (length (now blockers) ≡ 88) × (length (now states) ≡ 144) × (length (now vectors) ≡ 272) × (slot < 8) × (isSoundAt slot y settings buffers (length (now scratch)) ≡ true) ⌝ }
-    ensures { λ r. ⌜ keeps r (now (blockers .exit)) (now (states .exit)) (now («data» .entry)) (now (scratch .exit))
+    ensures dock { λ r. ⌜ keeps r (now (blockers .exit)) (now (states .exit)) (now («data» .entry)) (now (scratch .exit))
         ≡ kept (blockersOf (now (blockers .entry))) (statesOf (now (states .entry))) slot (entersAt (blockersOf (now (blockers .entry))) slot (slot * settings .bounce) x y (getD (vectorsOf (now (vectors .entry))) slot noVector) (now («data» .entry)) (now (scratch .entry))) ⌝ }
+    ensures words { λ r. ⌜ sameTwo (isDone r) (now (blockers .entry)) (now (states .entry)) (now (blockers .exit)) (now (states .exit)) ⌝ }
 {
     if !may_change(blockers, slot, x, y) {
         return Outcome::Refused(Refusal::Slot);
@@ -189,8 +193,9 @@ fn step(
     scratch: &mut [u8],
 ) -> Outcome
     requires { ⌜ (length (now b) ≡ 88) × (length (now xs) ≡ 144) × (length (now vs) ≡ 272) × (slot < 8) × StepSound slot s l x (length (now scratch)) step ⌝ }
-    ensures { λ r. ⌜ keeps r (now (b .exit)) (now (xs .exit)) (now («data» .exit)) (now (scratch .exit))
+    ensures dock { λ r. ⌜ keeps r (now (b .exit)) (now (xs .exit)) (now («data» .exit)) (now (scratch .exit))
         ≡ kept (blockersOf (now (b .entry))) (statesOf (now (xs .entry))) slot (steppedAt (blockersOf (now (b .entry))) slot (slot * s .bounce) x code (getD (vectorsOf (now (vs .entry))) slot noVector) (now («data» .entry)) (now (scratch .entry)) step) ⌝ }
+    ensures words { λ r. ⌜ sameTwo (isDone r) (now (b .entry)) (now (xs .entry)) (now (b .exit)) (now (xs .exit)) ⌝ }
 {
     match step {
         Step::Stays(y) => stays(b, xs, vs, slot, s, l, y, data, scratch),
@@ -213,8 +218,9 @@ pub(crate) fn told_at(
     scratch: &mut [u8],
 ) -> Outcome
     requires { ⌜ (length (now b) ≡ 88) × (length (now xs) ≡ 144) × (length (now vs) ≡ 272) × (slot < 8) × (lentFits l (length (now «data»)) (length (now scratch)) ≡ true) ⌝ }
-    ensures { λ r. ⌜ keeps r (now (b .exit)) (now (xs .exit)) (now («data» .exit)) (now (scratch .exit))
+    ensures dock { λ r. ⌜ keeps r (now (b .exit)) (now (xs .exit)) (now («data» .exit)) (now (scratch .exit))
         ≡ kept (blockersOf (now (b .entry))) (statesOf (now (xs .entry))) slot (toldAt (blockersOf (now (b .entry))) slot s l x (getD (vectorsOf (now (vs .entry))) slot noVector) code (now («data» .entry)) (now (scratch .entry))) ⌝ }
+    ensures words { λ r. ⌜ sameTwo (isDone r) (now (b .entry)) (now (xs .entry)) (now (b .exit)) (now (xs .exit)) ⌝ }
 {
     if !is_out(b, x, slot) {
         return Outcome::Refused(Refusal::Slot);

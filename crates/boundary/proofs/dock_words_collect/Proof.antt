@@ -12,7 +12,7 @@ collected-number-requires : tie.Need-collected-number-requires
 collected-number-requires c κs = search needs
 
 returns : tie.Need-returns
-returns c = (c .collected-number .ensures ∙ ap collectedNumber (c .before .collect .ensures .0), c .before .collect .ensures .1)
+returns c = let e = c .before .collect .ensures .0 in let w = c .before .collect .ensures .1 in ((c .collected-number .ensures ∙ ap collectedNumber (e .0), e .1), (rw (← e .0) (w .0), rw (← e .0) (w .1)))
 
 pub dock-words-collect-spec : {M : Type 1} → statement M
 dock-words-collect-spec = tie.close (tie.spec collect-requires collected-number-requires returns)

@@ -19,7 +19,7 @@ same-length-2 : tie.Need-same-length-2
 same-length-2 c = search needs
 
 returns : tie.Need-returns
-returns c = let e = c .before .before .before .before .before .tell .ensures in (c .number .ensures ∙ ap (λ (z : Told). outcomeNumber (z .outcome)) e, ap (λ (z : Told). z .dock) e, ap (λ (z : Told). z .memory) e, ap (λ (z : Told). z .scratch) e)
+returns c = let e = c .before .before .before .before .before .tell .ensures .0 in let w = c .before .before .before .before .before .tell .ensures .1 in let o = ap (λ (z : Told). z .outcome) e in ((c .number .ensures ∙ ap (λ (z : Told). outcomeNumber (z .outcome)) e, ap (λ (z : Told). z .dock) e, ap (λ (z : Told). z .memory) e, ap (λ (z : Told). z .scratch) e), (rw (← o) (w .0), rw (← o) (w .1)))
 
 pub dock-words-tell-spec : {M : Type 1} → statement M
 dock-words-tell-spec =

@@ -19,7 +19,7 @@ number-requires : tie.Need-number-requires
 number-requires c κs = search needs
 
 returns : tie.Need-returns
-returns c = let a = c .before .before .before .before .args in let q = c .before .before .before .strength .ensures in let e = c .before .enter .ensures in (c .number .ensures ∙ ap outcomeNumber (e .0) ∙ ap (λ (k : Kind). outcomeNumber (enteredOf k (a .slot) (rangeOf (a .start) (a .end)) (blockersOf (a .blockers .now)) .outcome)) q, e .1 ∙ ap (λ (k : Kind). enteredOf k (a .slot) (rangeOf (a .start) (a .end)) (blockersOf (a .blockers .now)) .blockers) q)
+returns c = let a = c .before .before .before .before .args in let q = c .before .before .before .strength .ensures in let e = c .before .enter .ensures in (c .number .ensures ∙ ap outcomeNumber (e .0) ∙ ap (λ (k : Kind). outcomeNumber (enteredOf k (a .slot) (rangeOf (a .start) (a .end)) (blockersOf (a .blockers .now)) .outcome)) q, e .1 ∙ ap (λ (k : Kind). enteredOf k (a .slot) (rangeOf (a .start) (a .end)) (blockersOf (a .blockers .now)) .blockers) q, rw (← q, ← e .0) (e .2))
 
 pub dock-words-blockers-enter-spec : {M : Type 1} → statement M
 dock-words-blockers-enter-spec =

@@ -12,7 +12,7 @@ number-requires : tie.Need-number-requires
 number-requires c κs = search needs
 
 returns : tie.Need-returns
-returns c = (c .number .ensures ∙ ap outcomeNumber (c .before .leave .ensures .0), c .before .leave .ensures .1)
+returns c = let e = c .before .leave .ensures in (c .number .ensures ∙ ap outcomeNumber (e .0), e .1, rw (← e .0) (e .2))
 
 pub dock-words-blockers-leave-spec : {M : Type 1} → statement M
 dock-words-blockers-leave-spec = tie.close (tie.spec leave-requires number-requires returns)

@@ -24,7 +24,7 @@ same-length c = search needs
 
 returns-2 : tie.Need-returns-2
 unfolding blockersWith
-returns-2 c = simp (sym (c .before .before .before .before .before .before .is-blocking .ensures) ∙ not-false _ (c .before .before .before .before .before .if1 .left)) (rw (c .before .before .before .before .strength .ensures) at (c .before .before .enter .ensures))
+returns-2 c = simp (sym (c .before .before .before .before .before .before .is-blocking .ensures) ∙ not-false _ (c .before .before .before .before .before .if1 .left)) (rw (c .before .before .before .before .strength .ensures) at (c .before .before .enter .ensures .0), rw (c .before .before .before .before .strength .ensures) at (c .before .before .enter .ensures .1))
 
 pub with-blocker-spec : {M : Type 1} → statement M
 with-blocker-spec =

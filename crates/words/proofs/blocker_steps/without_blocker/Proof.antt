@@ -21,7 +21,7 @@ same-length c = search needs
 
 returns-2 : tie.Need-returns-2
 unfolding blockersWithout
-returns-2 c = simp (sym (c .before .before .before .before .before .is-blocking .ensures) ∙ not-false _ (c .before .before .before .before .if1 .left)) (c .before .before .leave .ensures)
+returns-2 c = simp (sym (c .before .before .before .before .before .is-blocking .ensures) ∙ not-false _ (c .before .before .before .before .if1 .left)) (c .before .before .leave .ensures .0, c .before .before .leave .ensures .1)
 
 pub without-blocker-spec : {M : Type 1} → statement M
 without-blocker-spec =

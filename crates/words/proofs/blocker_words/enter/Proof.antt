@@ -5,12 +5,13 @@ use Rattle.blockers.specs.Laws.{enter-done, enter-past, enter-taken}
 use Rattle.words.specs.Rows.{part-length}
 use Rattle.words.specs.View.{blockersOf}
 use Rattle.words.specs.Laws.{kind-word, blocker-part}
+use Rattle.words.specs.KeptLaws.{same-words, done-words}
 use borrow.Author.Needs.{needs}
 use Rattle.words.proofs.blocker_words.enter.Statement.{statement}
 use Rattle.words.proofs.blocker_words.enter.Tie as tie
 
 returns : tie.Need-returns
-returns c = let a = c .before .before .args in rw (enter-past (a .kind) (a .slot) (a .range) (blockersOf (a .all .now)) (c .if1 .taken)) (refl, refl)
+returns c = let a = c .before .before .args in rw (enter-past (a .kind) (a .slot) (a .range) (blockersOf (a .all .now)) (c .if1 .taken)) (refl, refl, same-words _ _)
 
 mul-a : tie.Need-mul-a
 mul-a c = search needs
@@ -28,7 +29,7 @@ returns-2 : tie.Need-returns-2
 returns-2 c = let a = c .before .before .before .before .before .args in
     let w = a .all .now in
     let e = ap present (kind-word w (a .slot) (c .before .before .before .if1 .left)) ∙ sym (c .before .is-entered .ensures) ∙ c .if2 .taken in
-    rw (enter-taken (a .kind) (a .slot) (a .range) (blockersOf w) e) (refl, refl)
+    rw (enter-taken (a .kind) (a .slot) (a .range) (blockersOf w) e) (refl, refl, same-words _ _)
 
 notes-requires : tie.Need-notes-requires
 notes-requires c κs = search needs
@@ -60,7 +61,7 @@ returns-3 c = let a = c .before .before .before .before .before .before .before 
     let h = c .before .before .before .before .before .before .before .before .before .if1 .left in
     let e = ap present (kind-word w (a .slot) h) ∙ sym (c .before .before .before .before .before .before .before .is-entered .ensures) ∙ c .before .before .before .before .before .before .if2 .left in
     let n = c .before .all .given .0 ∙ part-length 11 (a .slot) w (search needs) in
-    rw (enter-done (a .kind) (a .slot) (a .range) (blockersOf w) h e) (refl, blocker-part w (a .slot) (record { kind = a .kind; range = a .range; noted = c .before .before .before .before .notes .result }) (c .before .before .put-blocker .last .0) h (c .before .before .before .before .before .before .before .before .before .before .before .pre) n (c .before .before .put-blocker .ensures) ∙ rw (c .before .before .before .before .notes .ensures))
+    rw (enter-done (a .kind) (a .slot) (a .range) (blockersOf w) h e) (refl, blocker-part w (a .slot) (record { kind = a .kind; range = a .range; noted = c .before .before .before .before .notes .result }) (c .before .before .put-blocker .last .0) h (c .before .before .before .before .before .before .before .before .before .before .before .pre) n (c .before .before .put-blocker .ensures) ∙ rw (c .before .before .before .before .notes .ensures), done-words _ _ _ refl)
 
 pub enter-spec : {M : Type 1} → statement M
 enter-spec =

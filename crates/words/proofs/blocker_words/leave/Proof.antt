@@ -6,12 +6,13 @@ use Rattle.blockers.specs.Laws.{leave-done, leave-past, leave-none}
 use Rattle.words.specs.Rows.{part-length}
 use Rattle.words.specs.View.{blockersOf}
 use Rattle.words.specs.Laws.{kind-word, blocker-part}
+use Rattle.words.specs.KeptLaws.{same-words, done-words}
 use borrow.Author.Needs.{needs}
 use Rattle.words.proofs.blocker_words.leave.Statement.{statement}
 use Rattle.words.proofs.blocker_words.leave.Tie as tie
 
 returns : tie.Need-returns
-returns c = let a = c .before .before .args in rw (leave-past (a .slot) (blockersOf (a .all .now)) (c .if1 .taken)) (refl, refl)
+returns c = let a = c .before .before .args in rw (leave-past (a .slot) (blockersOf (a .all .now)) (c .if1 .taken)) (refl, refl, same-words _ _)
 
 mul-a : tie.Need-mul-a
 mul-a c = search needs
@@ -29,7 +30,7 @@ returns-2 : tie.Need-returns-2
 returns-2 c = let a = c .before .before .before .before .before .args in
     let w = a .all .now in
     let e = ap present (kind-word w (a .slot) (c .before .before .before .if1 .left)) ∙ sym (c .before .is-entered .ensures) ∙ not-true _ (c .if2 .taken) in
-    rw (leave-none (a .slot) (blockersOf w) e) (refl, refl)
+    rw (leave-none (a .slot) (blockersOf w) e) (refl, refl, same-words _ _)
 
 forget-requires : tie.Need-forget-requires
 forget-requires c κs = search needs
@@ -66,7 +67,7 @@ returns-3 c = let a = c .before .before .before .before .before .before .before 
     let e = ap present (kind-word w (a .slot) h) ∙ sym (c .before .before .before .before .before .before .before .before .before .before .is-entered .ensures) ∙ not-false _ (c .before .before .before .before .before .before .before .before .before .if2 .left) in
     let l = c .before .before .before .before .before .before .all .given ∙ c .before .before .before .before .before .before .before .before .before .before .before .before .before .before .pre in
     let n = c .before .all2 .given .0 ∙ part-length 11 (a .slot) f (search needs) in
-    rw (leave-done (a .slot) (blockersOf w) h e) (refl, blocker-part f (a .slot) (c .before .before .before .vacant .result) (c .before .before .put-blocker .last .0) h l n (c .before .before .put-blocker .ensures) ∙ rw (c .before .before .before .before .before .before .before .forget .ensures, c .before .before .before .vacant .ensures))
+    rw (leave-done (a .slot) (blockersOf w) h e) (refl, blocker-part f (a .slot) (c .before .before .before .vacant .result) (c .before .before .put-blocker .last .0) h l n (c .before .before .put-blocker .ensures) ∙ rw (c .before .before .before .before .before .before .before .forget .ensures, c .before .before .before .vacant .ensures), done-words _ _ _ refl)
 
 pub leave-spec : {M : Type 1} → statement M
 leave-spec =

@@ -48,7 +48,7 @@ same-length-4 : tie.Need-same-length-4
 same-length-4 c = search needs
 
 returns : tie.Need-returns
-returns c = let a = c .before .before .before .before .before .before .before .before .before .before .before .before .before .before .before .before .before .before .before .before .before .before .before .before .before .before .before .before .before .before .before .args in begin-there (a .settings .now) (a .blockers .now) (a .states .now) (a .vectors .now) (a .asked) (a .«data» .now) (a .scratch .now) _ (c .before .before .before .before .before .before .before .before .before .before .before .before .before .before .before .before .before .before .before .before .before .before .before .before .get-settings .ensures) _ (c .before .before .before .before .before .before .before .before .before .before .before .before .before .before .before .before .before .before .before .before .before .before .before .get-buffers .ensures) _ (c .before .before .before .before .before .before .before .before .before .before .before .before .before .before .before .before .before .before .before .before .before .before .moved .ensures) _ (c .before .before .before .before .before .before .before .before .before .before .before .before .before .before .before .before .before .before .before .overlaps .ensures) _ (c .before .before .before .before .before .before .before .before .before .before .before .before .before .before .before .before .before .before .check-lent .ensures) _ (c .before .before .before .before .before .before .before .before .before .before .before .before .before .before .before .before .first-free .ensures) _ (c .before .before .before .before .before .before .before .before .before .before .before .before .before .before .before .plan-asked .ensures) _ (c .before .before .before .before .before .before .before .before .before .before .before .before .before .before .valid .ensures) _ (c .before .before .before .before .before .before .before .before .before .before .before .before .before .decide .ensures) _ _ _ _ _ (c .before .before .before .before .before .before .before .before .admit .ensures)
+returns c = ((let a = c .before .before .before .before .before .before .before .before .before .before .before .before .before .before .before .before .before .before .before .before .before .before .before .before .before .before .before .before .before .before .before .args in begin-there (a .settings .now) (a .blockers .now) (a .states .now) (a .vectors .now) (a .asked) (a .«data» .now) (a .scratch .now) _ (c .before .before .before .before .before .before .before .before .before .before .before .before .before .before .before .before .before .before .before .before .before .before .before .before .get-settings .ensures) _ (c .before .before .before .before .before .before .before .before .before .before .before .before .before .before .before .before .before .before .before .before .before .before .before .get-buffers .ensures) _ (c .before .before .before .before .before .before .before .before .before .before .before .before .before .before .before .before .before .before .before .before .before .before .moved .ensures) _ (c .before .before .before .before .before .before .before .before .before .before .before .before .before .before .before .before .before .before .before .overlaps .ensures) _ (c .before .before .before .before .before .before .before .before .before .before .before .before .before .before .before .before .before .before .check-lent .ensures) _ (c .before .before .before .before .before .before .before .before .before .before .before .before .before .before .before .before .first-free .ensures) _ (c .before .before .before .before .before .before .before .before .before .before .before .before .before .before .before .plan-asked .ensures) _ (c .before .before .before .before .before .before .before .before .before .before .before .before .before .before .valid .ensures) _ (c .before .before .before .before .before .before .before .before .before .before .before .before .before .decide .ensures) _ _ _ _ _ (c .before .before .before .before .before .before .before .before .admit .ensures .0)), c .before .before .before .before .before .before .before .before .admit .ensures .1)
 
 pub begin-spec : {M : Type 1} → statement M
 begin-spec =

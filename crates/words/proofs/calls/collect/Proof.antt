@@ -14,6 +14,7 @@ use Rattle.dock.specs.Tell.{collectOf}
 use Rattle.dock.specs.declared.tell.Collected.the-variants.{Final, Refused}
 use Rattle.dock.specs.declared.dock.Dock.{Dock}
 use Rattle.words.specs.View.{dockOf}
+use Rattle.words.specs.KeptLaws.{same-words, done-words}
 use borrow.Author.Needs.{needs}
 use Rattle.words.proofs.calls.collect.Statement.{statement}
 use Rattle.words.proofs.calls.collect.Tie as tie
@@ -44,10 +45,10 @@ lent-fits-requires : tie.Need-lent-fits-requires
 lent-fits-requires c κs = search needs
 
 returns : tie.Need-returns
-returns c = let a = c .before .before .before .before .before .before .before .args in unlent (dockOf (a .settings .now) (a .blockers .now) (a .states .now) (a .vectors .now)) (a .slot) (a .data-len) (a .scratch-len) (rw (← c .before .before .get-buffers .ensures) (sym (c .before .lent-fits .ensures) ∙ not-true _ (c .if1 .taken)))
+returns c = ((let a = c .before .before .before .before .before .before .before .args in unlent (dockOf (a .settings .now) (a .blockers .now) (a .states .now) (a .vectors .now)) (a .slot) (a .data-len) (a .scratch-len) (rw (← c .before .before .get-buffers .ensures) (sym (c .before .lent-fits .ensures) ∙ not-true _ (c .if1 .taken)))), (same-words _ _, same-words _ _))
 
 returns-2 : tie.Need-returns-2
-returns-2 c = let a = c .before .before .before .before .before .before .before .before .args in no-slot (dockOf (a .settings .now) (a .blockers .now) (a .states .now) (a .vectors .now)) (a .slot) (a .data-len) (a .scratch-len) (rw (← c .before .before .before .get-buffers .ensures) (sym (c .before .before .lent-fits .ensures) ∙ not-false _ (c .before .if1 .left))) (c .if2 .taken)
+returns-2 c = ((let a = c .before .before .before .before .before .before .before .before .args in no-slot (dockOf (a .settings .now) (a .blockers .now) (a .states .now) (a .vectors .now)) (a .slot) (a .data-len) (a .scratch-len) (rw (← c .before .before .before .get-buffers .ensures) (sym (c .before .before .lent-fits .ensures) ∙ not-false _ (c .before .if1 .left))) (c .if2 .taken)), (same-words _ _, same-words _ _))
 
 state-at-requires : tie.Need-state-at-requires
 state-at-requires c κs = search needs
@@ -59,7 +60,7 @@ same-length : tie.Need-same-length
 same-length c = search needs
 
 returns-3 : tie.Need-returns-3
-returns-3 c = let a = c .before .before .before .before .before .before .before .before .before .before .before .before .args in not-ended (dockOf (a .settings .now) (a .blockers .now) (a .states .now) (a .vectors .now)) (a .slot) (a .data-len) (a .scratch-len) (rw (← c .before .before .before .before .before .before .before .get-buffers .ensures) (sym (c .before .before .before .before .before .before .lent-fits .ensures) ∙ not-false _ (c .before .before .before .before .before .if1 .left))) (c .before .before .before .before .if2 .left) (rw (← c .before .before .state-at .ensures) (sym (c .before .has-ended .ensures) ∙ not-true _ (c .if3 .taken)))
+returns-3 c = ((let a = c .before .before .before .before .before .before .before .before .before .before .before .before .args in not-ended (dockOf (a .settings .now) (a .blockers .now) (a .states .now) (a .vectors .now)) (a .slot) (a .data-len) (a .scratch-len) (rw (← c .before .before .before .before .before .before .before .get-buffers .ensures) (sym (c .before .before .before .before .before .before .lent-fits .ensures) ∙ not-false _ (c .before .before .before .before .before .if1 .left))) (c .before .before .before .before .if2 .left) (rw (← c .before .before .state-at .ensures) (sym (c .before .has-ended .ensures) ∙ not-true _ (c .if3 .taken)))), (same-words _ _, same-words _ _))
 
 vacant-requires : tie.Need-vacant-requires
 vacant-requires c κs = search needs
@@ -80,7 +81,7 @@ same-length-3 : tie.Need-same-length-3
 same-length-3 c = search needs
 
 returns-4 : tie.Need-returns-4
-returns-4 c = let a = c .before .before .before .before .before .before .before .before .before .before .before .before .before .before .before .before .before .before .before .before .before .before .args in let x = c .before .before .before .before .before .before .before .before .before .before .before .before .state-at in let r = collected (dockOf (a .settings .now) (a .blockers .now) (a .states .now) (a .vectors .now)) (a .slot) (a .data-len) (a .scratch-len) (rw (← c .before .before .before .before .before .before .before .before .before .before .before .before .before .before .before .before .before .get-buffers .ensures) (sym (c .before .before .before .before .before .before .before .before .before .before .before .before .before .before .before .before .lent-fits .ensures) ∙ not-false _ (c .before .before .before .before .before .before .before .before .before .before .before .before .before .before .before .if1 .left))) (dockOf (a .settings .now) (a .blockers .now) (c .before .before .before .before .before .before .before .put-state-at .last .0) (c .before .before .put-vector-at .last .0)) (c .before .before .before .before .before .before .before .before .before .before .before .before .before .before .if2 .left) (rw (← x .ensures) (sym (c .before .before .before .before .before .before .before .before .before .before .before .has-ended .ensures) ∙ not-false _ (c .before .before .before .before .before .before .before .before .before .before .if3 .left))) (rw (c .before .before .before .before .before .before .before .put-state-at .ensures, c .before .before .put-vector-at .ensures, c .before .before .before .before .before .before .before .before .vacant .ensures, c .before .before .before .new .ensures)) in (ap (λ (y : State). Final (y .answer)) (x .ensures) ∙ r .0, r .1)
+returns-4 c = ((let a = c .before .before .before .before .before .before .before .before .before .before .before .before .before .before .before .before .before .before .before .before .before .before .args in let x = c .before .before .before .before .before .before .before .before .before .before .before .before .state-at in let r = collected (dockOf (a .settings .now) (a .blockers .now) (a .states .now) (a .vectors .now)) (a .slot) (a .data-len) (a .scratch-len) (rw (← c .before .before .before .before .before .before .before .before .before .before .before .before .before .before .before .before .before .get-buffers .ensures) (sym (c .before .before .before .before .before .before .before .before .before .before .before .before .before .before .before .before .lent-fits .ensures) ∙ not-false _ (c .before .before .before .before .before .before .before .before .before .before .before .before .before .before .before .if1 .left))) (dockOf (a .settings .now) (a .blockers .now) (c .before .before .before .before .before .before .before .put-state-at .last .0) (c .before .before .put-vector-at .last .0)) (c .before .before .before .before .before .before .before .before .before .before .before .before .before .before .if2 .left) (rw (← x .ensures) (sym (c .before .before .before .before .before .before .before .before .before .before .before .has-ended .ensures) ∙ not-false _ (c .before .before .before .before .before .before .before .before .before .before .if3 .left))) (rw (c .before .before .before .before .before .before .before .put-state-at .ensures, c .before .before .put-vector-at .ensures, c .before .before .before .before .before .before .before .before .vacant .ensures, c .before .before .before .new .ensures)) in (ap (λ (y : State). Final (y .answer)) (x .ensures) ∙ r .0, r .1)), (done-words _ _ _ refl, done-words _ _ _ refl))
 
 pub collect-spec : {M : Type 1} → statement M
 collect-spec =

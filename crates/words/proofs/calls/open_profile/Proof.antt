@@ -1,6 +1,7 @@
 -- `words::calls::open_profile` meets its contract: each answer of `drive_profile` is its case of the definition. Assumes nothing.
 use mathlib.Core.Path.{refl, sym, _∙_}
 use Rattle.dock.specs.Dock.{openProfileOf}
+use Rattle.words.specs.KeptLaws.{not-opened, same-words}
 use borrow.Author.Needs.{needs}
 use Rattle.words.proofs.calls.open_profile.Statement.{statement}
 use Rattle.words.proofs.calls.open_profile.Tie as tie
@@ -16,9 +17,6 @@ open-requires c κs = search needs
 
 enum-known-r : tie.Need-enum-known-r
 enum-known-r c = search needs
-
-set-fresh-requires : tie.Need-set-fresh-requires
-set-fresh-requires c κs = search needs
 
 same-length : tie.Need-same-length
 same-length c = search needs
@@ -36,21 +34,9 @@ returns : tie.Need-returns
 unfolding openProfileOf
 returns c = let e = sym (c .before .before .before .before .before .before .before .before .before .before .before .before .before .before .before .before .drive-profile .ensures) ∙ c .before .before .before .before .before .before .before .before .before .before .before .before .before .before .align .given .1 in simp e (c .before .before .before .before .before .before .before .before .«open» .ensures)
 
-same-length-5 : tie.Need-same-length-5
-same-length-5 c = search needs
-
-same-length-6 : tie.Need-same-length-6
-same-length-6 c = search needs
-
-same-length-7 : tie.Need-same-length-7
-same-length-7 c = search needs
-
-same-length-8 : tie.Need-same-length-8
-same-length-8 c = search needs
-
 returns-2 : tie.Need-returns-2
 unfolding openProfileOf
-returns-2 c = let e = sym (c .before .before .before .before .before .before .before .before .before .before .before .before .before .before .before .before .drive-profile .ensures) ∙ c .before .before .before .before .before .before .before .before .before .before .before .before .before .before .r .given .1 in simp e (refl, c .before .before .before .before .before .before .before .before .set-fresh .ensures)
+returns-2 c = let e = sym (c .before .before .before .drive-profile .ensures) ∙ c .before .r .given .1 in simp e (refl, (not-opened _ _ _ refl, same-words _ _, (same-words _ _, same-words _ _, same-words _ _)))
 
 pub open-profile-spec : {M : Type 1} → statement M
 open-profile-spec =
@@ -60,14 +46,9 @@ open-profile-spec =
     enum-known-align
     open-requires
     enum-known-r
-    set-fresh-requires
     same-length
     same-length-2
     same-length-3
     same-length-4
     returns
-    same-length-5
-    same-length-6
-    same-length-7
-    same-length-8
     returns-2)

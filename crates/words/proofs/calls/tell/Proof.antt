@@ -2,6 +2,7 @@
 use mathlib.Core.Path.{sym, _∙_}
 use borrow.Author.Tests.{not-true, not-false}
 use Rattle.words.proofs.Told.{tell-not-lent, tell-no-slot, tell-there}
+use Rattle.words.specs.KeptLaws.{same-words}
 use borrow.Author.Needs.{needs}
 use Rattle.words.proofs.calls.tell.Statement.{statement}
 use Rattle.words.proofs.calls.tell.Tie as tie
@@ -13,10 +14,10 @@ lent-fits-requires : tie.Need-lent-fits-requires
 lent-fits-requires c κs = search needs
 
 returns : tie.Need-returns
-returns c = let a = c .before .before .before .before .before .before .before .before .before .args in tell-not-lent (a .settings .now) (a .blockers .now) (a .states .now) (a .vectors .now) (a .slot) (a .code) (a .«data» .now) (a .scratch .now) (rw (← c .before .before .get-buffers .ensures) (sym (c .before .lent-fits .ensures) ∙ not-true _ (c .if1 .taken)))
+returns c = ((let a = c .before .before .before .before .before .before .before .before .before .args in tell-not-lent (a .settings .now) (a .blockers .now) (a .states .now) (a .vectors .now) (a .slot) (a .code) (a .«data» .now) (a .scratch .now) (rw (← c .before .before .get-buffers .ensures) (sym (c .before .lent-fits .ensures) ∙ not-true _ (c .if1 .taken)))), (same-words _ _, same-words _ _))
 
 returns-2 : tie.Need-returns-2
-returns-2 c = let a = c .before .before .before .before .before .before .before .before .before .before .args in tell-no-slot (a .settings .now) (a .blockers .now) (a .states .now) (a .vectors .now) (a .slot) (a .code) (a .«data» .now) (a .scratch .now) (rw (← c .before .before .before .get-buffers .ensures) (sym (c .before .before .lent-fits .ensures) ∙ not-false _ (c .before .if1 .left))) (c .if2 .taken)
+returns-2 c = ((let a = c .before .before .before .before .before .before .before .before .before .before .args in tell-no-slot (a .settings .now) (a .blockers .now) (a .states .now) (a .vectors .now) (a .slot) (a .code) (a .«data» .now) (a .scratch .now) (rw (← c .before .before .before .get-buffers .ensures) (sym (c .before .before .lent-fits .ensures) ∙ not-false _ (c .before .if1 .left))) (c .if2 .taken)), (same-words _ _, same-words _ _))
 
 get-settings-requires : tie.Need-get-settings-requires
 get-settings-requires c κs = search needs
@@ -40,7 +41,7 @@ same-length-4 : tie.Need-same-length-4
 same-length-4 c = search needs
 
 returns-3 : tie.Need-returns-3
-returns-3 c = let a = c .before .before .before .before .before .before .before .before .before .before .before .before .before .before .before .before .before .before .before .before .before .before .before .before .before .before .args in tell-there (a .settings .now) (a .blockers .now) (a .states .now) (a .vectors .now) (a .slot) (a .code) (a .«data» .now) (a .scratch .now) (rw (← c .before .before .before .before .before .before .before .before .before .before .before .before .before .before .before .before .before .before .before .get-buffers .ensures) (sym (c .before .before .before .before .before .before .before .before .before .before .before .before .before .before .before .before .before .before .lent-fits .ensures) ∙ not-false _ (c .before .before .before .before .before .before .before .before .before .before .before .before .before .before .before .before .before .if1 .left))) (c .before .before .before .before .before .before .before .before .before .before .before .before .before .before .before .before .if2 .left) _ (c .before .before .before .before .before .before .before .before .before .before .before .before .before .state-at .ensures) _ (c .before .before .before .before .before .before .before .before .before .before .before .before .before .before .before .get-settings .ensures) _ (c .before .before .before .before .before .before .before .before .before .before .before .before .before .before .before .before .before .before .before .get-buffers .ensures) _ _ _ _ _ (c .before .before .before .before .before .before .before .before .told-at .ensures)
+returns-3 c = ((let a = c .before .before .before .before .before .before .before .before .before .before .before .before .before .before .before .before .before .before .before .before .before .before .before .before .before .before .args in tell-there (a .settings .now) (a .blockers .now) (a .states .now) (a .vectors .now) (a .slot) (a .code) (a .«data» .now) (a .scratch .now) (rw (← c .before .before .before .before .before .before .before .before .before .before .before .before .before .before .before .before .before .before .before .get-buffers .ensures) (sym (c .before .before .before .before .before .before .before .before .before .before .before .before .before .before .before .before .before .before .lent-fits .ensures) ∙ not-false _ (c .before .before .before .before .before .before .before .before .before .before .before .before .before .before .before .before .before .if1 .left))) (c .before .before .before .before .before .before .before .before .before .before .before .before .before .before .before .before .if2 .left) _ (c .before .before .before .before .before .before .before .before .before .before .before .before .before .state-at .ensures) _ (c .before .before .before .before .before .before .before .before .before .before .before .before .before .before .before .get-settings .ensures) _ (c .before .before .before .before .before .before .before .before .before .before .before .before .before .before .before .before .before .before .before .get-buffers .ensures) _ _ _ _ _ (c .before .before .before .before .before .before .before .before .told-at .ensures .0)), c .before .before .before .before .before .before .before .before .told-at .ensures .1)
 
 pub tell-spec : {M : Type 1} → statement M
 tell-spec =

@@ -7,6 +7,7 @@ use Rattle.dock.specs.Dock.{noVector}
 use Rattle.dock.specs.Tell.{steppedAt}
 use Rattle.words.specs.View.{blockersOf, statesOf, vectorsOf}
 use Rattle.words.specs.Kept.{kept}
+use Rattle.words.specs.KeptLaws.{same-words}
 use borrow.Author.Needs.{needs}
 use Rattle.words.proofs.told_words.step.Statement.{statement}
 use Rattle.words.proofs.told_words.step.Tie as tie
@@ -42,7 +43,7 @@ same-length-4 : tie.Need-same-length-4
 same-length-4 c = search needs
 
 returns : tie.Need-returns
-returns c = let a = c .before .before .before .before .before .before .before .before .before .before .before .before .before .before .before .before .before .args in c .before .before .before .before .stays .ensures ∙ sym (ap (λ (q : Step). kept (blockersOf (a .b .now)) (statesOf (a .xs .now)) (a .slot) (steppedAt (blockersOf (a .b .now)) (a .slot) (a .slot * a .s .bounce) (a .x) (a .code) (getD (vectorsOf (a .vs .now)) (a .slot) noVector) (a .«data» .now) (a .scratch .now) q)) (c .before .before .before .before .before .before .before .before .before .before .step .given .1))
+returns c = ((let a = c .before .before .before .before .before .before .before .before .before .before .before .before .before .before .before .before .before .args in c .before .before .before .before .stays .ensures .0 ∙ sym (ap (λ (q : Step). kept (blockersOf (a .b .now)) (statesOf (a .xs .now)) (a .slot) (steppedAt (blockersOf (a .b .now)) (a .slot) (a .slot * a .s .bounce) (a .x) (a .code) (getD (vectorsOf (a .vs .now)) (a .slot) noVector) (a .«data» .now) (a .scratch .now) q)) (c .before .before .before .before .before .before .before .before .before .before .step .given .1))), (same-words _ _, c .before .before .before .before .stays .ensures .1))
 
 same-length-5 : tie.Need-same-length-5
 same-length-5 c = search needs
@@ -57,7 +58,7 @@ same-length-8 : tie.Need-same-length-8
 same-length-8 c = search needs
 
 returns-2 : tie.Need-returns-2
-returns-2 c = let a = c .before .before .before .before .before .before .before .before .before .before .before .before .before .before .before .before .before .before .before .args in c .before .before .before .before .before .before .ends .ensures ∙ sym (ap (λ (q : Step). kept (blockersOf (a .b .now)) (statesOf (a .xs .now)) (a .slot) (steppedAt (blockersOf (a .b .now)) (a .slot) (a .slot * a .s .bounce) (a .x) (a .code) (getD (vectorsOf (a .vs .now)) (a .slot) noVector) (a .«data» .now) (a .scratch .now) q)) (c .before .before .before .before .before .before .before .before .before .before .before .before .step2 .given .1))
+returns-2 c = ((let a = c .before .before .before .before .before .before .before .before .before .before .before .before .before .before .before .before .before .before .before .args in c .before .before .before .before .before .before .ends .ensures .0 ∙ sym (ap (λ (q : Step). kept (blockersOf (a .b .now)) (statesOf (a .xs .now)) (a .slot) (steppedAt (blockersOf (a .b .now)) (a .slot) (a .slot * a .s .bounce) (a .x) (a .code) (getD (vectorsOf (a .vs .now)) (a .slot) noVector) (a .«data» .now) (a .scratch .now) q)) (c .before .before .before .before .before .before .before .before .before .before .before .before .step2 .given .1))), c .before .before .before .before .before .before .ends .ensures .1)
 
 same-length-9 : tie.Need-same-length-9
 same-length-9 c = search needs
@@ -72,7 +73,7 @@ same-length-12 : tie.Need-same-length-12
 same-length-12 c = search needs
 
 returns-3 : tie.Need-returns-3
-returns-3 c = let a = c .before .before .before .before .before .before .before .before .before .before .before .before .before .before .before .before .before .before .before .args in c .before .before .before .before .before .before .enters .ensures ∙ sym (ap (λ (q : Step). kept (blockersOf (a .b .now)) (statesOf (a .xs .now)) (a .slot) (steppedAt (blockersOf (a .b .now)) (a .slot) (a .slot * a .s .bounce) (a .x) (a .code) (getD (vectorsOf (a .vs .now)) (a .slot) noVector) (a .«data» .now) (a .scratch .now) q)) (c .before .before .before .before .before .before .before .before .before .before .before .before .step3 .given .1))
+returns-3 c = ((let a = c .before .before .before .before .before .before .before .before .before .before .before .before .before .before .before .before .before .before .before .args in c .before .before .before .before .before .before .enters .ensures .0 ∙ sym (ap (λ (q : Step). kept (blockersOf (a .b .now)) (statesOf (a .xs .now)) (a .slot) (steppedAt (blockersOf (a .b .now)) (a .slot) (a .slot * a .s .bounce) (a .x) (a .code) (getD (vectorsOf (a .vs .now)) (a .slot) noVector) (a .«data» .now) (a .scratch .now) q)) (c .before .before .before .before .before .before .before .before .before .before .before .before .step3 .given .1))), c .before .before .before .before .before .before .enters .ensures .1)
 
 pub step-spec : {M : Type 1} → statement M
 step-spec =
