@@ -3,9 +3,9 @@ use mathlib.Core.Bool.{Bool, true, false}
 use mathlib.Core.List.{List, [], _∷_, _++_}
 use mathlib.Core.Logic.{⊎-elim}
 use mathlib.Core.Path.{_≡_, refl, ap, _∙_}
-use Prim.Native.Nat.{ℕ, zero, suc, _+_, _*_, _-_, _≤_, _<_}
+use Prim.Native.Nat.{ℕ, _+_, _*_, _-_, _≤_, _<_}
 use native.Mathlib.Omega.{arith}
-use lib.ListN.{length, getD}
+use lib.ListN.{length}
 use types.Run.{OneOf, miss}
 use denote.Enum.Declared.{declared, tagOf}
 use borrow.Author.Tests.{lt-ltb}
@@ -23,13 +23,13 @@ use Rattle.vectors.specs.EditLaws.{pushed}
 use Rattle.blockers.specs.Blockers.{waitsOf}
 use Rattle.stages.specs.Stages.{isFree, hasEnded, requestOf}
 use Rattle.stages.specs.declared.state.Request.{Request}
-use Rattle.stages.specs.declared.state.State.{State}
 use Rattle.dock.specs.declared.dock.Dock.{Dock}
 use Rattle.dock.proofs.next.Due.{enum as due}
 use Rattle.dock.specs.declared.next.Due.{Due}
 use Rattle.dock.specs.declared.next.Due.the-variants.{Waiting, Make, Answer, Refused}
-use Rattle.dock.specs.Dock.{noState, stateAt, vectorAt, lentFits, firstFree}
+use Rattle.dock.specs.Dock.{stateAt, vectorAt, lentFits, firstFree}
 use Rattle.dock.specs.Next.{nextOf}
+use Rattle.dock.specs.SlotLaws.{lowest-here}
 use Rattle.dock.specs.Tell.{collectOf}
 use Rattle.words.specs.Rows.{rows-length}
 use Rattle.words.specs.View.{stateOf, statesOf}

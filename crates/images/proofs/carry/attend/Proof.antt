@@ -30,7 +30,7 @@ same-length-2 : tie.Need-same-length-2
 same-length-2 c = search needs
 
 returns-2 : tie.Need-returns-2
-returns-2 c = record { outcome = _; d₁ = _; s₁ = _; out = sym (c .before .before .before .before .before .before .before .before .before .before .before .before .before .before .before .before .before .before .before .before .before .before .next .ensures) ∙ c .before .before .before .before .before .before .before .before .before .before .before .before .before .before .before .before .before .before .before .before .q .given .1; carried = rw (c .before .before .before .before .before .before .before .before .before .before .before .before .before .before .before .before .piece .ensures) at (c .before .before .before .before .before .before .before .before .before .before .before .before .before .carry .ensures); told = c .before .before .before .before .tell .ensures }
+returns-2 c = record { outcome = _; d₁ = _; s₁ = _; out = sym (c .before .before .before .before .before .before .before .before .before .before .before .before .before .before .before .before .before .before .before .before .before .before .next .ensures) ∙ c .before .before .before .before .before .before .before .before .before .before .before .before .before .before .before .before .before .before .before .before .q .given .1; carried = rw (c .before .before .before .before .before .before .before .before .before .before .before .before .before .before .before .before .piece .ensures) at (c .before .before .before .before .before .before .before .before .before .before .before .before .before .carry .ensures); told = c .before .before .before .before .tell .ensures .0 }
 
 pub attend-spec : {M : Type 1} → statement M
 attend-spec =

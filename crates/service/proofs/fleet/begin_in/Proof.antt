@@ -26,7 +26,7 @@ same-length-2 : tie.Need-same-length-2
 same-length-2 c = search needs
 
 returns-2 : tie.Need-returns-2
-returns-2 c = once (begin (record { slot = _; asked = _; answer = _; free = c .before .before .before .before .before .before .before .before .before .before .before .before .before .before .lowest-free .ensures (c .before .before .before .before .before .before .before .before .before .before .before .before .before .if1 .left); below = c .before .before .before .before .before .before .before .before .before .before .before .before .before .if1 .left; part = c .before .before .before .before .before .before .before .before .before .before .before .put-bytes .ensures; place = c .before .before .before .before .before .asked .ensures; begun = c .before .before .begin .ensures }))
+returns-2 c = once (begin (record { slot = _; asked = _; answer = _; free = c .before .before .before .before .before .before .before .before .before .before .before .before .before .before .lowest-free .ensures (c .before .before .before .before .before .before .before .before .before .before .before .before .before .if1 .left); below = c .before .before .before .before .before .before .before .before .before .before .before .before .before .if1 .left; part = c .before .before .before .before .before .before .before .before .before .before .before .put-bytes .ensures; place = c .before .before .before .before .before .asked .ensures; begun = c .before .before .begin .ensures .0 }))
 
 pub begin-in-spec : {M : Type 1} → statement M
 begin-in-spec =

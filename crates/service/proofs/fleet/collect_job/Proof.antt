@@ -17,10 +17,10 @@ enum-told : tie.Need-enum-told
 enum-told c = search needs
 
 returns : tie.Need-returns
-returns c = collected _ _ (c .before .before .before .before .before .collect .ensures .1)
+returns c = collected _ _ (c .before .before .before .before .before .collect .ensures .0 .1)
 
 returns-2 : tie.Need-returns-2
-returns-2 c = collected _ _ (c .before .before .collect .ensures .1)
+returns-2 c = collected _ _ (c .before .before .collect .ensures .0 .1)
 
 pub collect-job-spec : {M : Type 1} → statement M
 collect-job-spec =
