@@ -82,6 +82,6 @@ module _ {A : Type 0} (f : A → A) (d : A) (s : List A) where
   pub mapped-more : (u : List A) (i : ℕ) → i < length s → Mapped f d s u i → Mapped f d s (set u i (f (getD u i d))) (i + 1)
   mapped-more u i h m = (
     like-more (map f s) u i (i + 1) (f (getD u i d)) (f d) refl (rw (length-map s f) h) (m .0)
-    (ap f (m .1 i (omega arith)) ∙ sym (List·getD-map f s i d)),
+        (ap f (m .1 i (omega arith)) ∙ sym (List·getD-map f s i d)),
     λ k l. getD-set-other u i k (f (getD u i d)) d (λ q. omega (arith, q)) ∙ m .1 k (omega arith),
   )

@@ -43,7 +43,7 @@ ghost use Rattle.dock.specs.Dock.{fresh, openOf, openProfileOf};
 ghost use Rattle.dock.specs.Begin.{begins, beginOf};
 ghost use Rattle.dock.specs.Next.{nextOf, pieceOf};
 ghost use Rattle.dock.specs.Tell.{tells, tellOf, collectOf};
-ghost use Rattle.words.specs.View.{dockOf};
+ghost use Rattle.words.specs.View.{dockOf, DockWords};
 ghost use Rattle.arithmetic.specs.Refusals.{isDone};
 ghost use Rattle.words.specs.Kept.{isPlaced, isFinal, sameTwo, sameThree, opensOver};
 
@@ -56,7 +56,7 @@ fn set_fresh(
     s: Settings,
     b: Buffers,
 )
-    requires { ⌜ (length (now settings) ≡ 9) × (length (now blockers) ≡ 88) × (length (now states) ≡ 144) × (length (now vectors) ≡ 272) ⌝ }
+    requires { ⌜ DockWords (now settings) (now blockers) (now states) (now vectors) ⌝ }
     ensures { λ t. ⌜ dockOf (now (settings .exit)) (now (blockers .exit)) (now (states .exit)) (now (vectors .exit)) ≡ fresh s b ⌝ }
 {
     put_settings(settings, s, b);
@@ -74,7 +74,7 @@ pub(crate) fn open(
     s: Settings,
     b: Buffers,
 ) -> Outcome
-    requires { ⌜ (length (now settings) ≡ 9) × (length (now blockers) ≡ 88) × (length (now states) ≡ 144) × (length (now vectors) ≡ 272) ⌝ }
+    requires { ⌜ DockWords (now settings) (now blockers) (now states) (now vectors) ⌝ }
     ensures { λ r. ⌜ (r ≡ openOf s b .outcome) × opensOver (openOf s b)
         (now (settings .entry)) (now (blockers .entry)) (now (states .entry)) (now (vectors .entry))
         (now (settings .exit)) (now (blockers .exit)) (now (states .exit)) (now (vectors .exit)) ⌝ }
@@ -97,7 +97,7 @@ pub(crate) fn open_profile(
     bounce: u64,
     b: Buffers,
 ) -> Outcome
-    requires { ⌜ (length (now settings) ≡ 9) × (length (now blockers) ≡ 88) × (length (now states) ≡ 144) × (length (now vectors) ≡ 272) ⌝ }
+    requires { ⌜ DockWords (now settings) (now blockers) (now states) (now vectors) ⌝ }
     ensures { λ r. ⌜ (r ≡ openProfileOf index bounce b .outcome) × opensOver (openProfileOf index bounce b)
         (now (settings .entry)) (now (blockers .entry)) (now (states .entry)) (now (vectors .entry))
         (now (settings .exit)) (now (blockers .exit)) (now (states .exit)) (now (vectors .exit)) ⌝ }
@@ -121,7 +121,7 @@ pub(crate) fn begin(
     data: &[u8],
     scratch: &mut [u8],
 ) -> Begun
-    requires { ⌜ (length (now settings) ≡ 9) × (length (now blockers) ≡ 88) × (length (now states) ≡ 144) × (length (now vectors) ≡ 272) ⌝ }
+    requires { ⌜ DockWords (now settings) (now blockers) (now states) (now vectors) ⌝ }
     ensures dock { λ r. ⌜ begins (record { answer = r; dock = dockOf (now (settings .entry)) (now (blockers .exit)) (now (states .exit)) (now (vectors .exit)) }) (now (scratch .exit))
         ≡ beginOf (dockOf (now (settings .entry)) (now (blockers .entry)) (now (states .entry)) (now (vectors .entry))) asked (now («data» .entry)) (now (scratch .entry)) ⌝ }
     ensures words { λ r. ⌜ sameThree (isPlaced r) (now (blockers .entry)) (now (states .entry)) (now (vectors .entry))
@@ -160,7 +160,7 @@ pub(crate) fn next(
     data_len: usize,
     scratch_len: usize,
 ) -> Due
-    requires { ⌜ (length (now settings) ≡ 9) × (length (now blockers) ≡ 88) × (length (now states) ≡ 144) × (length (now vectors) ≡ 272) ⌝ }
+    requires { ⌜ DockWords (now settings) (now blockers) (now states) (now vectors) ⌝ }
     ensures { λ r. ⌜ r ≡ nextOf (dockOf (now (settings .entry)) (now (blockers .entry)) (now (states .entry)) (now (vectors .entry))) slot data_len «scratch_len» ⌝ }
 {
     let lent = get_buffers(settings);
@@ -187,7 +187,7 @@ pub(crate) fn piece(
     data_len: usize,
     scratch_len: usize,
 ) -> Piece
-    requires { ⌜ (length (now settings) ≡ 9) × (length (now blockers) ≡ 88) × (length (now states) ≡ 144) × (length (now vectors) ≡ 272) ⌝ }
+    requires { ⌜ DockWords (now settings) (now blockers) (now states) (now vectors) ⌝ }
     ensures { λ r. ⌜ r ≡ pieceOf (dockOf (now (settings .entry)) (now (blockers .entry)) (now (states .entry)) (now (vectors .entry))) slot i data_len «scratch_len» ⌝ }
 {
     let lent = get_buffers(settings);
@@ -217,7 +217,7 @@ pub(crate) fn tell(
     data: &mut [u8],
     scratch: &mut [u8],
 ) -> Outcome
-    requires { ⌜ (length (now settings) ≡ 9) × (length (now blockers) ≡ 88) × (length (now states) ≡ 144) × (length (now vectors) ≡ 272) ⌝ }
+    requires { ⌜ DockWords (now settings) (now blockers) (now states) (now vectors) ⌝ }
     ensures dock { λ r. ⌜ tells (record { outcome = r; dock = dockOf (now (settings .entry)) (now (blockers .exit)) (now (states .exit)) (now (vectors .entry)) }) (now («data» .exit)) (now (scratch .exit))
         ≡ tellOf (dockOf (now (settings .entry)) (now (blockers .entry)) (now (states .entry)) (now (vectors .entry))) slot code (now («data» .entry)) (now (scratch .entry)) ⌝ }
     ensures words { λ r. ⌜ sameTwo (isDone r) (now (blockers .entry)) (now (states .entry)) (now (blockers .exit)) (now (states .exit)) ⌝ }

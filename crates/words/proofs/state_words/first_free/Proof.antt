@@ -1,6 +1,6 @@
+-- `words::state_words::first_free` meets its contract: after i turns none of the first i slots is free. Assumes nothing.
 use mathlib.Core.List.{List}
 use lib.ListN.{length, getD}
--- `words::state_words::first_free` meets its contract: after i turns none of the first i slots is free. Assumes nothing.
 use borrow.Author.Needs.{needs}
 use native.Mathlib.Omega.{arith}
 use borrow.Author.Count.{below-none, below-more}
