@@ -72,10 +72,10 @@ pub unrefused : (x : Due) → OneOf (0 ∷ 1 ∷ 2 ∷ []) (tagOf (declared due)
 unrefused x h e = miss (0 ∷ 1 ∷ 2 ∷ []) 3 tt (rw e at h)
 
 -- nor does any other refusal
-pub other : (r : Refusal) → OneOf (0 ∷ 1 ∷ 2 ∷ 3 ∷ 4 ∷ 5 ∷ 6 ∷ 8 ∷ 9 ∷ []) (tagOf (declared refusal) r) → Refused r ≡ Refused Slot → ⊥
+pub other : (r : Refusal) → OneOf (0 ∷ 1 ∷ 2 ∷ 3 ∷ 4 ∷ 5 ∷ 6 ∷ 8 ∷ 9 ∷ 10 ∷ 11 ∷ 12 ∷ 13 ∷ 14 ∷ 15 ∷ 16 ∷ 17 ∷ 18 ∷ 19 ∷ []) (tagOf (declared refusal) r) → Refused r ≡ Refused Slot → ⊥
 other r h e =
     let s : r ≡ Slot = cc in
-    miss (0 ∷ 1 ∷ 2 ∷ 3 ∷ 4 ∷ 5 ∷ 6 ∷ 8 ∷ 9 ∷ []) 7 tt (rw s at h)
+    miss (0 ∷ 1 ∷ 2 ∷ 3 ∷ 4 ∷ 5 ∷ 6 ∷ 8 ∷ 9 ∷ 10 ∷ 11 ∷ 12 ∷ 13 ∷ 14 ∷ 15 ∷ 16 ∷ 17 ∷ 18 ∷ 19 ∷ []) 7 tt (rw s at h)
 
 -- where the lengths are those of the opening, `next` refuses one of the eight slots exactly if it is free; where they are not, none for being free
 module _ (d : Dock) (p m n : ℕ) (h : p < 8) where
