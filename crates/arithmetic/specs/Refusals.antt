@@ -1,4 +1,6 @@
 -- Document 01, "What a call gives back", and document 02: the number that each refusal returns.
+use mathlib.Core.Path.{_≡_, refl}
+use mathlib.Core.Bool.{Bool, true, false}
 use Prim.Native.Nat.{ℕ, _<_}
 use native.Mathlib.Omega.{arith}
 use Rattle.arithmetic.specs.declared.refusals.Refusal.{Refusal}
@@ -58,3 +60,15 @@ refusal-some Sheet = omega arith
 abbrev pub outcomeNumber : Outcome → ℕ
 outcomeNumber Done = 0
 outcomeNumber (Refused r) = numberOf r
+
+-- go on where a step was carried out; a refusal gives what it gives
+abbrev pub whenDone : {A : Type 0} → Outcome → A → (Refusal → A) → A
+whenDone Done k z = k
+whenDone (Refused r) k z = z r
+
+abbrev pub isDone : Outcome → Bool
+isDone o = whenDone o true (λ r. false)
+
+pub is-done : (o : Outcome) → isDone o ≡ true → o ≡ Done
+is-done Done e = refl
+is-done (Refused r) e = let z : _≡_ {A = ℕ} 0 1 = cc in absurd (omega arith)

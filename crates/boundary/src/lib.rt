@@ -28,16 +28,16 @@ use words::arrays::tell;
 use words::arrays::vector_of;
 ghost use mathlib.Core.Path.{_≡_};
 ghost use Rattle.arithmetic.specs.Offsets.{storeAt};
-ghost use Rattle.arithmetic.specs.Refusals.{outcomeNumber};
+ghost use Rattle.arithmetic.specs.Refusals.{outcomeNumber, isDone};
 ghost use Rattle.arithmetic.specs.Planner.{countOf, plannedOf};
 ghost use Rattle.dock.specs.Dock.{openOf, openProfileOf};
 ghost use Rattle.dock.specs.Begin.{beginOf, readOf, writeOf, zeroesOf, discardOf};
 ghost use Rattle.dock.specs.Next.{nextOf, pieceOf};
 ghost use Rattle.dock.specs.Tell.{tellOf, collectOf};
-ghost use Rattle.dock.specs.Numbers.{begunPaper, duePaper, piecePaper};
+ghost use Rattle.dock.specs.Numbers.{duePaper, piecePaper};
 ghost use Rattle.words.specs.View.{flagOf, settingsOf, vectorFrom, dockOf};
-ghost use Rattle.words.specs.Kept.{isDone, isPlaced, isFinal, sameTwo, sameThree, opensOver};
-ghost use Rattle.boundary.specs.Replies.{settingsBy, buffersBy, replyOf, countPaper, plannedPaper, collectedNumber};
+ghost use Rattle.words.specs.Kept.{isPlaced, isFinal, sameTwo, sameThree, opensOver};
+ghost use Rattle.boundary.specs.Replies.{settingsBy, buffersBy, replyOf, countPaper, plannedPaper, BeginsAs, TellsAs, CollectsAs};
 
 // Open with alignments.
 #[no_mangle]
@@ -131,9 +131,10 @@ pub extern "C" fn dock_words_begin_read(
     data: &[u8],
     scratch: &mut [u8],
 ) -> Reply
-    ensures dock { λ r. ⌜ (r ≡ replyOf (begunPaper (beginOf (dockOf (now (settings .entry)) (now (blockers .entry)) (now (states .entry)) (now (vectors .entry))) (readOf (storeAt offset) (vectorFrom (now (vector .entry)))) (now («data» .entry)) (now (scratch .entry)) .answer)))
-        × (dockOf (now (settings .entry)) (now (blockers .exit)) (now (states .exit)) (now (vectors .exit)) ≡ beginOf (dockOf (now (settings .entry)) (now (blockers .entry)) (now (states .entry)) (now (vectors .entry))) (readOf (storeAt offset) (vectorFrom (now (vector .entry)))) (now («data» .entry)) (now (scratch .entry)) .dock)
-        × (now (scratch .exit) ≡ beginOf (dockOf (now (settings .entry)) (now (blockers .entry)) (now (states .entry)) (now (vectors .entry))) (readOf (storeAt offset) (vectorFrom (now (vector .entry)))) (now («data» .entry)) (now (scratch .entry)) .scratch) ⌝ }
+    ensures dock { λ r. ⌜ BeginsAs (beginOf
+        (dockOf (now (settings .entry)) (now (blockers .entry)) (now (states .entry)) (now (vectors .entry)))
+        (readOf (storeAt offset) (vectorFrom (now (vector .entry)))) (now («data» .entry)) (now (scratch .entry)))
+        r (dockOf (now (settings .entry)) (now (blockers .exit)) (now (states .exit)) (now (vectors .exit))) (now (scratch .exit)) ⌝ }
     ensures words { λ _. ⌜ sameThree (isPlaced (beginOf
         (dockOf (now (settings .entry)) (now (blockers .entry)) (now (states .entry)) (now (vectors .entry)))
         (readOf (storeAt offset) (vectorFrom (now (vector .entry)))) (now («data» .entry)) (now (scratch .entry)) .answer))
@@ -156,9 +157,10 @@ pub extern "C" fn dock_words_begin_write(
     data: &[u8],
     scratch: &mut [u8],
 ) -> Reply
-    ensures dock { λ r. ⌜ (r ≡ replyOf (begunPaper (beginOf (dockOf (now (settings .entry)) (now (blockers .entry)) (now (states .entry)) (now (vectors .entry))) (writeOf (storeAt offset) (vectorFrom (now (vector .entry)))) (now («data» .entry)) (now (scratch .entry)) .answer)))
-        × (dockOf (now (settings .entry)) (now (blockers .exit)) (now (states .exit)) (now (vectors .exit)) ≡ beginOf (dockOf (now (settings .entry)) (now (blockers .entry)) (now (states .entry)) (now (vectors .entry))) (writeOf (storeAt offset) (vectorFrom (now (vector .entry)))) (now («data» .entry)) (now (scratch .entry)) .dock)
-        × (now (scratch .exit) ≡ beginOf (dockOf (now (settings .entry)) (now (blockers .entry)) (now (states .entry)) (now (vectors .entry))) (writeOf (storeAt offset) (vectorFrom (now (vector .entry)))) (now («data» .entry)) (now (scratch .entry)) .scratch) ⌝ }
+    ensures dock { λ r. ⌜ BeginsAs (beginOf
+        (dockOf (now (settings .entry)) (now (blockers .entry)) (now (states .entry)) (now (vectors .entry)))
+        (writeOf (storeAt offset) (vectorFrom (now (vector .entry)))) (now («data» .entry)) (now (scratch .entry)))
+        r (dockOf (now (settings .entry)) (now (blockers .exit)) (now (states .exit)) (now (vectors .exit))) (now (scratch .exit)) ⌝ }
     ensures words { λ _. ⌜ sameThree (isPlaced (beginOf
         (dockOf (now (settings .entry)) (now (blockers .entry)) (now (states .entry)) (now (vectors .entry)))
         (writeOf (storeAt offset) (vectorFrom (now (vector .entry)))) (now («data» .entry)) (now (scratch .entry)) .answer))
@@ -182,9 +184,10 @@ pub extern "C" fn dock_words_begin_zeroes(
     data: &[u8],
     scratch: &mut [u8],
 ) -> Reply
-    ensures dock { λ r. ⌜ (r ≡ replyOf (begunPaper (beginOf (dockOf (now (settings .entry)) (now (blockers .entry)) (now (states .entry)) (now (vectors .entry))) (zeroesOf (flagOf allocate) (storeAt offset) length) (now («data» .entry)) (now (scratch .entry)) .answer)))
-        × (dockOf (now (settings .entry)) (now (blockers .exit)) (now (states .exit)) (now (vectors .exit)) ≡ beginOf (dockOf (now (settings .entry)) (now (blockers .entry)) (now (states .entry)) (now (vectors .entry))) (zeroesOf (flagOf allocate) (storeAt offset) length) (now («data» .entry)) (now (scratch .entry)) .dock)
-        × (now (scratch .exit) ≡ beginOf (dockOf (now (settings .entry)) (now (blockers .entry)) (now (states .entry)) (now (vectors .entry))) (zeroesOf (flagOf allocate) (storeAt offset) length) (now («data» .entry)) (now (scratch .entry)) .scratch) ⌝ }
+    ensures dock { λ r. ⌜ BeginsAs (beginOf
+        (dockOf (now (settings .entry)) (now (blockers .entry)) (now (states .entry)) (now (vectors .entry)))
+        (zeroesOf (flagOf allocate) (storeAt offset) length) (now («data» .entry)) (now (scratch .entry)))
+        r (dockOf (now (settings .entry)) (now (blockers .exit)) (now (states .exit)) (now (vectors .exit))) (now (scratch .exit)) ⌝ }
     ensures words { λ _. ⌜ sameThree (isPlaced (beginOf
         (dockOf (now (settings .entry)) (now (blockers .entry)) (now (states .entry)) (now (vectors .entry)))
         (zeroesOf (flagOf allocate) (storeAt offset) length) (now («data» .entry)) (now (scratch .entry)) .answer))
@@ -207,9 +210,10 @@ pub extern "C" fn dock_words_begin_discard(
     data: &[u8],
     scratch: &mut [u8],
 ) -> Reply
-    ensures dock { λ r. ⌜ (r ≡ replyOf (begunPaper (beginOf (dockOf (now (settings .entry)) (now (blockers .entry)) (now (states .entry)) (now (vectors .entry))) (discardOf (storeAt offset) length) (now («data» .entry)) (now (scratch .entry)) .answer)))
-        × (dockOf (now (settings .entry)) (now (blockers .exit)) (now (states .exit)) (now (vectors .exit)) ≡ beginOf (dockOf (now (settings .entry)) (now (blockers .entry)) (now (states .entry)) (now (vectors .entry))) (discardOf (storeAt offset) length) (now («data» .entry)) (now (scratch .entry)) .dock)
-        × (now (scratch .exit) ≡ beginOf (dockOf (now (settings .entry)) (now (blockers .entry)) (now (states .entry)) (now (vectors .entry))) (discardOf (storeAt offset) length) (now («data» .entry)) (now (scratch .entry)) .scratch) ⌝ }
+    ensures dock { λ r. ⌜ BeginsAs (beginOf
+        (dockOf (now (settings .entry)) (now (blockers .entry)) (now (states .entry)) (now (vectors .entry)))
+        (discardOf (storeAt offset) length) (now («data» .entry)) (now (scratch .entry)))
+        r (dockOf (now (settings .entry)) (now (blockers .exit)) (now (states .exit)) (now (vectors .exit))) (now (scratch .exit)) ⌝ }
     ensures words { λ _. ⌜ sameThree (isPlaced (beginOf
         (dockOf (now (settings .entry)) (now (blockers .entry)) (now (states .entry)) (now (vectors .entry)))
         (discardOf (storeAt offset) length) (now («data» .entry)) (now (scratch .entry)) .answer))
@@ -282,10 +286,11 @@ pub extern "C" fn dock_words_tell(
     data: &mut [u8],
     scratch: &mut [u8],
 ) -> u8
-    ensures dock { λ r. ⌜ (r ≡ outcomeNumber (tellOf (dockOf (now (settings .entry)) (now (blockers .entry)) (now (states .entry)) (now (vectors .entry))) slot code (now («data» .entry)) (now (scratch .entry)) .outcome))
-        × (dockOf (now (settings .entry)) (now (blockers .exit)) (now (states .exit)) (now (vectors .entry)) ≡ tellOf (dockOf (now (settings .entry)) (now (blockers .entry)) (now (states .entry)) (now (vectors .entry))) slot code (now («data» .entry)) (now (scratch .entry)) .dock)
-        × (now («data» .exit) ≡ tellOf (dockOf (now (settings .entry)) (now (blockers .entry)) (now (states .entry)) (now (vectors .entry))) slot code (now («data» .entry)) (now (scratch .entry)) .memory)
-        × (now (scratch .exit) ≡ tellOf (dockOf (now (settings .entry)) (now (blockers .entry)) (now (states .entry)) (now (vectors .entry))) slot code (now («data» .entry)) (now (scratch .entry)) .scratch) ⌝ }
+    ensures dock { λ r. ⌜ TellsAs (tellOf
+        (dockOf (now (settings .entry)) (now (blockers .entry)) (now (states .entry)) (now (vectors .entry)))
+        slot code (now («data» .entry)) (now (scratch .entry)))
+        r (dockOf (now (settings .entry)) (now (blockers .exit)) (now (states .exit)) (now (vectors .entry)))
+        (now («data» .exit)) (now (scratch .exit)) ⌝ }
     ensures words { λ _. ⌜ sameTwo (isDone (tellOf
         (dockOf (now (settings .entry)) (now (blockers .entry)) (now (states .entry)) (now (vectors .entry)))
         slot code (now («data» .entry)) (now (scratch .entry)) .outcome))
@@ -315,8 +320,9 @@ pub extern "C" fn dock_words_collect(
     data_len: usize,
     scratch_len: usize,
 ) -> u8
-    ensures dock { λ r. ⌜ (r ≡ collectedNumber (collectOf (dockOf (now (settings .entry)) (now (blockers .entry)) (now (states .entry)) (now (vectors .entry))) slot data_len «scratch_len» .answer))
-        × (dockOf (now (settings .entry)) (now (blockers .entry)) (now (states .exit)) (now (vectors .exit)) ≡ collectOf (dockOf (now (settings .entry)) (now (blockers .entry)) (now (states .entry)) (now (vectors .entry))) slot data_len «scratch_len» .dock) ⌝ }
+    ensures dock { λ r. ⌜ CollectsAs (collectOf
+        (dockOf (now (settings .entry)) (now (blockers .entry)) (now (states .entry)) (now (vectors .entry))) slot data_len «scratch_len»)
+        r (dockOf (now (settings .entry)) (now (blockers .entry)) (now (states .exit)) (now (vectors .exit))) ⌝ }
     ensures words { λ _. ⌜ sameTwo (isFinal (collectOf
         (dockOf (now (settings .entry)) (now (blockers .entry)) (now (states .entry)) (now (vectors .entry)))
         slot data_len «scratch_len» .answer)) (now (states .entry)) (now (vectors .entry)) (now (states .exit)) (now (vectors .exit)) ⌝ }

@@ -15,16 +15,13 @@ use words::arrays::vector_of;
 use words::arrays::waits;
 ghost use mathlib.Core.Path.{_≡_};
 ghost use lib.ListN.{length};
-ghost use Rattle.arithmetic.specs.Rounding.{pick};
 ghost use Rattle.arithmetic.specs.Offsets.{rangeOf};
-ghost use Rattle.arithmetic.specs.Refusals.{outcomeNumber};
-ghost use Rattle.vectors.specs.Vectors.{segment, pushOf, insertOf, appendOf, splitOf, splitTailOf, outcomeOf, copies, bytesOf, scatterOf, segmentsOf, isValid, fillOf, alignmentOf};
+ghost use Rattle.vectors.specs.Vectors.{segment, pushOf, insertOf, appendOf, splitOf, splitTailOf, copies, bytesOf, scatterOf, segmentsOf};
+ghost use Rattle.vectors.specs.Vectors.{isValid, fillOf, alignmentOf};
 ghost use Rattle.blockers.specs.Blockers.{enteredOf, leftOf, waitsOf};
 ghost use Rattle.dock.specs.Begin.{strength};
-ghost use Rattle.dock.specs.Slots.{whenDone};
 ghost use Rattle.words.specs.View.{flagOf, flagWord, vectorFrom, blockersOf};
-ghost use Rattle.words.specs.Kept.{isDone, sameUnless};
-ghost use Rattle.boundary.specs.Replies.{replyOf, alignmentPaper};
+ghost use Rattle.boundary.specs.Replies.{replyOf, alignmentPaper, EditsAs, SplitsAs, MovesAs, BlocksAs};
 
 // The vector with a segment more at its end.
 #[no_mangle]
@@ -34,7 +31,8 @@ pub extern "C" fn dock_words_vector_push(
     length: usize,
     data_len: usize,
 ) -> u8
-    ensures { λ r. ⌜ (r ≡ outcomeNumber (pushOf data_len (vectorFrom (now (vector .entry))) (segment start length) .outcome)) × (vectorFrom (now (vector .exit)) ≡ pushOf data_len (vectorFrom (now (vector .entry))) (segment start length) .vector) ⌝ }
+    ensures { λ r. ⌜ EditsAs (pushOf data_len (vectorFrom (now (vector .entry))) (segment start length))
+        r (vectorFrom (now (vector .exit))) ⌝ }
 {
     let v = vector_of(vector);
     let changed = v.push(Segment { start, length }, data_len);
@@ -52,7 +50,8 @@ pub extern "C" fn dock_words_vector_insert(
     length: usize,
     data_len: usize,
 ) -> u8
-    ensures { λ r. ⌜ (r ≡ outcomeNumber (insertOf data_len (vectorFrom (now (vector .entry))) index (segment start length) .outcome)) × (vectorFrom (now (vector .exit)) ≡ insertOf data_len (vectorFrom (now (vector .entry))) index (segment start length) .vector) ⌝ }
+    ensures { λ r. ⌜ EditsAs (insertOf data_len (vectorFrom (now (vector .entry))) index (segment start length))
+        r (vectorFrom (now (vector .exit))) ⌝ }
 {
     let v = vector_of(vector);
     let changed = v.insert(index, Segment { start, length }, data_len);
@@ -68,7 +67,8 @@ pub extern "C" fn dock_words_vector_split_tail_at(
     mid: u64,
     data_len: usize,
 ) -> u8
-    ensures { λ r. ⌜ (r ≡ outcomeNumber (splitTailOf data_len (vectorFrom (now (vector .entry))) mid .outcome)) × (vectorFrom (now (vector .exit)) ≡ splitTailOf data_len (vectorFrom (now (vector .entry))) mid .vector) ⌝ }
+    ensures { λ r. ⌜ EditsAs (splitTailOf data_len (vectorFrom (now (vector .entry))) mid)
+        r (vectorFrom (now (vector .exit))) ⌝ }
 {
     let v = vector_of(vector);
     let changed = v.split_tail_at(mid, data_len);
@@ -84,8 +84,8 @@ pub extern "C" fn dock_words_vector_append(
     other: &[u64; 34],
     data_len: usize,
 ) -> u8
-    ensures { λ r. ⌜ (r ≡ outcomeNumber (appendOf data_len (vectorFrom (now (vector .entry))) (vectorFrom (now (other .entry))) .outcome))
-        × (vectorFrom (now (vector .exit)) ≡ appendOf data_len (vectorFrom (now (vector .entry))) (vectorFrom (now (other .entry))) .vector) ⌝ }
+    ensures { λ r. ⌜ EditsAs (appendOf data_len (vectorFrom (now (vector .entry))) (vectorFrom (now (other .entry))))
+        r (vectorFrom (now (vector .exit))) ⌝ }
 {
     let v = vector_of(vector);
     let w = vector_of(other);
@@ -103,9 +103,8 @@ pub extern "C" fn dock_words_vector_split_at(
     mid: u64,
     data_len: usize,
 ) -> u8
-    ensures { λ r. ⌜ (r ≡ outcomeNumber (splitOf data_len (vectorFrom (now (vector .entry))) mid .outcome))
-        × (vectorFrom (now (vector .exit)) ≡ splitOf data_len (vectorFrom (now (vector .entry))) mid .head)
-        × (vectorFrom (now (tail .exit)) ≡ whenDone (splitOf data_len (vectorFrom (now (vector .entry))) mid .outcome) (splitOf data_len (vectorFrom (now (vector .entry))) mid .tail) (vectorFrom (now (tail .entry)))) ⌝ }
+    ensures { λ r. ⌜ SplitsAs (splitOf data_len (vectorFrom (now (vector .entry))) mid) (vectorFrom (now (tail .entry)))
+        r (vectorFrom (now (vector .exit))) (vectorFrom (now (tail .exit))) ⌝ }
 {
     let v = vector_of(vector);
     let halves = v.split_at(mid, data_len);
@@ -125,8 +124,9 @@ pub extern "C" fn dock_words_vector_copy_into_slice(
     data: &[u8],
     slice: &mut [u8],
 ) -> u8
-    ensures { λ r. ⌜ (r ≡ outcomeNumber (outcomeOf (copies (now («data» .entry)) (vectorFrom (now (vector .entry))) (length (now (slice .entry))))))
-        × (now (slice .exit) ≡ pick (copies (now («data» .entry)) (vectorFrom (now (vector .entry))) (length (now (slice .entry)))) (bytesOf (now («data» .entry)) (segmentsOf (vectorFrom (now (vector .entry))))) (now (slice .entry))) ⌝ }
+    ensures { λ r. ⌜ MovesAs (copies (now («data» .entry)) (vectorFrom (now (vector .entry))) (length (now (slice .entry))))
+        (bytesOf (now («data» .entry)) (segmentsOf (vectorFrom (now (vector .entry)))))
+        (now (slice .entry)) r (now (slice .exit)) ⌝ }
 {
     let v = vector_of(vector);
     let outcome = v.copy_into_slice(data, slice);
@@ -140,8 +140,9 @@ pub extern "C" fn dock_words_vector_copy_from_slice(
     data: &mut [u8],
     slice: &[u8],
 ) -> u8
-    ensures { λ r. ⌜ (r ≡ outcomeNumber (outcomeOf (copies (now («data» .entry)) (vectorFrom (now (vector .entry))) (length (now (slice .entry))))))
-        × (now («data» .exit) ≡ pick (copies (now («data» .entry)) (vectorFrom (now (vector .entry))) (length (now (slice .entry)))) (scatterOf (now («data» .entry)) (segmentsOf (vectorFrom (now (vector .entry)))) (now (slice .entry))) (now («data» .entry))) ⌝ }
+    ensures { λ r. ⌜ MovesAs (copies (now («data» .entry)) (vectorFrom (now (vector .entry))) (length (now (slice .entry))))
+        (scatterOf (now («data» .entry)) (segmentsOf (vectorFrom (now (vector .entry)))) (now (slice .entry)))
+        (now («data» .entry)) r (now («data» .exit)) ⌝ }
 {
     let v = vector_of(vector);
     let outcome = v.copy_from_slice(data, slice);
@@ -151,8 +152,9 @@ pub extern "C" fn dock_words_vector_copy_from_slice(
 // Every byte of the vector's segments becomes `value`.
 #[no_mangle]
 pub extern "C" fn dock_words_vector_fill(vector: &[u64; 34], data: &mut [u8], value: u8) -> u8
-    ensures { λ r. ⌜ (r ≡ outcomeNumber (outcomeOf (isValid (length (now («data» .entry))) (vectorFrom (now (vector .entry))))))
-        × (now («data» .exit) ≡ pick (isValid (length (now («data» .entry))) (vectorFrom (now (vector .entry)))) (fillOf (now («data» .entry)) (segmentsOf (vectorFrom (now (vector .entry)))) value) (now («data» .entry))) ⌝ }
+    ensures { λ r. ⌜ MovesAs (isValid (length (now («data» .entry))) (vectorFrom (now (vector .entry))))
+        (fillOf (now («data» .entry)) (segmentsOf (vectorFrom (now (vector .entry)))) value)
+        (now («data» .entry)) r (now («data» .exit)) ⌝ }
 {
     let v = vector_of(vector);
     let outcome = v.fill(data, value);
@@ -170,7 +172,8 @@ pub extern "C" fn dock_words_vector_is_aligned(
     address: u64,
     length: u64,
 ) -> Reply
-    ensures { λ r. ⌜ r ≡ replyOf (alignmentPaper (alignmentOf (record { mem = mem; req = req; zero = zero; discard = discard }) (record { address = address; length = length }) (vectorFrom (now (vector .entry))))) ⌝ }
+    ensures { λ r. ⌜ r ≡ replyOf (alignmentPaper (alignmentOf (record { mem = mem; req = req; zero = zero; discard = discard })
+        (record { address = address; length = length }) (vectorFrom (now (vector .entry))))) ⌝ }
 {
     let v = vector_of(vector);
     let align = Alignments {
@@ -197,10 +200,8 @@ pub extern "C" fn dock_words_blockers_enter(
     start: u64,
     end: u64,
 ) -> u8
-    ensures { λ r. ⌜ (r ≡ outcomeNumber (enteredOf (strength (flagOf strong)) slot (rangeOf start end) (blockersOf (now (blockers .entry))) .outcome))
-        × (blockersOf (now (blockers .exit)) ≡ enteredOf (strength (flagOf strong)) slot (rangeOf start end) (blockersOf (now (blockers .entry))) .blockers)
-        × sameUnless (isDone (enteredOf (strength (flagOf strong)) slot (rangeOf start end) (blockersOf (now (blockers .entry))) .outcome))
-        (now (blockers .entry)) (now (blockers .exit)) ⌝ }
+    ensures { λ r. ⌜ BlocksAs (enteredOf (strength (flagOf strong)) slot (rangeOf start end) (blockersOf (now (blockers .entry))))
+        r (now (blockers .entry)) (now (blockers .exit)) ⌝ }
 {
     let range = Range {
         start: StoreOffset(start),
@@ -214,9 +215,8 @@ pub extern "C" fn dock_words_blockers_enter(
 // The slot's blocker leaves.
 #[no_mangle]
 pub extern "C" fn dock_words_blockers_leave(blockers: &mut [u64; 88], slot: usize) -> u8
-    ensures { λ r. ⌜ (r ≡ outcomeNumber (leftOf slot (blockersOf (now (blockers .entry))) .outcome))
-        × (blockersOf (now (blockers .exit)) ≡ leftOf slot (blockersOf (now (blockers .entry))) .blockers)
-        × sameUnless (isDone (leftOf slot (blockersOf (now (blockers .entry))) .outcome)) (now (blockers .entry)) (now (blockers .exit)) ⌝ }
+    ensures { λ r. ⌜ BlocksAs (leftOf slot (blockersOf (now (blockers .entry))))
+        r (now (blockers .entry)) (now (blockers .exit)) ⌝ }
 {
     let outcome = leave(blockers, slot);
     outcome.number()

@@ -1,54 +1,25 @@
--- Laws on the slots: the lowest free one by its position, a slot's share of the scratch, and what a sound stage holds. Assumes nothing.
+-- Laws on the slots: a slot's share of the scratch, and what a sound stage holds. Assumes nothing.
 use mathlib.Core.Path.{_≡_, refl, sym, ap, _∙_}
 use mathlib.Core.Bool.{Bool, true, false, _&&_, _||_, not}
-use mathlib.Core.List.{List, map}
 use Prim.Native.Nat.{ℕ, suc, _+_, _*_, _/_, _≤_, _<_}
 use native.Mathlib.Decide.{decLe}
 use native.Mathlib.Nat.{mul-le-mul-right}
-use native.Mathlib.Numerals.{add-one}
 use native.Mathlib.Omega.{arith}
 use lib.Dec.{leb, eqb}
-use lib.ListN.{length, getD, drop, length-map, drop-of-length-le}
-use lib.Seq.{drop-cons}
 use borrow.Author.Tests.{leb-true, eqb-true, le-leb, lt-leb, lt-ltb, le-ltb}
 use Rattle.arithmetic.specs.Rounding.{pick}
 use Rattle.arithmetic.specs.SettingsLaws.{and-left, and-right}
 use Rattle.arithmetic.specs.declared.refusals.Refusal.the-variants.{Buffer, Slot}
 use Rattle.arithmetic.specs.declared.settings.Settings.{Settings}
 use Rattle.arithmetic.specs.declared.settings.Buffers.{Buffers}
-use Rattle.stages.specs.Stages.{sizeOf, isFree, usesBounce, secondAt, liesIn, isSound}
+use Rattle.stages.specs.Stages.{sizeOf, usesBounce, secondAt, liesIn, isSound}
 use Rattle.stages.specs.declared.state.Phase.{Phase}
 use Rattle.stages.specs.declared.state.Phase.the-variants.{SecondRead}
 use Rattle.stages.specs.declared.state.State.{State}
-use Rattle.dock.specs.Dock.{noState, lentFits, isOutBy, isOut, firstFree, stateAt, vectorAt}
-use Rattle.dock.specs.Next.{isKeptBy, isKept, pieceIn, pieceAt, pieceOf}
+use Rattle.dock.specs.Dock.{lentFits, isOutBy, isOut, stateAt, vectorAt}
+use Rattle.dock.specs.Next.{isSoundIn, isSoundOf, pieceIn, pieceAt, pieceOf}
 use Rattle.dock.specs.declared.dock.Dock.{Dock}
 use Rattle.dock.specs.declared.next.Piece.the-variants.{Refused as NoPiece}
-
--- an array of structs has its length by the relation that owning it gives, which stands at a map over the list
-pub long-states : {Y : Type 0} (f : State → Y) (l : List State) (n : ℕ) → length (map f l) ≡ n → length l ≡ n
-long-states f l n e = sym (length-map l f) ∙ e
-
--- ---- the lowest free slot, where the first i are not free
-
-module _ (xs : List State) (i : ℕ) where
-  pub free-here : i < length xs → firstFree xs ≡ i + firstFree (drop i xs) → isFree (getD xs i noState .phase) ≡ true → i ≡ firstFree xs
-  unfolding firstFree
-  free-here h inv e =
-      let z : firstFree (drop i xs) ≡ 0 = rw (drop-cons xs i noState h) (simp e) in
-      omega arith
-
-  pub free-later : i < length xs → firstFree xs ≡ i + firstFree (drop i xs) → isFree (getD xs i noState .phase) ≡ false → firstFree xs ≡ i + 1 + firstFree (drop (i + 1) xs)
-  unfolding firstFree
-  free-later h inv e =
-      let z : firstFree (drop i xs) ≡ suc (firstFree (drop (i + 1) xs)) = rw (add-one, drop-cons xs i noState h) (simp e) in
-      omega arith
-
-  pub free-none : length xs ≤ i → firstFree xs ≡ i + firstFree (drop i xs) → i ≡ firstFree xs
-  unfolding firstFree
-  free-none h inv =
-      let z : firstFree (drop i xs) ≡ 0 = ap firstFree (drop-of-length-le xs h) in
-      omega arith
 
 -- ---- shares
 
@@ -66,23 +37,23 @@ share-in p b h =
     omega (arith, l)
 
 -- and the scratch has its length of opening, which is the one it is lent with
-pub share-kept : (p : ℕ) (x : State) (s : Settings) (b : Buffers) (m n : ℕ) → p < 8 → lentFits b m n ≡ true → isKeptBy x s b ≡ true → p * s .bounce + s .bounce ≤ n
-unfolding lentFits isKeptBy
-share-kept p x s b m n h f k =
+pub share-sound : (p : ℕ) (x : State) (s : Settings) (b : Buffers) (m n : ℕ) → p < 8 → lentFits b m n ≡ true → isSoundIn x s b ≡ true → p * s .bounce + s .bounce ≤ n
+unfolding lentFits isSoundIn
+share-sound p x s b m n h f k =
     let e = eqb-true n (b .scratch .length) (and-right (eqb m (b .«data» .length)) _ f) in
     let l = leb-true (8 * s .bounce) (b .scratch .length) (and-right (isSound (s .bounce) x) _ k) in
     omega (arith, share-in p (s .bounce) h)
 
 -- where the scratch is as long as at opening, it has room for the share
-pub share-room-kept : (p : ℕ) (x : State) (s : Settings) (b : Buffers) → p < 8 → isKeptBy x s b ≡ true → p * s .bounce + s .bounce ≤ b .scratch .length
-unfolding isKeptBy
-share-room-kept p x s b h k =
+pub share-room-sound : (p : ℕ) (x : State) (s : Settings) (b : Buffers) → p < 8 → isSoundIn x s b ≡ true → p * s .bounce + s .bounce ≤ b .scratch .length
+unfolding isSoundIn
+share-room-sound p x s b h k =
     let l = leb-true (8 * s .bounce) (b .scratch .length) (and-right (isSound (s .bounce) x) _ k) in
     omega (arith, share-in p (s .bounce) h)
 
-pub kept-sound : (x : State) (s : Settings) (b : Buffers) → isKeptBy x s b ≡ true → isSound (s .bounce) x ≡ true
-unfolding isKeptBy
-kept-sound x s b k = and-left _ _ k
+pub sound-share : (x : State) (s : Settings) (b : Buffers) → isSoundIn x s b ≡ true → isSound (s .bounce) x ≡ true
+unfolding isSoundIn
+sound-share x s b k = and-left _ _ k
 
 -- the second read's bytes start in the share
 pub second-in : (n : ℕ) (x : State) → x .phase ≡ SecondRead → isSound n x ≡ true → secondAt (x .stage) ≤ n
@@ -110,5 +81,5 @@ module _ (d : Dock) (p i m n : ℕ) where
     piece-no-slot h = simp (f, le-ltb p 8 h)
 
     pub piece-there : p < 8 → pieceAt (d .blockers) p (d .settings) (d .buffers) (stateAt d p) (vectorAt d p) i m ≡ pieceOf d p i m n
-    unfolding pieceOf isOut isKept pieceIn pieceAt
+    unfolding pieceOf isOut isSoundOf pieceIn pieceAt
     piece-there h = simp (f, lt-ltb p 8 h) (both (isOutBy (d .blockers) (stateAt d p) p) _ _ _)

@@ -12,7 +12,6 @@ use Rattle.arithmetic.specs.declared.refusals.Refusal.{Refusal}
 use Rattle.arithmetic.specs.declared.refusals.Refusal.the-variants.{Buffer, Slot}
 use Rattle.arithmetic.specs.declared.refusals.Outcome.{Outcome}
 use Rattle.arithmetic.specs.declared.refusals.Outcome.the-variants.{Done, Refused}
-use Rattle.arithmetic.specs.Settings.{openingOf}
 use Rattle.arithmetic.specs.SettingsLaws.{and-right, opened}
 use Rattle.arithmetic.specs.declared.settings.Settings.{Settings}
 use Rattle.arithmetic.specs.declared.settings.Buffers.{Buffers}
@@ -29,13 +28,11 @@ use Rattle.stages.specs.declared.plan.Plan.the-variants.{Done as NothingToDo, S
 use Rattle.stages.specs.declared.state.State.{State}
 use Rattle.stages.specs.declared.told.Step.{Step}
 use Rattle.stages.specs.declared.told.Step.the-variants.{Stays, Ends, Enters}
-use Rattle.dock.specs.Dock.{stateAt, vectorAt, isOutBy, lentFits, lentBy, lentOf, overlapsOf, firstFree}
-use Rattle.dock.specs.Begin.{Filled, fills, filled, blockersWith, begins, withJob, movedOf, planOf, beginOf}
-use Rattle.dock.specs.Next.{isKeptBy}
-use Rattle.dock.specs.Tell.{Handed, hands, handed, blockersWithout, tells, tellOf}
-use Rattle.dock.specs.Slots.{Entered, enters, enterAt, decidedOf, admits, unplaced, admitBy, admitAt, PlanInShare, seatedBy, seated, Stepped, steps, unstepped, endsAt, entersBy, entersAt, StepInShare, answeredOf, answeredBy, toldAt, storedBy, stored}
-use Rattle.dock.specs.SlotLaws.{told-stored}
-use Rattle.dock.specs.SeatLaws.{plan-sound, started, leads-told, begin-whole}
+use Rattle.dock.specs.Dock.{stateAt, vectorAt, isOutBy, lentFits, lentOf, overlapsOf, firstFree}
+use Rattle.dock.specs.Begin.{Filled, fills, filled, blockersWith, begins, withJob, movedOf, planOf, beginOf, Entered, enters, enterAt, decidedOf, admits, unplaced, admitBy, admitAt, PlanInShare, seatedBy, seated}
+use Rattle.dock.specs.Next.{isSoundIn}
+use Rattle.dock.specs.Tell.{Handed, hands, handed, blockersWithout, tells, tellOf, Stepped, steps, unstepped, endsAt, entersBy, entersAt, StepInShare, answeredOf, answeredBy, toldAt, storedBy, stored}
+use Rattle.dock.specs.SlotLaws.{plan-sound, started, lent-done, leads-told, begin-whole}
 use Rattle.dock.specs.declared.dock.Dock.{Dock}
 use Rattle.dock.specs.declared.begin.Asked.{Asked}
 use Rattle.dock.specs.declared.begin.Begun.{Begun}
@@ -105,11 +102,11 @@ module _ (b : Blockers) (p : ℕ) (s : Settings) (l : Buffers) (x : State) (v : 
   unfolding toldAt
   told-none o t te = ap (λ (z : Stepping). steps z memory scratch) te ∙ simp o
 
-  pub told-unkept : isOutBy b x p ≡ true → isKeptBy x s l ≡ false → (t : Stepping) → t ≡ unstepped b x Slot → steps t memory scratch ≡ toldAt b p s l x v code memory scratch
+  pub told-unsound : isOutBy b x p ≡ true → isSoundIn x s l ≡ false → (t : Stepping) → t ≡ unstepped b x Slot → steps t memory scratch ≡ toldAt b p s l x v code memory scratch
   unfolding toldAt
-  told-unkept o k t te = ap (λ (z : Stepping). steps z memory scratch) te ∙ simp (o, k)
+  told-unsound o k t te = ap (λ (z : Stepping). steps z memory scratch) te ∙ simp (o, k)
 
-  pub told-answered : isOutBy b x p ≡ true → isKeptBy x s l ≡ true → (a : Answered) → a ≡ answeredOf s x code → (w : Answered) → a ≡ w
+  pub told-answered : isOutBy b x p ≡ true → isSoundIn x s l ≡ true → (a : Answered) → a ≡ answeredOf s x code → (w : Answered) → a ≡ w
       → (r : Stepped) → r ≡ answeredBy w b p (p * s .bounce) x code v memory scratch → r ≡ toldAt b p s l x v code memory scratch
   unfolding toldAt
   told-answered o k a e w f r q = q ∙ ap (λ (z : Answered). answeredBy z b p (p * s .bounce) x code v memory scratch) (sym f ∙ e) ∙ simp (o, k)
@@ -140,7 +137,7 @@ module _ (d : Dock) (p code : ℕ) (memory scratch : List ℕ) where
       (e : steps t m n ≡ toldAt (d .blockers) p (d .settings) (d .buffers) (stateAt d p) (vectorAt d p) code memory scratch) where
     there : stored d p (steps t m n) ≡ tellOf d p code memory scratch
     unfolding tellOf
-    there = ap (λ (z : Stepped). stored d p z) e ∙ told-stored d p memory scratch code ∙ simp (l, lt-ltb p 8 h)
+    there = ap (λ (z : Stepped). stored d p z) e ∙ simp (l, lt-ltb p 8 h)
 
     pub tell-refused : (r : Refusal) → t .outcome ≡ Refused r → tells (record { outcome = t .outcome; dock = d }) m n ≡ tellOf d p code memory scratch
     tell-refused r q =
@@ -156,15 +153,11 @@ module _ (d : Dock) (p code : ℕ) (memory scratch : List ℕ) where
 -- ---- what a begin is lent
 
 pub lent-room : (s : Settings) (b : Buffers) (m n : ℕ) (l : Outcome) → l ≡ lentOf s b m n → l ≡ Done → 8 * s .bounce ≤ n
-unfolding lentOf lentFits
-lent-room s b m n l e d = go (openingOf s b) refl (lentFits b m n) refl (sym e ∙ d)
-  where
-    go : (o : Outcome) → openingOf s b ≡ o → (t : Bool) → lentFits b m n ≡ t → lentBy o t ≡ Done → 8 * s .bounce ≤ n
-    go Done p true q r =
-        let k = eqb-true n (b .scratch .length) (and-right (eqb m (b .«data» .length)) (eqb n (b .scratch .length)) q) in
-        omega (arith, opened s b p .room)
-    go Done p false q r = let z : _≡_ {A = ℕ} 0 1 = cc in absurd (omega arith)
-    go (Refused x) p t q r = let z : _≡_ {A = ℕ} 0 1 = cc in absurd (omega arith)
+unfolding lentFits
+lent-room s b m n l e d =
+    let k = lent-done s b m n (sym e ∙ d) in
+    let h = eqb-true n (b .scratch .length) (and-right (eqb m (b .«data» .length)) (eqb n (b .scratch .length)) (k .1)) in
+    omega (arith, opened s b (k .0) .room)
 
 -- ---- a job is begun
 
@@ -174,7 +167,7 @@ decided-in-share j s b o k v m n l le t plan pe met f NothingToDo e = tt
 decided-in-share j s b o k v m n l le t plan pe met f (PlanRefused r) e = tt
 decided-in-share j s b o k v m n l le t plan pe met f (Started x) e =
     let w = started l t plan met f x (sym e) in
-    (w .2, plan-sound j s b o k v x (sym pe ∙ w .1), lent-room s b m n l le (w .0))
+    (w .slot, plan-sound j s b o k v x (sym pe ∙ w .planned), lent-room s b m n l le (w .lent))
 
 -- a job comes to its slot
 module _ (b : Blockers) (p bounce : ℕ) (v : IoVector) (memory scratch : List ℕ) (plan : Plan) (x : State) (e : plan ≡ Started x) (n : Changed) (s : List ℕ)
@@ -199,7 +192,7 @@ admitted-slot b bounce v memory scratch l t plan met f q e a s g p h = by q e (s
     by (Started x) e k = there (enterAt b f (f * bounce) x v memory scratch .outcome) k
       where
         there : (o : Outcome) → admitBy o b f x (enterAt b f (f * bounce) x v memory scratch) .answer ≡ Placed p → p < 8
-        there Done k = let w : f ≡ p = cc in omega (arith, started l t plan met f x (sym e) .2)
+        there Done k = let w : f ≡ p = cc in omega (arith, started l t plan met f x (sym e) .slot)
         there (Refused r) k = absurd (let z : _≡_ {A = ℕ} 0 1 = cc in omega arith)
 
 module _ (d : Dock) (q : Asked) (memory scratch : List ℕ) (v : IoVector) (ve : v ≡ movedOf (q .job) (q .vector)) (met : Bool) (me : met ≡ overlapsOf (d .states) (d .vectors) (q .job) v)
@@ -222,10 +215,10 @@ module _ (d : Dock) (q : Asked) (memory scratch : List ℕ) (v : IoVector) (ve :
 
 -- ---- a job that a call made
 
--- what a kept job's scratch has room for
-pub kept-room : (x : State) (s : Settings) (b : Buffers) (m n : ℕ) → lentFits b m n ≡ true → isKeptBy x s b ≡ true → 8 * s .bounce ≤ n
-unfolding lentFits isKeptBy
-kept-room x s b m n l k =
+-- what the scratch of a sound job has room for
+pub sound-room : (x : State) (s : Settings) (b : Buffers) (m n : ℕ) → lentFits b m n ≡ true → isSoundIn x s b ≡ true → 8 * s .bounce ≤ n
+unfolding lentFits isSoundIn
+sound-room x s b m n l k =
     let e = eqb-true n (b .scratch .length) (and-right (eqb m (b .«data» .length)) (eqb n (b .scratch .length)) l) in
     let h = leb-true (8 * s .bounce) (b .scratch .length) (and-right (isSound (s .bounce) x) (leb (8 * s .bounce) (b .scratch .length)) k) in
     omega arith

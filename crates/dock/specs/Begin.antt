@@ -2,11 +2,11 @@
 use mathlib.Core.Path.{_≡_}
 use mathlib.Core.Bool.{Bool, true, false}
 use mathlib.Core.List.{List, []}
-use Prim.Native.Nat.{ℕ, _+_, _≤_}
+use Prim.Native.Nat.{ℕ, _+_, _*_, _<_, _≤_}
 use lib.Dec.{ltb}
 use lib.ListN.{length, set, replicate}
 use Rattle.arithmetic.specs.Rounding.{pick}
-use Rattle.arithmetic.specs.declared.refusals.Refusal.{Refusal}
+use Rattle.arithmetic.specs.Refusals.{whenDone}
 use Rattle.arithmetic.specs.declared.refusals.Refusal.the-variants.{Segment, Overlap, Full}
 use Rattle.arithmetic.specs.declared.refusals.Outcome.{Outcome}
 use Rattle.arithmetic.specs.declared.refusals.Outcome.the-variants.{Done, Refused}
@@ -22,7 +22,7 @@ use Rattle.blockers.specs.declared.Kind.{Kind}
 use Rattle.blockers.specs.declared.Kind.the-variants.{Weak, Strong}
 use Rattle.blockers.specs.declared.Blockers.{Blockers}
 use Rattle.blockers.specs.declared.Changed.{Changed}
-use Rattle.stages.specs.Stages.{sizeOf, blockedOf, isBlocking, usesBounce, zeroJob, readPlan, writePlan, zeroPlan, discardPlan}
+use Rattle.stages.specs.Stages.{sizeOf, blockedOf, isBlocking, usesBounce, isSound, zeroJob, readPlan, writePlan, zeroPlan, discardPlan}
 use Rattle.stages.specs.declared.state.Job.{Job}
 use Rattle.stages.specs.declared.state.Job.the-variants.{Read, Write, Zeroes, AllocatedZeroes, Discard}
 use Rattle.stages.specs.declared.state.Phase.{Phase}
@@ -30,10 +30,11 @@ use Rattle.stages.specs.declared.state.Phase.the-variants.{Free, Ended, DirectR
 use Rattle.stages.specs.declared.state.State.{State}
 use Rattle.stages.specs.declared.plan.Plan.{Plan}
 use Rattle.stages.specs.declared.plan.Plan.the-variants.{Done as NothingToDo, Started, Refused as PlanRefused}
-use Rattle.dock.specs.Dock.{lentOf, overlapsOf, firstFree, shareAt}
+use Rattle.dock.specs.Dock.{vacant, lentOf, overlapsOf, firstFree}
 use Rattle.dock.specs.declared.dock.Dock.{Dock}
 use Rattle.dock.specs.declared.begin.Asked.{Asked}
 use Rattle.dock.specs.declared.begin.Begun.{Begun}
+use Rattle.dock.specs.declared.begin.Admission.{Admission}
 use Rattle.dock.specs.declared.begin.Beginning.{Beginning}
 use Rattle.dock.specs.declared.begin.Begun.the-variants.{Done as NoRequest, Placed, Refused as BeginRefused}
 
@@ -105,83 +106,21 @@ unfoldable pub blockersWith : Blockers → ℕ → State → Changed
 blockersWith b p x =
     pick (isBlocking (x .phase)) (enteredOf (strength (x .stage .strong)) p (blockedOf (x .stage)) b) (record { blockers = b; outcome = Done })
 
-abbrev pub withJob : Dock → ℕ → Blockers → State → IoVector → Dock
-withJob d p b x v = record { settings = d .settings; buffers = d .buffers; blockers = b; states = set (d .states) p x; vectors = set (d .vectors) p v }
+-- ---- a job comes to its stage: its blocker enters, its scratch is filled
 
--- ---- begin
-
--- what a begin gives back: the dock, the answer, and the scratch as it leaves it
-pub record Begins : Type 0 where
-  pub dock : Dock
-  pub answer : Begun
+pub record Entered : Type 0 where
+  pub blockers : Blockers
+  pub outcome : Outcome
   pub scratch : List ℕ
 
--- the answer and the scratch of a call
-abbrev pub begins : Beginning → List ℕ → Begins
-begins r s = record { dock = r .dock; answer = r .answer; scratch = s }
+abbrev pub enters : Changed → List ℕ → Entered
+enters c s = record { blockers = c .blockers; outcome = c .outcome; scratch = s }
 
-abbrev pub refusedBegin : Dock → List ℕ → Refusal → Begins
-refusedBegin d scratch r = record { dock = d; answer = BeginRefused r; scratch = scratch }
-
--- go on where a step was carried out
-abbrev pub onlyIf : Dock → List ℕ → Outcome → Begins → Begins
-onlyIf d scratch Done k = k
-onlyIf d scratch (Refused r) k = refusedBegin d scratch r
-
--- one step, then another: the first refusal counts
-abbrev pub thenDo : Outcome → Outcome → Outcome
-thenDo Done o = o
-thenDo (Refused r) o = Refused r
-
--- the job x with the vector v comes to slot p: its blocker enters, its scratch is filled
-abbrev pub placed : Dock → ℕ → State → IoVector → List ℕ → List ℕ → Begins
-placed d p x v memory scratch =
-    record { dock = withJob d p (blockersWith (d .blockers) p x .blockers) x v; answer = Placed p; scratch = filled (shareAt d p) x v memory scratch .scratch }
-
--- A dock of no call's making may have a blocker where the slot is free: the begin is then refused, and changes nothing. No dock that calls
--- made is refused so: MadeLaws of crate histories.
-unfoldable pub placedAt : Dock → ℕ → State → IoVector → List ℕ → List ℕ → Begins
-placedAt d p x v memory scratch =
-    onlyIf d scratch (thenDo (blockersWith (d .blockers) p x .outcome) (filled (shareAt d p) x v memory scratch .outcome)) (placed d p x v memory scratch)
-
--- "203, 204", then "the lowest free place of 8"
-abbrev pub begunBy : Dock → Job → IoVector → List ℕ → List ℕ → Plan → Begins
-begunBy d j v memory scratch NothingToDo = record { dock = d; answer = NoRequest; scratch = scratch }
-begunBy d j v memory scratch (PlanRefused r) = refusedBegin d scratch r
-begunBy d j v memory scratch (Started x) =
-    pick (overlapsOf (d .states) (d .vectors) j v) (refusedBegin d scratch Overlap)
-    (pick (ltb (firstFree (d .states)) 8) (placedAt d (firstFree (d .states)) x v memory scratch) (refusedBegin d scratch Full))
-
-abbrev pub isAligned : Alignment → Bool
-isAligned Aligned = true
-isAligned Unaligned = false
-isAligned (NotAsked r) = false
-
--- "202"
-abbrev pub vectorThen : Dock → IoVector → List ℕ → List ℕ → Begins → Begins
-vectorThen d v memory scratch k = pick (isValid (length memory) v) k (refusedBegin d scratch Segment)
-
-unfoldable pub beginReadOf : Dock → StoreOffset → IoVector → List ℕ → List ℕ → Begins
-beginReadOf d o v memory scratch =
-    onlyIf d scratch (lentOf (d .settings) (d .buffers) (length memory) (length scratch))
-    (vectorThen d v memory scratch
-    (begunBy d Read v memory scratch (readPlan (d .settings) o (v .total) (isAligned (alignmentOf (d .settings .align) (d .buffers .«data») v)))))
-
-unfoldable pub beginWriteOf : Dock → StoreOffset → IoVector → List ℕ → List ℕ → Begins
-beginWriteOf d o v memory scratch =
-    onlyIf d scratch (lentOf (d .settings) (d .buffers) (length memory) (length scratch))
-    (vectorThen d v memory scratch
-    (begunBy d Write v memory scratch (writePlan (d .settings) o (v .total) (isAligned (alignmentOf (d .settings .align) (d .buffers .«data») v)))))
-
-unfoldable pub beginZeroesOf : Dock → Bool → StoreOffset → ℕ → List ℕ → List ℕ → Begins
-beginZeroesOf d allocate o n memory scratch =
-    onlyIf d scratch (lentOf (d .settings) (d .buffers) (length memory) (length scratch))
-    (begunBy d Zeroes (vectorOf []) memory scratch (zeroPlan (d .settings) allocate o n))
-
-unfoldable pub beginDiscardOf : Dock → StoreOffset → ℕ → List ℕ → List ℕ → Begins
-beginDiscardOf d o n memory scratch =
-    onlyIf d scratch (lentOf (d .settings) (d .buffers) (length memory) (length scratch))
-    (begunBy d Discard (vectorOf []) memory scratch (discardPlan (d .settings) o n))
+unfoldable pub enterAt : Blockers → ℕ → ℕ → State → IoVector → List ℕ → List ℕ → Entered
+enterAt b p share x v memory scratch =
+    whenDone (blockersWith b p x .outcome)
+    (record { blockers = blockersWith b p x .blockers; outcome = filled share x v memory scratch .outcome; scratch = filled share x v memory scratch .scratch })
+    (λ r. enters (blockersWith b p x) scratch)
 
 -- ---- what is asked of a begin
 
@@ -206,6 +145,11 @@ movedOf Zeroes v = vectorOf []
 movedOf AllocatedZeroes v = vectorOf []
 movedOf Discard v = vectorOf []
 
+abbrev pub isAligned : Alignment → Bool
+isAligned Aligned = true
+isAligned Unaligned = false
+isAligned (NotAsked r) = false
+
 -- the first stage of a job
 abbrev pub planOf : Job → Settings → Buffers → StoreOffset → ℕ → IoVector → Plan
 planOf Read s b o n v = readPlan s o (v .total) (isAligned (alignmentOf (s .align) (b .«data») v))
@@ -221,13 +165,82 @@ vectorFor q = movedOf (q .job) (q .vector)
 abbrev pub planFor : Settings → Buffers → Asked → Plan
 planFor s b q = planOf (q .job) s b (q .offset) (q .length) (q .vector)
 
--- begin, by the kind of the job
-abbrev pub beginBy : Job → Dock → StoreOffset → ℕ → IoVector → List ℕ → List ℕ → Begins
-beginBy Read d o n v memory scratch = beginReadOf d o v memory scratch
-beginBy Write d o n v memory scratch = beginWriteOf d o v memory scratch
-beginBy Zeroes d o n v memory scratch = beginZeroesOf d false o n memory scratch
-beginBy AllocatedZeroes d o n v memory scratch = beginZeroesOf d true o n memory scratch
-beginBy Discard d o n v memory scratch = beginDiscardOf d o n memory scratch
+-- ---- begin, as far as one slot goes
 
+-- The one place that has the order of refusals at begin: "201, 205" by what is lent, "202", the plan's own ("empty read, write or zero job done, 207
+-- [..], a discard with nothing to do done, 206"), "203, 204". Zeroes and discards never meet 202: law `empty-valid`.
+abbrev pub allowedBy : Plan → Bool → ℕ → Plan
+allowedBy NothingToDo met free = NothingToDo
+allowedBy (PlanRefused r) met free = PlanRefused r
+allowedBy (Started x) met free = pick met (PlanRefused Overlap) (pick (ltb free 8) (Started x) (PlanRefused Full))
+
+abbrev pub decidedOf : Outcome → Bool → Plan → Bool → ℕ → Plan
+decidedOf (Refused r) valid plan met free = PlanRefused r
+decidedOf Done valid plan met free = pick valid (allowedBy plan met free) (PlanRefused Segment)
+
+-- what a begin leaves of the slot p that it takes
+pub record Admitted : Type 0 where
+  pub answer : Begun
+  pub blockers : Blockers
+  pub state : State
+  pub scratch : List ℕ
+
+abbrev pub admits : Admission → List ℕ → Admitted
+admits a s = record { answer = a .answer; blockers = a .blockers; state = a .state; scratch = s }
+
+abbrev pub unplaced : Blockers → Begun → Admission
+unplaced b a = record { answer = a; blockers = b; state = vacant }
+
+-- A dock of no call's making may have a blocker where the slot is free: the begin is then refused, and changes nothing. No dock that calls
+-- made is refused so: MadeLaws of crate histories.
+abbrev pub admitBy : Outcome → Blockers → ℕ → State → Entered → Admitted
+admitBy o b p x e =
+    whenDone o (record { answer = Placed p; blockers = e .blockers; state = x; scratch = e .scratch }) (λ r. admits (unplaced b (BeginRefused r)) (e .scratch))
+
+abbrev pub admitAt : Blockers → ℕ → ℕ → IoVector → List ℕ → List ℕ → Plan → Admitted
+admitAt b p bounce v memory scratch NothingToDo = admits (unplaced b NoRequest) scratch
+admitAt b p bounce v memory scratch (PlanRefused r) = admits (unplaced b (BeginRefused r)) scratch
+admitAt b p bounce v memory scratch (Started x) =
+    admitBy (enterAt b p (p * bounce) x v memory scratch .outcome) b p x (enterAt b p (p * bounce) x v memory scratch)
+
+-- the slot that a plan takes lies in the dock, its share in a scratch of n bytes, and its first stage in the share
+abbrev pub PlanInShare : ℕ → ℕ → ℕ → Plan → Type 0
+PlanInShare p bounce n NothingToDo = Unit {0}
+PlanInShare p bounce n (PlanRefused r) = Unit {0}
+PlanInShare p bounce n (Started x) = (p < 8) × (isSound bounce x ≡ true) × (8 * bounce ≤ n)
+
+-- ---- begin
+
+-- what a begin gives back: the dock, the answer, and the scratch as it leaves it
+pub record Begins : Type 0 where
+  pub dock : Dock
+  pub answer : Begun
+  pub scratch : List ℕ
+
+-- the answer and the scratch of a call
+abbrev pub begins : Beginning → List ℕ → Begins
+begins r s = record { dock = r .dock; answer = r .answer; scratch = s }
+
+abbrev pub withJob : Dock → ℕ → Blockers → State → IoVector → Dock
+withJob d p b x v = record { settings = d .settings; buffers = d .buffers; blockers = b; states = set (d .states) p x; vectors = set (d .vectors) p v }
+
+-- stored in the dock where it is placed
+abbrev pub seatedBy : Begun → Dock → IoVector → Admitted → Begins
+seatedBy NoRequest d v a = record { dock = d; answer = NoRequest; scratch = a .scratch }
+seatedBy (Placed p) d v a = record { dock = withJob d p (a .blockers) (a .state) v; answer = Placed p; scratch = a .scratch }
+seatedBy (BeginRefused r) d v a = record { dock = d; answer = BeginRefused r; scratch = a .scratch }
+
+abbrev pub seated : Dock → IoVector → Admitted → Begins
+seated d v a = seatedBy (a .answer) d v a
+
+-- the plan of what is asked, where nothing refuses it, over m bytes of data and n of scratch
+abbrev pub decidedFor : Dock → Asked → ℕ → ℕ → Plan
+decidedFor d q m n =
+    decidedOf (lentOf (d .settings) (d .buffers) m n) (isValid m (vectorFor q)) (planFor (d .settings) (d .buffers) q)
+    (overlapsOf (d .states) (d .vectors) (q .job) (vectorFor q)) (firstFree (d .states))
+
+-- "Begin takes the lowest free place of 8"
 unfoldable pub beginOf : Dock → Asked → List ℕ → List ℕ → Begins
-beginOf d q memory scratch = beginBy (q .job) d (q .offset) (q .length) (q .vector) memory scratch
+beginOf d q memory scratch =
+    seated d (vectorFor q) (admitAt (d .blockers) (firstFree (d .states)) (d .settings .bounce) (vectorFor q) memory scratch
+    (decidedFor d q (length memory) (length scratch)))

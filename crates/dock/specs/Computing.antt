@@ -14,10 +14,9 @@ use Rattle.stages.specs.Stages.{directStage, paddedStage, firstPhase, readPlan,
 use Rattle.stages.specs.Stages.{chunkNext, tailNext, headNext, toldOf, requestOf, liesIn as liesInBounce, isSound}
 use Rattle.dock.specs.Dock.{vacant, fresh, openOf, openProfileOf, lentFits, lentOf, isOutBy, isOut}
 use Rattle.dock.specs.Dock.{meetsOf, meetsAt, overlapsOf, firstFree}
-use Rattle.dock.specs.Begin.{sourceOf, sourceFits, mergedAt, filled, blockersWith, placedAt}
-use Rattle.dock.specs.Begin.{beginReadOf, beginWriteOf, beginZeroesOf, beginDiscardOf, beginOf}
-use Rattle.dock.specs.Next.{nextOf, isKeptBy, isKept, pieceOf, partOf}
-use Rattle.dock.specs.Tell.{blockersWithout, copiedAt, handed, staysOf, endsOf, entersOf, tellAt, tellOf, collectOf}
+use Rattle.dock.specs.Begin.{sourceOf, sourceFits, mergedAt, filled, blockersWith, enterAt, beginOf}
+use Rattle.dock.specs.Next.{nextOf, isSoundIn, isSoundOf, pieceOf, partOf}
+use Rattle.dock.specs.Tell.{blockersWithout, copiedAt, handed, endsAt, entersAt, answeredOf, toldAt, tellOf, collectOf}
 
 unfoldable pub computing : Unit {0}
 unfolding numberOf fits isMultiple roundDown roundUp sumOf upOf anyBelow
@@ -30,7 +29,7 @@ unfolding numberOf fits isMultiple roundDown roundUp sumOf upOf anyBelow
     directStage paddedStage firstPhase readPlan writePlan zeroesPlan zeroPlan discardPlan
     chunkNext tailNext headNext toldOf requestOf liesInBounce isSound
     vacant fresh openOf openProfileOf lentFits lentOf isOutBy isOut meetsOf meetsAt overlapsOf firstFree
-    sourceOf sourceFits mergedAt filled blockersWith placedAt beginReadOf beginWriteOf beginZeroesOf beginDiscardOf beginOf
-    nextOf isKeptBy isKept pieceOf partOf
-    blockersWithout copiedAt handed staysOf endsOf entersOf tellAt tellOf collectOf
+    sourceOf sourceFits mergedAt filled blockersWith enterAt beginOf
+    nextOf isSoundIn isSoundOf pieceOf partOf
+    blockersWithout copiedAt handed endsAt entersAt answeredOf toldAt tellOf collectOf
 computing = tt

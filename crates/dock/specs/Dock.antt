@@ -5,6 +5,7 @@ use Prim.Native.Nat.{ℕ, suc, _*_}
 use lib.Dec.{ltb, eqb}
 use lib.ListN.{length, getD, replicate}
 use Rattle.arithmetic.specs.Rounding.{pick}
+use Rattle.arithmetic.specs.Refusals.{whenDone}
 use Rattle.arithmetic.specs.Loops.{anyBelow}
 use Rattle.arithmetic.specs.Offsets.{bufferAt, rangeOf}
 use Rattle.arithmetic.specs.Settings.{openingOf, profileOf, alignments}
@@ -76,13 +77,9 @@ vectorAt d p = getD (d .vectors) p noVector
 unfoldable pub lentFits : Buffers → ℕ → ℕ → Bool
 lentFits b m n = eqb m (b .«data» .length) && eqb n (b .scratch .length)
 
-abbrev pub lentBy : Outcome → Bool → Outcome
-lentBy Done t = pick t Done (Refused Buffer)
-lentBy (Refused r) t = Refused r
-
 -- what a begin is lent: 201 and 205 as at opening, then 205
 unfoldable pub lentOf : Settings → Buffers → ℕ → ℕ → Outcome
-lentOf s b m n = lentBy (openingOf s b) (lentFits b m n)
+lentOf s b m n = whenDone (openingOf s b) (pick (lentFits b m n) Done (Refused Buffer)) Refused
 
 -- "A request is out, or due": the slot's job has one and does not wait
 unfoldable pub isOutBy : Blockers → State → ℕ → Bool

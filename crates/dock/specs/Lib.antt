@@ -4,8 +4,7 @@ pub mod Begin
 pub mod Next
 pub mod Tell
 pub mod Slots
-pub mod SlotLaws
 pub mod Numbers
 pub mod RefusalLaws
-pub mod SeatLaws
+pub mod SlotLaws
 pub mod Computing

@@ -39,15 +39,15 @@ nextOf d p m n = pick (lentFits (d .buffers) m n) (pick (ltb p 8) (dueBy d p (st
 
 -- ---- the job at hand is one that a call made: its bytes lie in its share, its share in the scratch
 
-unfoldable pub isKeptBy : State → Settings → Buffers → Bool
-isKeptBy x s b = isSound (s .bounce) x && leb (8 * s .bounce) (b .scratch .length)
+unfoldable pub isSoundIn : State → Settings → Buffers → Bool
+isSoundIn x s b = isSound (s .bounce) x && leb (8 * s .bounce) (b .scratch .length)
 
-unfoldable pub isKept : Dock → ℕ → Bool
-isKept d p = isKeptBy (stateAt d p) (d .settings) (d .buffers)
+unfoldable pub isSoundOf : Dock → ℕ → Bool
+isSoundOf d p = isSoundIn (stateAt d p) (d .settings) (d .buffers)
 
 -- and the scratch that is lent has n bytes
-unfoldable pub isSeated : ℕ → State → Settings → Buffers → ℕ → Bool
-isSeated p x s b n = (ltb p 8 && isKeptBy x s b) && eqb n (b .scratch .length)
+unfoldable pub isSoundAt : ℕ → State → Settings → Buffers → ℕ → Bool
+isSoundAt p x s b n = (ltb p 8 && isSoundIn x s b) && eqb n (b .scratch .length)
 
 -- ---- a request's piece by number
 
@@ -74,7 +74,7 @@ pieceBy DiscardRequest share i m x v = NoPiece Slot
 
 -- the piece of the job x with the vector v in slot p
 unfoldable pub pieceIn : ℕ → Settings → Buffers → State → IoVector → ℕ → ℕ → Piece
-pieceIn p s lent x v i m = pick (ltb p 8 && isKeptBy x s lent) (pieceBy (x .phase) (p * s .bounce) i m x v) (NoPiece Slot)
+pieceIn p s lent x v i m = pick (ltb p 8 && isSoundIn x s lent) (pieceBy (x .phase) (p * s .bounce) i m x v) (NoPiece Slot)
 
 -- where its request is out
 unfoldable pub pieceAt : Blockers → ℕ → Settings → Buffers → State → IoVector → ℕ → ℕ → Piece
@@ -84,7 +84,7 @@ pieceAt b p s lent x v i m = pick (isOutBy b x p) (pieceIn p s lent x v i m) (No
 unfoldable pub pieceOf : Dock → ℕ → ℕ → ℕ → ℕ → Piece
 pieceOf d p i m n =
     pick (lentFits (d .buffers) m n)
-    (pick (isOut d p && isKept d p) (pieceBy (stateAt d p .phase) (shareAt d p) i m (stateAt d p) (vectorAt d p)) (NoPiece Slot))
+    (pick (isOut d p && isSoundOf d p) (pieceBy (stateAt d p .phase) (shareAt d p) i m (stateAt d p) (vectorAt d p)) (NoPiece Slot))
     (NoPiece Buffer)
 
 -- the n bytes of l from a on, and none where they go past its end

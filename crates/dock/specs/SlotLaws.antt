@@ -1,22 +1,28 @@
--- What begin and tell do with one slot (Slots), stored in the dock, is what Begin and Tell say of the dock. Assumes nothing.
-use mathlib.Core.Path.{_≡_, refl, ap, _∙_}
-use mathlib.Core.Bool.{Bool, true, false, _&&_}
-use mathlib.Core.List.{List, []}
-use Prim.Native.Nat.{ℕ, _+_}
+-- What the calls on a slot rely on: which jobs are sound there, what is filled and copied out then, the lowest free slot, and how a begin is decided. Assumes nothing.
+use mathlib.Core.Path.{_≡_, refl, sym, ap, _∙_}
+use mathlib.Core.Bool.{Bool, true, false, _&&_, _||_}
+use mathlib.Core.List.{List, [], _∷_}
+use Prim.Native.Nat.{ℕ, zero, suc, _+_, _*_, _<_}
+use native.Mathlib.Numerals.{add-one}
 use native.Mathlib.Omega.{arith}
-use lib.Dec.{ltb, eqb}
-use lib.ListN.{length, take, drop}
+use lib.Dec.{leb, ltb, eqb}
+use lib.ListN.{length, getD}
+use borrow.Author.Tests.{ltb-true, lt-ltb, le-leb}
 use Rattle.arithmetic.specs.Rounding.{pick}
-use Rattle.arithmetic.specs.declared.refusals.Refusal.{Refusal}
-use Rattle.arithmetic.specs.declared.refusals.Refusal.the-variants.{Segment, Overlap, Full, Slot, NoAnswer}
+use Rattle.arithmetic.specs.Refusals.{whenDone}
+use Rattle.arithmetic.specs.Loops.{anyBelow}
+use Rattle.arithmetic.specs.declared.refusals.Refusal.the-variants.{Overlap, Full, Buffer, NoAnswer}
 use Rattle.arithmetic.specs.declared.refusals.Outcome.{Outcome}
 use Rattle.arithmetic.specs.declared.refusals.Outcome.the-variants.{Done, Refused}
+use Rattle.arithmetic.specs.Settings.{openingOf}
+use Rattle.arithmetic.specs.SettingsLaws.{and-left, and-right, opened}
+use Rattle.arithmetic.specs.declared.settings.Settings.{Settings}
+use Rattle.arithmetic.specs.declared.settings.Buffers.{Buffers}
 use Rattle.arithmetic.specs.declared.offsets.StoreOffset.{StoreOffset}
-use Rattle.vectors.specs.Vectors.{put, scatterOf, segmentsOf, copies, isValid, vectorOf, segmentsFit, allSegments, sizeOf as totalOf}
-use Rattle.vectors.specs.SegmentLaws.{vector-valid}
+use Rattle.vectors.specs.Vectors.{isValid}
 use Rattle.vectors.specs.declared.vector.IoVector.{IoVector}
-use Rattle.blockers.specs.declared.Blockers.{Blockers}
-use Rattle.stages.specs.Stages.{sizeOf, zeroPlan, toldOf}
+use Rattle.stages.specs.Stages.{isFree, isSound, toldOf}
+use Rattle.stages.specs.Laws.{told-stays, told-enters, read-opens, write-opens, zero-opens, discard-opens}
 use Rattle.stages.specs.declared.state.Job.{Job}
 use Rattle.stages.specs.declared.state.Job.the-variants.{Read, Write, Zeroes, AllocatedZeroes, Discard}
 use Rattle.stages.specs.declared.state.State.{State}
@@ -24,188 +30,178 @@ use Rattle.stages.specs.declared.told.Step.{Step}
 use Rattle.stages.specs.declared.told.Step.the-variants.{Stays, Ends, Enters}
 use Rattle.stages.specs.declared.plan.Plan.{Plan}
 use Rattle.stages.specs.declared.plan.Plan.the-variants.{Done as NothingToDo, Started, Refused as PlanRefused}
-use Rattle.dock.specs.Dock.{stateAt, vectorAt, shareAt, isOutBy, lentOf, meetsOf, meetsAt, overlapsOf, firstFree}
-use Rattle.dock.specs.Begin.{fills, isBouncedWrite, sourceOf, sourceFits, mergedAt, filled, blockersWith, Begins, refusedBegin, onlyIf, thenDo, placed, placedAt, begunBy, vectorThen, beginReadOf, beginWriteOf, beginZeroesOf, beginDiscardOf, movedOf, planOf, beginBy}
-use Rattle.dock.specs.Next.{isKeptBy}
-use Rattle.dock.specs.Tell.{hands, isBouncedRead, copiedAt, handed, blockersWithout, tellIf, refusedTell, stayed, ended, entered, staysOf, endsOf, entersOf, stepped, tellAt}
-use Rattle.dock.specs.Slots.{enterAt, whenDone, Entered, allowedBy, decidedOf, admitBy, admitAt, seated, Stepped, staysAt, leftThen, endsAt, entersBy, entersAt, steppedAt, answeredOf, answeredBy, toldAt, storedBy, stored}
+use Rattle.dock.specs.Dock.{noState, lentFits, lentOf, meetsAt, meetsItself, overlapsOf, firstFree}
+use Rattle.dock.specs.Begin.{Filled, fills, isBouncedWrite, merged, filled, decidedOf, admitAt, seated, movedOf, planOf, beginOf}
+use Rattle.dock.specs.Next.{isSoundIn, isSoundAt}
+use Rattle.dock.specs.Tell.{Handed, hands, isBouncedRead, copiedOut, handed, answeredOf}
+use Rattle.dock.specs.Slots.{filledShare, handedShare, PlanSound, StepSound}
 use Rattle.dock.specs.declared.dock.Dock.{Dock}
+use Rattle.dock.specs.declared.begin.Asked.{Asked}
 use Rattle.dock.specs.declared.tell.Answered.the-variants.{Leads, Refused as NoLead}
 
-impossible : {A : Type 0} → _≡_ {A = ℕ} 0 1 → A
-impossible e = absurd (omega arith)
+-- ---- a sound job is sound in each of the eight slots, over the buffers of opening
 
--- a fill that is refused leaves the scratch
-filled-refused : (share : ℕ) (x : State) (v : IoVector) (memory scratch : List ℕ) (r : Refusal) → filled share x v memory scratch .outcome ≡ Refused r → filled share x v memory scratch .scratch ≡ scratch
-unfolding filled mergedAt
-filled-refused share x v memory scratch r = go (isBouncedWrite (x .phase)) (sourceFits (x .job) v (sizeOf (x .stage .asked)) memory)
+pub sound-here : (p : ℕ) (x : State) (s : Settings) (b : Buffers) (m n : ℕ) → p < 8 → lentFits b m n ≡ true → isSoundIn x s b ≡ true → isSoundAt p x s b n ≡ true
+unfolding isSoundAt lentFits
+sound-here p x s b m n h l k = simp (lt-ltb p 8 h, k) (and-right (eqb m (b .«data» .length)) (eqb n (b .scratch .length)) l)
+
+-- ---- what is filled, and copied out, then
+
+pub filled-share : (p : ℕ) (s : Settings) (b : Buffers) (x : State) (v : IoVector) (memory scratch : List ℕ) → isSoundAt p x s b (length scratch) ≡ true
+    → filledShare p s b x v memory scratch ≡ filled (p * s .bounce) x v memory scratch
+unfolding filledShare filled
+filled-share p s b x v memory scratch e = rw e (go (isBouncedWrite (x .phase)) (merged (p * s .bounce) x v memory scratch) (fills Done scratch))
   where
-    go : (b t : Bool)
-        → pick b (pick t (fills Done (put scratch (share + x .stage .head .0) (sourceOf (x .job) v (sizeOf (x .stage .asked)) memory))) (fills (Refused Segment) scratch)) (fills Done scratch) .outcome ≡ Refused r
-        → pick b (pick t (fills Done (put scratch (share + x .stage .head .0) (sourceOf (x .job) v (sizeOf (x .stage .asked)) memory))) (fills (Refused Segment) scratch)) (fills Done scratch) .scratch ≡ scratch
-    go true true e = impossible cc
-    go true false e = refl
-    go false t e = refl
+    go : (t : Bool) (k z : Filled) → pick t (pick t k z) z ≡ pick t k z
+    go true k z = refl
+    go false k z = refl
 
--- and a copy out that is refused leaves the data
-handed-refused : (share : ℕ) (x : State) (code : ℕ) (v : IoVector) (memory scratch : List ℕ) (r : Refusal)
-    → handed share x code v memory scratch .outcome ≡ Refused r → handed share x code v memory scratch .memory ≡ memory
-unfolding handed copiedAt
-handed-refused share x code v memory scratch r = go (isBouncedRead (x .phase) && eqb code 0) (copies memory v (sizeOf (x .stage .asked)))
+pub handed-share : (p : ℕ) (s : Settings) (b : Buffers) (x : State) (code : ℕ) (v : IoVector) (memory scratch : List ℕ) → isSoundAt p x s b (length scratch) ≡ true
+    → handedShare p s b x code v memory scratch ≡ handed (p * s .bounce) x code v memory scratch
+unfolding handedShare handed
+handed-share p s b x code v memory scratch e = rw e (go (isBouncedRead (x .phase) && eqb code 0) (copiedOut (p * s .bounce) x v memory scratch) (hands Done memory))
   where
-    go : (b t : Bool)
-        → pick b (pick t (hands Done (scatterOf memory (segmentsOf v) (take (sizeOf (x .stage .asked)) (drop (share + x .stage .head .0) scratch)))) (hands (Refused Segment) memory)) (hands Done memory) .outcome ≡ Refused r
-        → pick b (pick t (hands Done (scatterOf memory (segmentsOf v) (take (sizeOf (x .stage .asked)) (drop (share + x .stage .head .0) scratch)))) (hands (Refused Segment) memory)) (hands Done memory) .memory ≡ memory
-    go true true e = impossible cc
-    go true false e = refl
-    go false t e = refl
+    go : (t : Bool) (k z : Handed) → pick t (pick t k z) z ≡ pick t k z
+    go true k z = refl
+    go false k z = refl
 
--- ---- tell
+-- ---- a code is told
 
-module _ (d : Dock) (p : ℕ) (memory scratch : List ℕ) where
-  stays-stored : (y : State) → stored d p (staysAt (d .blockers) (shareAt d p) y (vectorAt d p) memory scratch) ≡ staysOf d p y memory scratch
-  unfolding staysOf
-  stays-stored y = go (filled (shareAt d p) y (vectorAt d p) memory scratch .outcome) refl
-    where
-      go : (o : Outcome) → filled (shareAt d p) y (vectorAt d p) memory scratch .outcome ≡ o
-          → storedBy o d p (staysAt (d .blockers) (shareAt d p) y (vectorAt d p) memory scratch) ≡ tellIf d memory scratch o (stayed d p y memory scratch)
-      go Done e = refl
-      go (Refused r) e = ap (λ (s : List ℕ). refusedTell d memory s r) (filled-refused (shareAt d p) y (vectorAt d p) memory scratch r e)
+-- a code that leads on leads where the stage says
+pub leads-told : (s : Settings) (x : State) (code : ℕ) (t : Step) → answeredOf s x code ≡ Leads t → toldOf s x code ≡ t
+unfolding answeredOf
+leads-told s x code t e = leads (ltb code 200) e
+  where
+    leads : (u : Bool) → pick u (Leads (toldOf s x code)) (NoLead NoAnswer) ≡ Leads t → toldOf s x code ≡ t
+    leads true e = cc
+    leads false e = let z : _≡_ {A = ℕ} 0 1 = cc in absurd (omega arith)
 
-  ends-stored : (x : State) (code : ℕ) (y : State) → stored d p (endsAt (d .blockers) p (shareAt d p) x code y (vectorAt d p) memory scratch) ≡ endsOf d p x code y memory scratch
-  unfolding endsOf endsAt
-  ends-stored x code y = go (blockersWithout (d .blockers) p x .outcome) (handed (shareAt d p) x code (vectorAt d p) memory scratch .outcome) refl
-    where
-      step : Outcome → Stepped
-      step o = record { outcome = o; blockers = blockersWithout (d .blockers) p x .blockers; state = y; memory = handed (shareAt d p) x code (vectorAt d p) memory scratch .memory; scratch = scratch }
+-- a job whose stage is sound is sound where another one is
+sound-too : (x y : State) (s : Settings) (b : Buffers) → isSoundIn x s b ≡ true → isSound (s .bounce) y ≡ true → isSoundIn y s b ≡ true
+unfolding isSoundIn
+sound-too x y s b k e = rw e (and-right (isSound (s .bounce) x) (leb (8 * s .bounce) (b .scratch .length)) k)
 
-      go : (q o : Outcome) → handed (shareAt d p) x code (vectorAt d p) memory scratch .outcome ≡ o
-          → stored d p (leftThen q (d .blockers) x memory scratch (step o)) ≡ tellIf d memory scratch (thenDo q o) (ended d p x code y memory scratch)
-      go Done Done e = refl
-      go Done (Refused r) e = ap (λ (m : List ℕ). refusedTell d m scratch r) (handed-refused (shareAt d p) x code (vectorAt d p) memory scratch r e)
-      go (Refused r) o e = refl
+sound-share : (x : State) (s : Settings) (b : Buffers) → isSoundIn x s b ≡ true → isSound (s .bounce) x ≡ true
+unfolding isSoundIn
+sound-share x s b k = and-left (isSound (s .bounce) x) (leb (8 * s .bounce) (b .scratch .length)) k
 
-  enters-stored : (x y : State) → stored d p (entersAt (d .blockers) p (shareAt d p) x y (vectorAt d p) memory scratch) ≡ entersOf d p x y memory scratch
-  unfolding entersOf entersAt enterAt
-  enters-stored x y = go (blockersWithout (d .blockers) p x .outcome) (blockersWith (blockersWithout (d .blockers) p x .blockers) p y .outcome) (filled (shareAt d p) y (vectorAt d p) memory scratch .outcome) refl
-    where
-      B : Blockers
-      B = blockersWithout (d .blockers) p x .blockers
+pub leads-sound : (p : ℕ) (s : Settings) (b : Buffers) (x : State) (code m n : ℕ) → p < 8 → lentFits b m n ≡ true → isSoundIn x s b ≡ true → (t : Step) → answeredOf s x code ≡ Leads t
+    → StepSound p s b x n t
+leads-sound p s b x code m n h l k t e = by t (leads-told s x code t e)
+  where
+    by : (t : Step) → toldOf s x code ≡ t → StepSound p s b x n t
+    by (Stays y) e = sound-here p y s b m n h l (sound-too x y s b k (told-stays s x code y e .sound (sound-share x s b k)))
+    by (Ends y) e = sound-here p x s b m n h l k
+    by (Enters y) e = sound-here p y s b m n h l (sound-too x y s b k (told-enters s x code y e .sound))
 
-      there : Outcome → Outcome → Entered
-      there n o =
-          whenDone n (record { blockers = blockersWith B p y .blockers; outcome = o; scratch = filled (shareAt d p) y (vectorAt d p) memory scratch .scratch })
-          (record { blockers = blockersWith B p y .blockers; outcome = n; scratch = scratch })
+-- ---- a begin meets the vectors of other jobs, one slot after the other
 
-      go : (q n o : Outcome) → filled (shareAt d p) y (vectorAt d p) memory scratch .outcome ≡ o
-          → stored d p (leftThen q (d .blockers) x memory scratch (entersBy (there n o) y memory)) ≡ tellIf d memory scratch (thenDo q (thenDo n o)) (entered d p x y memory scratch)
-      go Done Done Done e = refl
-      go Done Done (Refused r) e = ap (λ (s : List ℕ). refusedTell d memory s r) (filled-refused (shareAt d p) y (vectorAt d p) memory scratch r e)
-      go Done (Refused r) o e = refl
-      go (Refused r) n o e = refl
+pub met-none : (a : Bool) (f : ℕ → Bool) → a ≡ (a || anyBelow 0 f)
+unfolding anyBelow
+met-none true f = refl
+met-none false f = refl
 
-  step-stored : (x : State) (code : ℕ) (t : Step) → stored d p (steppedAt (d .blockers) p (shareAt d p) x code (vectorAt d p) memory scratch t) ≡ stepped d p x code memory scratch t
-  step-stored x code (Stays y) = stays-stored y
-  step-stored x code (Ends y) = ends-stored x code y
-  step-stored x code (Enters y) = enters-stored x y
+pub met-more : (met m : Bool) (i : ℕ) (a : Bool) (f : ℕ → Bool) → met ≡ (a || anyBelow i f) → m ≡ f i → (met || m) ≡ (a || anyBelow (i + 1) f)
+unfolding anyBelow
+met-more met m i a f p q = rw (p, q, add-one) (assoc a (anyBelow i f) (f i))
+  where
+    assoc : (a b c : Bool) → ((a || b) || c) ≡ (a || (b || c))
+    assoc true b c = refl
+    assoc false b c = refl
 
-  -- a tell of slot p
-  pub told-stored : (code : ℕ) → stored d p (toldAt (d .blockers) p (d .settings) (d .buffers) (stateAt d p) (vectorAt d p) code memory scratch) ≡ tellAt d p code memory scratch
-  unfolding toldAt tellAt answeredOf
-  told-stored code = go (isOutBy (d .blockers) (stateAt d p) p && isKeptBy (stateAt d p) (d .settings) (d .buffers)) (ltb code 200)
-    where
-      T : Step
-      T = toldOf (d .settings) (stateAt d p) code
+pub met-all : (xs : List State) (vs : List IoVector) (j : Job) (v : IoVector) (met : Bool) (i : ℕ) → i ≡ 8 → met ≡ (meetsItself j v || anyBelow i (meetsAt xs vs j v)) → met ≡ overlapsOf xs vs j v
+unfolding overlapsOf
+met-all xs vs j v met i h e = e ∙ ap (λ (n : ℕ). meetsItself j v || anyBelow n (meetsAt xs vs j v)) h
 
-      go : (a b : Bool)
-          → stored d p (pick a (answeredBy (pick b (Leads T) (NoLead NoAnswer)) (d .blockers) p (shareAt d p) (stateAt d p) code (vectorAt d p) memory scratch)
-          (record { outcome = Refused Slot; blockers = d .blockers; state = stateAt d p; memory = memory; scratch = scratch }))
-          ≡ pick a (pick b (stepped d p (stateAt d p) code memory scratch T) (refusedTell d memory scratch NoAnswer)) (refusedTell d memory scratch Slot)
-      go true true = step-stored (stateAt d p) code T
-      go true false = refl
-      go false b = refl
+-- ---- the lowest free slot
 
--- ---- begin
+-- none of the first i slots is free
+abbrev pub NoneFree : List State → ℕ → Type 0
+NoneFree xs i = (k : ℕ) → k < i → isFree (getD xs k noState .phase) ≡ false
 
--- the empty vector is one over any data
-pub empty-valid : (n : ℕ) → isValid n (vectorOf []) ≡ true
-unfolding segmentsFit allSegments totalOf
-empty-valid n = vector-valid n [] refl
+pub lowest-here : (xs : List State) (i : ℕ) → NoneFree xs i → i < length xs → isFree (getD xs i noState .phase) ≡ true → i ≡ firstFree xs
+unfolding firstFree
+lowest-here [] i f h e = absurd (omega arith)
+lowest-here (x ∷ xs) zero f h e = simp e
+lowest-here (x ∷ xs) (suc i) f h e = simp (f 0 (omega arith)) (omega (arith, lowest-here xs i (λ k l. f (suc k) (omega arith)) (omega arith) e))
 
-module _ (d : Dock) (v : IoVector) (memory scratch : List ℕ) where
-  abbrev F : ℕ
-  F = firstFree (d .states)
+pub lowest-none : (xs : List State) → NoneFree xs (length xs) → length xs ≡ firstFree xs
+unfolding firstFree
+lowest-none [] f = refl
+lowest-none (x ∷ xs) f = simp (f 0 (omega arith)) (omega (arith, lowest-none xs (λ k l. f (suc k) (omega arith))))
 
-  abbrev admitted : Plan → Begins
-  admitted plan = seated d v (admitAt (d .blockers) F (d .settings .bounce) v memory scratch plan)
+-- it is free
+pub lowest-free : (xs : List State) → firstFree xs < length xs → isFree (getD xs (firstFree xs) noState .phase) ≡ true
+unfolding firstFree
+lowest-free [] h = absurd (omega arith)
+lowest-free (x ∷ xs) h = go (isFree (x .phase)) refl h (λ l. lowest-free xs l)
+  where
+    go : (t : Bool) → isFree (x .phase) ≡ t → pick t 0 (suc (firstFree xs)) < suc (length xs)
+        → (firstFree xs < length xs → isFree (getD xs (firstFree xs) noState .phase) ≡ true)
+        → isFree (getD (x ∷ xs) (pick t 0 (suc (firstFree xs))) noState .phase) ≡ true
+    go true e h f = e
+    go false e h f = f (omega arith)
 
-  place-seated : (x : State) → admitted (Started x) ≡ placedAt d F x v memory scratch
-  unfolding placedAt enterAt
-  place-seated x = go (blockersWith (d .blockers) F x .outcome) (filled (shareAt d F) x v memory scratch .outcome) refl
-    where
-      there : Outcome → Outcome → Entered
-      there n o =
-          whenDone n (record { blockers = blockersWith (d .blockers) F x .blockers; outcome = o; scratch = filled (shareAt d F) x v memory scratch .scratch })
-          (record { blockers = blockersWith (d .blockers) F x .blockers; outcome = n; scratch = scratch })
+-- ---- a begin is decided
 
-      go : (n o : Outcome) → filled (shareAt d F) x v memory scratch .outcome ≡ o
-          → seated d v (admitBy (there n o .outcome) (d .blockers) F x (there n o)) ≡ onlyIf d scratch (thenDo n o) (placed d F x v memory scratch)
-      go Done Done e = refl
-      go Done (Refused r) e = ap (λ (s : List ℕ). refusedBegin d s r) (filled-refused (shareAt d F) x v memory scratch r e)
-      go (Refused r) o e = refl
+-- the first stage of a plan is sound
+pub plan-sound : (j : Job) (s : Settings) (b : Buffers) (o : StoreOffset) (n : ℕ) (v : IoVector) (x : State) → planOf j s b o n v ≡ Started x → isSound (s .bounce) x ≡ true
+plan-sound Read s b o n v x e = read-opens s o (v .total) _ x e .sound
+plan-sound Write s b o n v x e = write-opens s o (v .total) _ x e .sound
+plan-sound Zeroes s b o n v x e = zero-opens s o n false x e .sound
+plan-sound AllocatedZeroes s b o n v x e = zero-opens s o n true x e .sound
+plan-sound Discard s b o n v x e = discard-opens s o n x e .sound
 
-  -- a begin of the job j by its plan
-  pub begun-seated : (j : Job) (lent : Outcome) (plan : Plan)
-      → admitted (decidedOf lent (isValid (length memory) v) plan (overlapsOf (d .states) (d .vectors) j v) F) ≡ onlyIf d scratch lent (vectorThen d v memory scratch (begunBy d j v memory scratch plan))
-  begun-seated j (Refused r) plan = refl
-  begun-seated j Done plan = valid (isValid (length memory) v)
-    where
-      met : Bool
-      met = overlapsOf (d .states) (d .vectors) j v
+-- a plan that was decided to start: nothing refused it, and it has its slot
+pub record Allowed (l : Outcome) (t : Bool) (plan : Plan) (met : Bool) (f : ℕ) (x : State) : Type 0 where
+  pub lent : l ≡ Done
+  pub valid : t ≡ true
+  pub planned : plan ≡ Started x
+  pub apart : met ≡ false
+  pub slot : f < 8
 
-      room : (x : State) (a b : Bool)
-          → admitted (pick a (PlanRefused Overlap) (pick b (Started x) (PlanRefused Full)))
-          ≡ pick a (refusedBegin d scratch Overlap) (pick b (placedAt d F x v memory scratch) (refusedBegin d scratch Full))
-      room x true b = refl
-      room x false true = place-seated x
-      room x false false = refl
+pub started : (l : Outcome) (t : Bool) (plan : Plan) (met : Bool) (f : ℕ) (x : State) → decidedOf l t plan met f ≡ Started x → Allowed l t plan met f x
+started (Refused r) t plan met f x e = absurd (let z : _≡_ {A = ℕ} 0 1 = cc in omega arith)
+started Done false plan met f x e = absurd (let z : _≡_ {A = ℕ} 0 1 = cc in omega arith)
+started Done true NothingToDo met f x e = absurd (let z : _≡_ {A = ℕ} 0 1 = cc in omega arith)
+started Done true (PlanRefused r) met f x e = absurd (let z : _≡_ {A = ℕ} 0 1 = cc in omega arith)
+started Done true (Started y) met f x e = go met (ltb f 8) refl e
+  where
+    go : (a u : Bool) → ltb f 8 ≡ u → pick a (PlanRefused Overlap) (pick u (Started y) (PlanRefused Full)) ≡ Started x → Allowed Done true (Started y) a f x
+    go true u h e = absurd (let z : _≡_ {A = ℕ} 0 1 = cc in omega arith)
+    go false true h e = record { lent = refl; valid = refl; planned = e; apart = refl; slot = ltb-true f 8 h }
+    go false false h e = absurd (let z : _≡_ {A = ℕ} 0 1 = cc in omega arith)
 
-      allowed : (q : Plan) → admitted (allowedBy q met F) ≡ begunBy d j v memory scratch q
-      allowed NothingToDo = refl
-      allowed (PlanRefused r) = refl
-      allowed (Started x) = room x met (ltb F 8)
+-- what is lent fits: as at opening, and the lengths
+pub lent-done : (s : Settings) (b : Buffers) (m n : ℕ) → lentOf s b m n ≡ Done → (openingOf s b ≡ Done) × (lentFits b m n ≡ true)
+unfolding lentOf
+lent-done s b m n e = go (openingOf s b) (lentFits b m n) e
+  where
+    go : (o : Outcome) (t : Bool) → whenDone o (pick t Done (Refused Buffer)) Refused ≡ Done → (o ≡ Done) × (t ≡ true)
+    go Done true e = (refl, refl)
+    go Done false e = let z : _≡_ {A = ℕ} 0 1 = cc in absurd (omega arith)
+    go (Refused r) t e = let z : _≡_ {A = ℕ} 0 1 = cc in absurd (omega arith)
 
-      valid : (t : Bool) → admitted (pick t (allowedBy plan met F) (PlanRefused Segment)) ≡ pick t (begunBy d j v memory scratch plan) (refusedBegin d scratch Segment)
-      valid true = allowed plan
-      valid false = refl
+-- over what a begin is lent, a job whose stage is sound is sound in a slot of the eight
+lent-sound : (s : Settings) (b : Buffers) (m n p : ℕ) (x : State) → lentOf s b m n ≡ Done → p < 8 → isSound (s .bounce) x ≡ true → isSoundAt p x s b n ≡ true
+unfolding isSoundAt isSoundIn
+lent-sound s b m n p x d h w =
+    let k = lent-done s b m n d in
+    sound-here p x s b m n h (k .1) (simp w (le-leb (8 * s .bounce) (b .scratch .length) (omega (arith, opened s b (k .0) .room))))
 
--- what is asked, decided and stored, is begun
-module _ (d : Dock) (memory scratch : List ℕ) where
-  abbrev L : Outcome
-  L = lentOf (d .settings) (d .buffers) (length memory) (length scratch)
+pub decided-sound : (j : Job) (s : Settings) (b : Buffers) (o : StoreOffset) (k : ℕ) (v : IoVector) (m n : ℕ) (l : Outcome) → l ≡ lentOf s b m n → (t : Bool) (plan : Plan) → plan ≡ planOf j s b o k v
+    → (met : Bool) (f : ℕ) (q : Plan) → q ≡ decidedOf l t plan met f → PlanSound f s b n q
+decided-sound j s b o k v m n l le t plan pe met f NothingToDo e = tt
+decided-sound j s b o k v m n l le t plan pe met f (PlanRefused r) e = tt
+decided-sound j s b o k v m n l le t plan pe met f (Started x) e =
+    let w = started l t plan met f x (sym e) in
+    lent-sound s b m n f x (sym le ∙ w .lent) (w .slot) (plan-sound j s b o k v x (sym pe ∙ w .planned))
 
-  abbrev asks : Job → IoVector → Plan → Begins
-  asks j v plan =
-      seated d v (admitAt (d .blockers) (firstFree (d .states)) (d .settings .bounce) v memory scratch
-      (decidedOf L (isValid (length memory) v) plan (overlapsOf (d .states) (d .vectors) j v) (firstFree (d .states))))
-
-  -- of zeroes and of a discard, whose vector is empty: 202 is never its answer
-  unrefused : (j : Job) (plan : Plan) → asks j (vectorOf []) plan ≡ onlyIf d scratch L (begunBy d j (vectorOf []) memory scratch plan)
-  unrefused j plan =
-      begun-seated d (vectorOf []) memory scratch j L plan ∙
-      ap (λ (t : Bool). onlyIf d scratch L (pick t (begunBy d j (vectorOf []) memory scratch plan) (refusedBegin d scratch Segment))) (empty-valid (length memory))
-
-  -- zeroes, plain or allocating, meet no vector
-  allocating : (plan : Plan) → begunBy d AllocatedZeroes (vectorOf []) memory scratch plan ≡ begunBy d Zeroes (vectorOf []) memory scratch plan
-  unfolding overlapsOf meetsAt meetsOf
-  allocating NothingToDo = refl
-  allocating (PlanRefused r) = refl
-  allocating (Started x) = refl
-
-  pub begin-seated : (j : Job) (o : StoreOffset) (n : ℕ) (v : IoVector) → asks j (movedOf j v) (planOf j (d .settings) (d .buffers) o n v) ≡ beginBy j d o n v memory scratch
-  unfolding beginReadOf beginWriteOf beginZeroesOf beginDiscardOf
-  begin-seated Read o n v = begun-seated d v memory scratch Read L _
-  begin-seated Write o n v = begun-seated d v memory scratch Write L _
-  begin-seated Zeroes o n v = unrefused Zeroes _
-  begin-seated AllocatedZeroes o n v = unrefused AllocatedZeroes (zeroPlan (d .settings) true o n) ∙ ap (onlyIf d scratch L) (allocating (zeroPlan (d .settings) true o n))
-  begin-seated Discard o n v = unrefused Discard _
+-- what is asked, planned, decided and admitted, each as its definition says, is begun
+module _ (d : Dock) (q : Asked) (memory scratch : List ℕ) (v : IoVector) (ve : v ≡ movedOf (q .job) (q .vector)) (met : Bool) (me : met ≡ overlapsOf (d .states) (d .vectors) (q .job) v)
+    (l : Outcome) (le : l ≡ lentOf (d .settings) (d .buffers) (length memory) (length scratch)) (f : ℕ) (fe : f ≡ firstFree (d .states))
+    (plan : Plan) (pe : plan ≡ planOf (q .job) (d .settings) (d .buffers) (q .offset) (q .length) (q .vector)) (t : Bool) (te : t ≡ isValid (length memory) v)
+    (r : Plan) (re : r ≡ decidedOf l t plan met f) where
+  pub begin-whole : seated d v (admitAt (d .blockers) f (d .settings .bounce) v memory scratch r) ≡ beginOf d q memory scratch
+  unfolding beginOf
+  begin-whole = cc

@@ -1,14 +1,17 @@
 -- Document 01, "Events": tell and collect.
 use mathlib.Core.Bool.{Bool, true, false, _&&_}
 use mathlib.Core.List.{List, []}
-use Prim.Native.Nat.{ℕ, _+_}
+use Prim.Native.Nat.{ℕ, _+_, _*_}
 use lib.Dec.{ltb, eqb}
 use lib.ListN.{length, take, drop, set}
 use Rattle.arithmetic.specs.Rounding.{pick}
+use Rattle.arithmetic.specs.Refusals.{whenDone}
 use Rattle.arithmetic.specs.declared.refusals.Refusal.{Refusal}
 use Rattle.arithmetic.specs.declared.refusals.Refusal.the-variants.{Segment, Buffer, Slot, NoAnswer}
 use Rattle.arithmetic.specs.declared.refusals.Outcome.{Outcome}
 use Rattle.arithmetic.specs.declared.refusals.Outcome.the-variants.{Done, Refused}
+use Rattle.arithmetic.specs.declared.settings.Settings.{Settings}
+use Rattle.arithmetic.specs.declared.settings.Buffers.{Buffers}
 use Rattle.vectors.specs.Vectors.{scatterOf, segmentsOf, copies, vectorOf}
 use Rattle.vectors.specs.declared.vector.IoVector.{IoVector}
 use Rattle.blockers.specs.Blockers.{leftOf}
@@ -20,33 +23,18 @@ use Rattle.stages.specs.declared.state.Phase.the-variants.{Free, Ended, DirectR
 use Rattle.stages.specs.declared.state.State.{State}
 use Rattle.stages.specs.declared.told.Step.{Step}
 use Rattle.stages.specs.declared.told.Step.the-variants.{Stays, Ends, Enters}
-use Rattle.dock.specs.Dock.{vacant, stateAt, vectorAt, lentFits, isOutBy, shareAt}
-use Rattle.dock.specs.Begin.{filled, blockersWith, thenDo, withJob}
-use Rattle.dock.specs.Next.{isKeptBy}
+use Rattle.dock.specs.Dock.{vacant, stateAt, vectorAt, lentFits, isOutBy}
+use Rattle.dock.specs.Begin.{filled, InShare, Entered, enterAt, withJob}
+use Rattle.dock.specs.Next.{isSoundIn}
 use Rattle.dock.specs.declared.dock.Dock.{Dock}
 use Rattle.dock.specs.declared.tell.Telling.{Telling}
+use Rattle.dock.specs.declared.tell.Stepping.{Stepping}
+use Rattle.dock.specs.declared.tell.Answered.{Answered}
+use Rattle.dock.specs.declared.tell.Answered.the-variants.{Leads, Refused as NoLead}
 use Rattle.dock.specs.declared.tell.Collected.the-variants.{Final, Refused as NotCollected}
 use Rattle.dock.specs.declared.tell.Collects.{Collects}
 
--- ---- tell
-
-pub record Told : Type 0 where
-  pub dock : Dock
-  pub outcome : Outcome
-  pub memory : List ℕ
-  pub scratch : List ℕ
-
--- the answer of a call, and the data and the scratch as it leaves them
-abbrev pub tells : Telling → List ℕ → List ℕ → Told
-tells r m s = record { dock = r .dock; outcome = r .outcome; memory = m; scratch = s }
-
--- the dock with the job y in slot p and the blockers b; its vector stays
-abbrev pub accepted : Dock → ℕ → Blockers → State → Telling
-accepted d p b y =
-    record { dock = record { settings = d .settings; buffers = d .buffers; blockers = b; states = set (d .states) p y; vectors = d .vectors }; outcome = Done }
-
-abbrev pub refusedTell : Dock → List ℕ → List ℕ → Refusal → Told
-refusedTell d memory scratch r = record { dock = d; outcome = Refused r; memory = memory; scratch = scratch }
+-- ---- tell, as far as one slot goes
 
 -- the blockers once the slot's job has left its stage
 unfoldable pub blockersWithout : Blockers → ℕ → State → Changed
@@ -84,67 +72,109 @@ unfoldable pub handed : ℕ → State → ℕ → IoVector → List ℕ → List
 handed share x code v memory scratch =
     pick (isBouncedRead (x .phase) && eqb code 0) (copiedOut share x v memory scratch) (record { memory = memory; outcome = Done })
 
-abbrev pub tellIf : Dock → List ℕ → List ℕ → Outcome → Told → Told
-tellIf d memory scratch Done k = k
-tellIf d memory scratch (Refused r) k = refusedTell d memory scratch r
+pub record Stepped : Type 0 where
+  pub outcome : Outcome
+  pub blockers : Blockers
+  pub state : State
+  pub memory : List ℕ
+  pub scratch : List ℕ
 
--- What an accepted tell leaves: the job goes on in its stage, its blocker too; "scratch is filled at the last read's tell"
-abbrev pub stayed : Dock → ℕ → State → List ℕ → List ℕ → Told
-stayed d p y memory scratch = tells (accepted d p (d .blockers) y) memory (filled (shareAt d p) y (vectorAt d p) memory scratch .scratch)
+abbrev pub steps : Stepping → List ℕ → List ℕ → Stepped
+steps t m s = record { outcome = t .outcome; blockers = t .blockers; state = t .state; memory = m; scratch = s }
 
--- or it ends: its blocker "leaves when its piece ends", and the bytes of a padded read are handed out
-abbrev pub ended : Dock → ℕ → State → ℕ → State → List ℕ → List ℕ → Told
-ended d p x code y memory scratch =
-    tells (accepted d p (blockersWithout (d .blockers) p x .blockers) y) (handed (shareAt d p) x code (vectorAt d p) memory scratch .memory) scratch
-
--- or it enters its next stage: its blocker leaves first, then the next stage's enters, and where that reads nothing its scratch is filled
-abbrev pub entered : Dock → ℕ → State → State → List ℕ → List ℕ → Told
-entered d p x y memory scratch =
-    tells (accepted d p (blockersWith (blockersWithout (d .blockers) p x .blockers) p y .blockers) y) memory
-    (filled (shareAt d p) y (vectorAt d p) memory scratch .scratch)
+abbrev pub unstepped : Blockers → State → Refusal → Stepping
+unstepped b x r = record { outcome = Refused r; blockers = b; state = x }
 
 -- A dock of no call's making may lack the blocker that leaves, have one where another enters, or a vector of other bytes than the stage's: the
 -- tell is then refused, and changes nothing. Law `made-tell` of crate histories: no dock that calls made is refused so.
-unfoldable pub staysOf : Dock → ℕ → State → List ℕ → List ℕ → Told
-staysOf d p y memory scratch =
-    tellIf d memory scratch (filled (shareAt d p) y (vectorAt d p) memory scratch .outcome) (stayed d p y memory scratch)
 
-unfoldable pub endsOf : Dock → ℕ → State → ℕ → State → List ℕ → List ℕ → Told
-endsOf d p x code y memory scratch =
-    tellIf d memory scratch
-    (thenDo (blockersWithout (d .blockers) p x .outcome) (handed (shareAt d p) x code (vectorAt d p) memory scratch .outcome))
-    (ended d p x code y memory scratch)
+-- the job goes on in its stage, its blocker too; "scratch is filled at the last read's tell"
+abbrev pub staysAt : Blockers → ℕ → State → IoVector → List ℕ → List ℕ → Stepped
+staysAt b share y v memory scratch =
+    record { outcome = filled share y v memory scratch .outcome; blockers = b; state = y; memory = memory; scratch = filled share y v memory scratch .scratch }
 
-unfoldable pub entersOf : Dock → ℕ → State → State → List ℕ → List ℕ → Told
-entersOf d p x y memory scratch =
-    let b = blockersWithout (d .blockers) p x in
-    tellIf d memory scratch
-    (thenDo (b .outcome) (thenDo (blockersWith (b .blockers) p y .outcome) (filled (shareAt d p) y (vectorAt d p) memory scratch .outcome)))
-    (entered d p x y memory scratch)
+-- it ends: its blocker "leaves when its piece ends", and the bytes of a padded read are handed out
+unfoldable pub endsAt : Blockers → ℕ → ℕ → State → ℕ → State → IoVector → List ℕ → List ℕ → Stepped
+endsAt b p share x code y v memory scratch =
+    whenDone (blockersWithout b p x .outcome)
+    (record {
+      outcome = handed share x code v memory scratch .outcome;
+      blockers = blockersWithout b p x .blockers;
+      state = y;
+      memory = handed share x code v memory scratch .memory;
+      scratch = scratch;
+    })
+    (λ r. steps (unstepped b x r) memory scratch)
 
-abbrev pub stepped : Dock → ℕ → State → ℕ → List ℕ → List ℕ → Step → Told
-stepped d p x code memory scratch (Stays y) = staysOf d p y memory scratch
-stepped d p x code memory scratch (Ends y) = endsOf d p x code y memory scratch
-stepped d p x code memory scratch (Enters y) = entersOf d p x y memory scratch
+-- it enters its next stage: its blocker leaves first, then the next stage's enters, and where that reads nothing its scratch is filled
+abbrev pub entersBy : Entered → State → List ℕ → Stepped
+entersBy e y memory = record { outcome = e .outcome; blockers = e .blockers; state = y; memory = memory; scratch = e .scratch }
 
--- what a tell leaves of a dock that calls made
-abbrev pub after : Dock → ℕ → State → ℕ → List ℕ → List ℕ → Step → Told
-after d p x code memory scratch (Stays y) = stayed d p y memory scratch
-after d p x code memory scratch (Ends y) = ended d p x code y memory scratch
-after d p x code memory scratch (Enters y) = entered d p x y memory scratch
+unfoldable pub entersAt : Blockers → ℕ → ℕ → State → State → IoVector → List ℕ → List ℕ → Stepped
+entersAt b p share x y v memory scratch =
+    whenDone (blockersWithout b p x .outcome) (entersBy (enterAt (blockersWithout b p x .blockers) p share y v memory scratch) y memory)
+    (λ r. steps (unstepped b x r) memory scratch)
 
--- "Tell: [..] 208, 209"; "told 200 to 255" is no answer
-unfoldable pub tellAt : Dock → ℕ → ℕ → List ℕ → List ℕ → Told
-tellAt d p code memory scratch =
-    pick (isOutBy (d .blockers) (stateAt d p) p && isKeptBy (stateAt d p) (d .settings) (d .buffers))
-    (pick (ltb code 200) (stepped d p (stateAt d p) code memory scratch (toldOf (d .settings) (stateAt d p) code)) (refusedTell d memory scratch NoAnswer))
-    (refusedTell d memory scratch Slot)
+abbrev pub steppedAt : Blockers → ℕ → ℕ → State → ℕ → IoVector → List ℕ → List ℕ → Step → Stepped
+steppedAt b p share x code v memory scratch (Stays y) = staysAt b share y v memory scratch
+steppedAt b p share x code v memory scratch (Ends y) = endsAt b p share x code y v memory scratch
+steppedAt b p share x code v memory scratch (Enters y) = entersAt b p share x y v memory scratch
+
+-- the stage that a step goes on in or enters lies in its share of a scratch of n bytes
+abbrev pub StepInShare : ℕ → ℕ → Step → Type 0
+StepInShare share n (Stays y) = InShare share y n
+StepInShare share n (Ends y) = Unit {0}
+StepInShare share n (Enters y) = InShare share y n
+
+-- "0 done, 1 unsupported, 2 to 199 failed, 200 to 255 no answer"
+unfoldable pub answeredOf : Settings → State → ℕ → Answered
+answeredOf s x code = pick (ltb code 200) (Leads (toldOf s x code)) (NoLead NoAnswer)
+
+abbrev pub answeredBy : Answered → Blockers → ℕ → ℕ → State → ℕ → IoVector → List ℕ → List ℕ → Stepped
+answeredBy (NoLead r) b p share x code v memory scratch = steps (unstepped b x r) memory scratch
+answeredBy (Leads t) b p share x code v memory scratch = steppedAt b p share x code v memory scratch t
+
+-- "Tell: [..] 208, 209"
+unfoldable pub toldAt : Blockers → ℕ → Settings → Buffers → State → IoVector → ℕ → List ℕ → List ℕ → Stepped
+toldAt b p s lent x v code memory scratch =
+    pick (isOutBy b x p && isSoundIn x s lent)
+    (answeredBy (answeredOf s x code) b p (p * s .bounce) x code v memory scratch)
+    (steps (unstepped b x Slot) memory scratch)
+
+-- ---- tell
+
+pub record Told : Type 0 where
+  pub dock : Dock
+  pub outcome : Outcome
+  pub memory : List ℕ
+  pub scratch : List ℕ
+
+-- the answer of a call, and the data and the scratch as it leaves them
+abbrev pub tells : Telling → List ℕ → List ℕ → Told
+tells r m s = record { dock = r .dock; outcome = r .outcome; memory = m; scratch = s }
+
+-- the dock with the job y in slot p and the blockers b; its vector stays
+abbrev pub accepted : Dock → ℕ → Blockers → State → Telling
+accepted d p b y =
+    record { dock = record { settings = d .settings; buffers = d .buffers; blockers = b; states = set (d .states) p y; vectors = d .vectors }; outcome = Done }
+
+abbrev pub refusedTell : Dock → List ℕ → List ℕ → Refusal → Told
+refusedTell d memory scratch r = record { dock = d; outcome = Refused r; memory = memory; scratch = scratch }
+
+-- stored in the dock where it is done
+abbrev pub storedBy : Outcome → Dock → ℕ → Stepped → Told
+storedBy o d p t = whenDone o (tells (accepted d p (t .blockers) (t .state)) (t .memory) (t .scratch)) (refusedTell d (t .memory) (t .scratch))
+
+abbrev pub stored : Dock → ℕ → Stepped → Told
+stored d p t = storedBy (t .outcome) d p t
 
 -- "Tell: 205, 208, 209"
 unfoldable pub tellOf : Dock → ℕ → ℕ → List ℕ → List ℕ → Told
 tellOf d p code memory scratch =
     pick (lentFits (d .buffers) (length memory) (length scratch))
-    (pick (ltb p 8) (tellAt d p code memory scratch) (refusedTell d memory scratch Slot))
+    (pick (ltb p 8)
+    (stored d p (toldAt (d .blockers) p (d .settings) (d .buffers) (stateAt d p) (vectorAt d p) code memory scratch))
+    (refusedTell d memory scratch Slot))
     (refusedTell d memory scratch Buffer)
 
 -- ---- collect

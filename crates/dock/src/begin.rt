@@ -2,8 +2,8 @@
 use crate::bytes::fill;
 use crate::dock::Dock;
 use crate::dock::SLOTS;
+use crate::dock::check_lent;
 use crate::dock::first_free;
-use crate::dock::lent;
 use crate::dock::meets;
 use crate::dock::meets_itself;
 use crate::open::vacant;
@@ -29,8 +29,7 @@ use vectors::vector::Alignment;
 use vectors::vector::IoVector;
 ghost use mathlib.Core.Path.{_≡_};
 ghost use lib.ListN.{length};
-ghost use Rattle.dock.specs.Begin.{InShare, begins, blockersWith, isAligned, readOf, writeOf, zeroesOf, discardOf, movedOf, planOf, beginOf};
-ghost use Rattle.dock.specs.Slots.{enters, enterAt, decidedOf, PlanInShare, unplaced, admits, admitAt};
+ghost use Rattle.dock.specs.Begin.{InShare, begins, blockersWith, isAligned, readOf, writeOf, zeroesOf, discardOf, movedOf, planOf, beginOf, enters, enterAt, decidedOf, PlanInShare, unplaced, admits, admitAt};
 ghost use Rattle.vectors.specs.Vectors.{alignmentOf};
 
 // What is asked of a begin: the job, and where on the store. A read and a write have the length of their vector, the others
@@ -136,7 +135,7 @@ fn is_aligned(v: IoVector, align: Alignments, data: Lent) -> bool
 }
 
 // The first stage of what is asked: 207 and 206, or no request to make.
-pub fn planned(asked: Asked, settings: Settings, buffers: Buffers) -> Plan
+pub fn plan_asked(asked: Asked, settings: Settings, buffers: Buffers) -> Plan
     ensures { λ p. ⌜ p ≡ planOf (asked .job) settings buffers (asked .offset) (asked .length) (asked .vector) ⌝ }
 {
     let job = asked.job;
@@ -153,7 +152,7 @@ pub fn planned(asked: Asked, settings: Settings, buffers: Buffers) -> Plan
 }
 
 // The plan, where nothing refuses it: 201 and 205 by what is lent, 202, the plan's own, 203, 204.
-pub fn decided(lent: Outcome, valid: bool, plan: Plan, met: bool, free: usize) -> Plan
+pub fn decide(lent: Outcome, valid: bool, plan: Plan, met: bool, free: usize) -> Plan
     ensures { λ p. ⌜ p ≡ decidedOf lent valid plan met free ⌝ }
 {
     if let Outcome::Refused(r) = lent {
@@ -275,10 +274,10 @@ impl Dock {
             met = met | meets(x, w, job, v);
             i += 1;
         }
-        let lent = lent(settings, buffers, data.len(), scratch.len());
+        let lent = check_lent(settings, buffers, data.len(), scratch.len());
         let free = first_free(self.states);
-        let plan = planned(asked, settings, buffers);
-        let plan = decided(lent, v.valid(data.len()), plan, met, free);
+        let first = plan_asked(asked, settings, buffers);
+        let plan = decide(lent, v.valid(data.len()), first, met, free);
         let admission = admit(self.blockers, free, settings.bounce, plan, v, data, scratch);
         let answer = admission.answer;
         let Begun::Placed(slot) = answer else {

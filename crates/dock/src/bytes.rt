@@ -1,5 +1,5 @@
 // What is copied between the data and a slot's share of the scratch.
-use crate::next::is_seated;
+use crate::next::is_sound_at;
 use arithmetic::refusals::Outcome;
 use arithmetic::refusals::Refusal;
 use arithmetic::settings::Buffers;
@@ -150,7 +150,7 @@ pub fn fill_share(
     if !is_bounced_write(phase) {
         return Outcome::Done;
     }
-    if !is_seated(slot, x, settings, buffers, scratch.len()) {
+    if !is_sound_at(slot, x, settings, buffers, scratch.len()) {
         return Outcome::Refused(Refusal::Slot);
     }
     let share = slot * settings.bounce as usize;
@@ -175,7 +175,7 @@ pub fn hand_out_share(
     if !read {
         return Outcome::Done;
     }
-    if !is_seated(slot, x, settings, buffers, scratch.len()) {
+    if !is_sound_at(slot, x, settings, buffers, scratch.len()) {
         return Outcome::Refused(Refusal::Slot);
     }
     let share = slot * settings.bounce as usize;

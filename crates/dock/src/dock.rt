@@ -32,7 +32,7 @@ pub fn lent_fits(b: Buffers, data_len: usize, scratch_len: usize) -> bool
 }
 
 // What a begin is lent: settings and buffers that opening accepts, with their lengths of opening.
-pub fn lent(s: Settings, b: Buffers, data_len: usize, scratch_len: usize) -> Outcome
+pub fn check_lent(s: Settings, b: Buffers, data_len: usize, scratch_len: usize) -> Outcome
     ensures { λ r. ⌜ r ≡ lentOf s b data_len «scratch_len» ⌝ }
 {
     match opening(s, b) {

@@ -20,7 +20,7 @@ ghost use Prim.Native.Nat.{_+_, _<_, _^_};
 ghost use lib.ListN.{length};
 ghost use Rattle.stages.specs.Stages.{isSound};
 ghost use Rattle.dock.specs.Dock.{isOutBy};
-ghost use Rattle.dock.specs.Next.{dueIn, nextOf, isKeptBy, isSeated, inScratch, inData, pieceBy, pieceIn, pieceAt, pieceOf, partOf, bytesAt, pieceBytes};
+ghost use Rattle.dock.specs.Next.{dueIn, nextOf, isSoundIn, isSoundAt, inScratch, inData, pieceBy, pieceIn, pieceAt, pieceOf, partOf, bytesAt, pieceBytes};
 
 // What next tells.
 pub enum Due {
@@ -52,25 +52,25 @@ pub fn is_out(b: Blockers, x: State, slot: usize) -> bool
 }
 
 // Whether the job x is one that a call made: its bytes lie in its share, the shares in the scratch.
-pub fn is_kept(x: State, settings: Settings, buffers: Buffers) -> bool
-    ensures { λ t. ⌜ t ≡ isKeptBy x settings buffers ⌝ }
+pub fn is_sound_in(x: State, settings: Settings, buffers: Buffers) -> bool
+    ensures { λ t. ⌜ t ≡ isSoundIn x settings buffers ⌝ }
 {
     let scratch = buffers.scratch;
-    x.sound(settings.bounce) & (settings.bounce <= scratch.length / 8)
+    x.is_sound(settings.bounce) & (settings.bounce <= scratch.length / 8)
 }
 
 // Whether the job x is one that a call made, and its share, that of `slot`, lies in a scratch of `scratch_len` bytes.
-pub fn is_seated(
+pub fn is_sound_at(
     slot: usize,
     x: State,
     settings: Settings,
     buffers: Buffers,
     scratch_len: usize,
 ) -> bool
-    ensures { λ t. ⌜ t ≡ isSeated slot x settings buffers «scratch_len» ⌝ }
+    ensures { λ t. ⌜ t ≡ isSoundAt slot x settings buffers «scratch_len» ⌝ }
 {
     let scratch = buffers.scratch;
-    (slot < SLOTS) & is_kept(x, settings, buffers) & (scratch_len as u64 == scratch.length)
+    (slot < SLOTS) & is_sound_in(x, settings, buffers) & (scratch_len as u64 == scratch.length)
 }
 
 // What the job x needs now, which waits or not and whose vector has `count` segments.
@@ -177,7 +177,7 @@ pub fn piece_in(
     if SLOTS <= slot {
         return Piece::Refused(Refusal::Slot);
     }
-    if !is_kept(x, settings, buffers) {
+    if !is_sound_in(x, settings, buffers) {
         return Piece::Refused(Refusal::Slot);
     }
     let share = slot as u64 * settings.bounce;

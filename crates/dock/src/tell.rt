@@ -5,8 +5,8 @@ use crate::bytes::hand_out;
 use crate::dock::Dock;
 use crate::dock::SLOTS;
 use crate::dock::lent_fits;
-use crate::next::is_kept;
 use crate::next::is_out;
+use crate::next::is_sound_in;
 use crate::open::vacant;
 use arithmetic::refusals::Outcome;
 use arithmetic::refusals::Refusal;
@@ -24,8 +24,7 @@ ghost use mathlib.Core.Bool.{true};
 ghost use Prim.Native.Nat.{_<_};
 ghost use lib.ListN.{length};
 ghost use Rattle.dock.specs.Begin.{InShare};
-ghost use Rattle.dock.specs.Tell.{tells, blockersWithout, tellOf, collectOf};
-ghost use Rattle.dock.specs.Slots.{steps, StepInShare, unstepped, staysAt, endsAt, entersAt, steppedAt, answeredOf, toldAt};
+ghost use Rattle.dock.specs.Tell.{tells, blockersWithout, tellOf, collectOf, steps, StepInShare, unstepped, staysAt, endsAt, entersAt, steppedAt, answeredOf, toldAt};
 ghost use Rattle.dock.specs.Dock.{lentFits};
 
 pub struct Telling {
@@ -210,7 +209,7 @@ fn told_at(
     if !is_out(b, x, slot) {
         return unstepped(b, x, Refusal::Slot);
     }
-    if !is_kept(x, settings, buffers) {
+    if !is_sound_in(x, settings, buffers) {
         return unstepped(b, x, Refusal::Slot);
     }
     let answer = told(x, settings, code);

@@ -29,11 +29,12 @@ use Rattle.stages.specs.declared.state.Course.{Course}
 use Rattle.stages.specs.declared.state.Course.the-variants.{Last, Middle, Head, Chunks}
 use Rattle.stages.specs.declared.state.State.{State}
 use Rattle.dock.specs.Dock.{noState, noVector, stateAt, vectorAt, isReadJob, meetsOf, meetsAt, overlapsOf, firstFree}
-use Rattle.dock.specs.Begin.{isWriteJob, isBouncedWrite, sourceOf, sourceFits, mergedAt, filled, placed}
+use Rattle.dock.specs.Begin.{isWriteJob, isBouncedWrite, sourceOf, sourceFits, mergedAt, filled}
+use Rattle.dock.specs.SlotLaws.{lowest-free}
 use Rattle.dock.specs.declared.dock.Dock.{Dock}
 use Rattle.dock.specs.declared.begin.Asked.{Asked}
 use Rattle.histories.specs.Courses.{isZeroJob, bounces, isRegular, suited, never}
-use Rattle.histories.specs.Calls.{Ready, free-idle, write-vector, copied, first-free, free-there, place-held}
+use Rattle.histories.specs.Calls.{Ready, free-idle, write-vector, copied, placed, free-there, place-held}
 use Rattle.histories.specs.MadeLaws.{data-long}
 use Rattle.histories.specs.Store.{Bytes}
 use Rattle.histories.specs.PlainStore.{Tracked, Plain, newBytes, putJob}
@@ -141,11 +142,10 @@ module _ (n p : ℕ) (h : p < 8) (x : State) (v : IoVector) (memory scratch : Li
 -- ---- the job comes to its slot
 
 -- what a begin's plan and its vector give
-pub record Start (d : Dock) (q : Asked) (j : Job) (v : IoVector) (x : State) : Type 0 where
+pub record Start (d : Dock) (q : Asked) (v : IoVector) (x : State) : Type 0 where
   pub asked : AskedFor q x v
   pub ready : Ready (d .settings) (d .buffers .«data» .length) v x
   pub shaped : Shaped x
-  pub reads : isReadJob (x .job) ≡ isReadJob j
   pub before : isZeroJob (x .job) ≡ true → Before (x .course) (x .stage .asked) (x .range) (x .middle) []
 
 pub bounced-puts : (x : State) (ph : Phase) → x .phase ≡ ph → isRegular x ≡ true → isBouncedWrite ph ≡ true → isWriteJob (x .job) ≡ true ⊎ isZeroJob (x .job) ≡ true
@@ -189,12 +189,15 @@ opened-fact s memory sh x v j g u p f = by (x .phase) refl u p f
     by ZeroRequest e u p f = λ c. no c
     by DiscardRequest e u p f = tt
 
-module _ (w : World) (m : Plain) (I : Inv w m) (ask : Asked) (j : Job) (v : IoVector) (x : State) (k : Start (w .dock) ask j v x) (clear : overlapsOf (w .dock .states) (w .dock .vectors) j v ≡ false) (h : firstFree (w .dock .states) < 8) where
+module _ (w : World) (m : Plain) (I : Inv w m) (ask : Asked) (v : IoVector) (x : State) (k : Start (w .dock) ask v x) (clear : overlapsOf (w .dock .states) (w .dock .vectors) (ask .job) v ≡ false) (h : firstFree (w .dock .states) < 8) where
   abbrev d : Dock
   d = w .dock
 
   abbrev p : ℕ
   p = firstFree (w .dock .states)
+
+  abbrev j : Job
+  j = ask .job
 
   -- the vector's bytes, as the plain byte store is fed them
   abbrev bs : List ℕ
@@ -213,7 +216,7 @@ module _ (w : World) (m : Plain) (I : Inv w m) (ask : Asked) (j : Job) (v : IoVe
   long = data-long (d .buffers) (length (w .memory)) (length (w .scratch)) (I .long)
 
   was-free : isFree (stateAt d p .phase) ≡ true
-  was-free = first-free (d .states) (rw (I .held .states) h)
+  was-free = lowest-free (d .states) (rw (I .held .states) h)
 
   not-carried : w .carried p ≡ none
   not-carried = I .slots p h .idle (free-idle (stateAt d p .phase) was-free)
@@ -289,5 +292,5 @@ module _ (w : World) (m : Plain) (I : Inv w m) (ask : Asked) (j : Job) (v : IoVe
       (place-held d (I .held) v (w .memory) (w .scratch) long x (k .ready) h)
       (rw (fill-length (d .settings .bounce) p h x v (w .memory) (w .scratch) (room w m I) inside fits) (I .long))
       (I .same) own
-      (λ q g n f u r. rw is-v (apart-of q g u (rw (is-x, k .reads) at r)))
-      (λ f r. rw is-v (alone-of (rw (is-x, k .reads) at r)))
+      (λ q g n f u r. rw is-v (apart-of q g u (rw (is-x, sym (k .asked .job)) at r)))
+      (λ f r. rw is-v (alone-of (rw (is-x, sym (k .asked .job)) at r)))

@@ -33,7 +33,7 @@ use Rattle.dock.specs.declared.next.Due.the-variants.{Waiting, Make, Answer, Re
 use Rattle.dock.specs.declared.next.Piece.{Piece}
 use Rattle.dock.specs.declared.next.Piece.the-variants.{InData, InScratch}
 use Rattle.histories.specs.Courses.{hasVector, never}
-use Rattle.histories.specs.MadeLaws.{kept-held}
+use Rattle.histories.specs.MadeLaws.{sound-held}
 use Rattle.histories.specs.Store.{Bytes, piecesFrom, gathered, landed}
 use Rattle.histories.specs.PlainStore.{Did, Tracked, Plain, putJob, putBytes, withSteps}
 use Rattle.histories.specs.Histories.{World, unless, made, outIn, putBy, acted}
@@ -107,7 +107,7 @@ module _ (w : World) (m : Plain) (I : Inv w m) (p : ℕ) (q : Request) (O : Out 
 
   piece-is : (i : ℕ) → pieceOf (w .dock) p i (length (w .memory)) (length (w .scratch)) ≡ pieceBy (x .phase) (shareAt (w .dock) p) i (length (w .memory)) x v
   unfolding pieceOf isOut isOutBy
-  piece-is i = simp (I .long, lt-ltb p 8 (O .slot), O .pending, O .free, kept-held (w .dock) (I .held) p (O .slot))
+  piece-is i = simp (I .long, lt-ltb p 8 (O .slot), O .pending, O .free, sound-held (w .dock) (I .held) p (O .slot))
 
   -- a piece of the share
   pub scratch-piece : (ph : Phase) (a n : ℕ) → x .phase ≡ ph → ((i k : ℕ) → pieceBy ph (shareAt (w .dock) p) i k x v ≡ inScratch i a n) → 0 < n

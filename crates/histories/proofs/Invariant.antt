@@ -15,7 +15,7 @@ use Rattle.arithmetic.specs.declared.settings.Settings.{Settings}
 use Rattle.vectors.specs.Vectors.{segmentsOf, bytesOf}
 use Rattle.vectors.specs.declared.vector.IoVector.{IoVector}
 use Rattle.stages.specs.Stages.{sizeOf, isPending, isBlocking, usesBounce, secondAt, liesIn, isSound}
-use Rattle.stages.specs.Laws.{Placed}
+use Rattle.stages.specs.Laws.{OnStore}
 use Rattle.stages.specs.declared.state.Job.{Job}
 use Rattle.stages.specs.declared.state.Job.the-variants.{Read, Write, Zeroes, AllocatedZeroes, Discard}
 use Rattle.stages.specs.declared.state.Phase.{Phase}
@@ -127,7 +127,7 @@ owed-frame AllocatedZeroes r v j memory memory' e o = o
 owed-frame Discard r v j memory memory' e o = o
 
 module _ (t : Settings) (s s' : Bytes) (memory memory' : List ℕ) (sh sh' : ℕ → ℕ) (x : State) (v : IoVector) (car : Option ℕ) (wait wait' : Bool) (j : Tracked)
-    (sound : isSound (t .bounce) x ≡ true) (placed : isPending (x .phase) ≡ true → Placed (x .stage)) (regular : isRegular x ≡ true)
+    (sound : isSound (t .bounce) x ≡ true) (on-store : isPending (x .phase) ≡ true → OnStore (x .stage)) (regular : isRegular x ≡ true)
     (data-same : hasVector (x .job) ≡ true → bytesOf memory' (segmentsOf v) ≡ bytesOf memory (segmentsOf v))
     (share-same : (i : ℕ) → i < t .bounce → sh' i ≡ sh i)
     (store-same : wait ≡ false → x .stage .strong ≡ true → isBlocking (x .phase) ≡ true → (i : ℕ) → i < sizeOf (x .stage .request) → s' (x .stage .request .start .0 + i) ≡ s (x .stage .request .start .0 + i))
@@ -142,7 +142,7 @@ module _ (t : Settings) (s s' : Bytes) (memory memory' : List ℕ) (sh sh' : ℕ
       go false true e f = sym (store-same e f p i h)
       go false false e f = absurd (b f)
 
-  first-within : Placed (x .stage) → (i : ℕ) → i < sizeOf (x .stage .first) → i < sizeOf (x .stage .request)
+  first-within : OnStore (x .stage) → (i : ℕ) → i < sizeOf (x .stage .first) → i < sizeOf (x .stage .request)
   first-within k i h = omega (arith, k .first-starts (omega arith), k .first-ends (omega arith))
 
   by-phase : (ph : Phase) → x .phase ≡ ph → Fact ph s memory sh x v car j → Fact ph s' memory' sh' x v car j
@@ -158,14 +158,14 @@ module _ (t : Settings) (s s' : Bytes) (memory memory' : List ℕ) (sh sh' : ℕ
       w = within (t .bounce) x sound (ap usesBounce e)
   by-phase FirstRead e f = λ c i h.
       share-same i (omega (arith, w .first)) ∙ f c i h
-      ∙ agree (ap isBlocking e) i (first-within (placed (ap isPending e)) i h) (λ a. some-none car 0 (F .fresh a .0) c) (λ a. omega (arith, F .geo .weak a .2, h))
+      ∙ agree (ap isBlocking e) i (first-within (on-store (ap isPending e)) i h) (λ a. some-none car 0 (F .fresh a .0) c) (λ a. omega (arith, F .geo .weak a .2, h))
     where
       w : Within (t .bounce) (x .stage)
       w = within (t .bounce) x sound (ap usesBounce e)
   by-phase SecondRead e f = (
     λ c i h.
         share-same i (omega (arith, w .first)) ∙ f .0 c i h
-        ∙ agree (ap isBlocking e) i (first-within (placed (ap isPending e)) i h) (λ a. let z : sizeOf (x .stage .first) ≡ 0 = unread a in omega (arith, z, h)) (λ a. omega (arith, F .geo .weak a .2, h)),
+        ∙ agree (ap isBlocking e) i (first-within (on-store (ap isPending e)) i h) (λ a. let z : sizeOf (x .stage .first) ≡ 0 = unread a in omega (arith, z, h)) (λ a. omega (arith, F .geo .weak a .2, h)),
     λ c i h r.
         share-same i (omega (arith, w .size)) ∙ f .1 c i h r
         ∙ agree (ap isBlocking e) i h (λ a. some-none car 0 (F .fresh a .0) c) (λ a. ⊎-elim (λ l. omega (arith, F .geo .weak a .2, l)) (λ l. omega (arith, F .geo .weak a .3, l .0)) r),

@@ -24,7 +24,7 @@ use Rattle.vectors.specs.declared.vector.IoVector.{IoVector}
 use Rattle.blockers.specs.Blockers.{blockerAt, overlaps, waitsOf}
 use Rattle.blockers.specs.Laws.{free-apart}
 use Rattle.stages.specs.Stages.{sizeOf, isPending, isBlocking, usesBounce, zeroKind, request, requestBy, requestOf, secondAt}
-use Rattle.stages.specs.Laws.{Placed}
+use Rattle.stages.specs.Laws.{OnStore}
 use Rattle.stages.specs.declared.state.Job.{Job}
 use Rattle.stages.specs.declared.state.Job.the-variants.{Read, Write, Zeroes, AllocatedZeroes, Discard}
 use Rattle.stages.specs.declared.state.Kind.the-variants.{Read as KRead}
@@ -176,8 +176,8 @@ module _ (w : World) (m : Plain) (I : Inv w m) (p : ℕ) (q : Request) (O : Out 
   T : Tracks w m p
   T = I .slots p (O .slot) .tracks taken
 
-  place : Placed (x .stage)
-  place = S .placed (O .pending)
+  place : OnStore (x .stage)
+  place = S .on-store (O .pending)
 
   plain-is : (ph : Phase) → x .phase ≡ ph → carriedBy (m .jobs p) m p code c
       ≡ afterStep m p (stepBy ph code c x (m .bytes) (T .j))

@@ -28,7 +28,7 @@ use Rattle.vectors.specs.OverlapLaws.{overlap-sym, or-cases}
 use Rattle.vectors.specs.declared.vector.IoVector.{IoVector}
 use Rattle.blockers.specs.Blockers.{waitsOf}
 use Rattle.stages.specs.Stages.{sizeOf, isPending, isBlocking, usesBounce, inPhase, endedWith, laterStage, zeroesPlan, chunkBy, chunkNext, tailNext, headNext, stageDone, doneNext, unsupportedNext, toldOf}
-use Rattle.stages.specs.Laws.{Placed, Opens, Continues, Finishes, told-stays, told-ends, told-enters}
+use Rattle.stages.specs.Laws.{OnStore, Opens, Continues, Finishes, told-stays, told-ends, told-enters}
 use Rattle.stages.specs.declared.state.Job.{Job}
 use Rattle.stages.specs.declared.state.Job.the-variants.{Read, Write, Zeroes, AllocatedZeroes, Discard}
 use Rattle.stages.specs.declared.state.Phase.{Phase}
@@ -42,10 +42,10 @@ use Rattle.stages.specs.declared.told.Step.{Step}
 use Rattle.stages.specs.declared.told.Step.the-variants.{Stays, Ends, Enters}
 use Rattle.dock.specs.Dock.{noState, noVector, vacant, stateAt, vectorAt, lentFits, isReadJob}
 use Rattle.dock.specs.Begin.{isWriteJob, sourceOf, filled}
-use Rattle.dock.specs.Tell.{blockersWithout, copiedAt, isBouncedRead, handed, entered, after}
+use Rattle.dock.specs.Tell.{blockersWithout, copiedAt, isBouncedRead, handed}
 use Rattle.histories.specs.Courses.{isZeroJob, isDiscardJob, hasVector, isLast, isMiddle, bounces, suits, isRegular, suited, never, enters-regular}
 use Rattle.histories.specs.Held.{Held, SlotOf}
-use Rattle.histories.specs.Calls.{read-no-write, write-vector, read-vector, direct-reads, bounced-reads, pending-taken, copied, told-held}
+use Rattle.histories.specs.Calls.{read-no-write, write-vector, read-vector, direct-reads, bounced-reads, pending-taken, copied, told-held, entered, after}
 use Rattle.histories.specs.Keeping.{Changes, leave-changes}
 use Rattle.histories.specs.MadeLaws.{data-long}
 use Rattle.histories.specs.Store.{Bytes}
@@ -182,8 +182,8 @@ module _ (w : World) (m : Plain) (I : Inv w m) (p : ℕ) (h : p < 8) (pending : 
   pub T : Tracks w m p
   T = I .slots p h .tracks taken
 
-  place : Placed (x .stage)
-  place = S .placed pending
+  place : OnStore (x .stage)
+  place = S .on-store pending
 
   long : length (w .memory) ≡ w .dock .buffers .«data» .length
   long = data-long (w .dock .buffers) (length (w .memory)) (length (w .scratch)) (I .long)

@@ -39,8 +39,9 @@ use Rattle.blockers.specs.Blockers.{waitsOf}
 use Rattle.stages.specs.declared.told.Step.{Step}
 use Rattle.stages.specs.declared.told.Step.the-variants.{Stays, Ends, Enters}
 use Rattle.dock.specs.Dock.{stateAt, vectorAt, vacant, lentOf, isOutBy, isOut, overlapsOf, firstFree, isReadJob, openOf}
-use Rattle.dock.specs.Begin.{isAligned, Begins, withJob, placedAt, onlyIf, refusedBegin, vectorThen, begunBy, movedOf, planOf, vectorFor, planFor, beginOf}
-use Rattle.dock.specs.Tell.{Told, after, refusedTell, tellOf, collectOf}
+use Rattle.dock.specs.Begin.{isAligned, Begins, withJob, movedOf, planOf, vectorFor, planFor, decidedFor, beginOf}
+use Rattle.dock.specs.Tell.{Told, refusedTell, tellOf, collectOf}
+use Rattle.dock.specs.SlotLaws.{started}
 use Rattle.dock.specs.declared.dock.Dock.{Dock}
 use Rattle.dock.specs.declared.begin.Asked.{Asked}
 use Rattle.dock.specs.declared.begin.Begun.{Begun}
@@ -49,8 +50,8 @@ use Rattle.dock.specs.declared.tell.Collects.{Collects}
 use Rattle.dock.specs.declared.tell.Collected.{Collected}
 use Rattle.dock.specs.declared.tell.Collected.the-variants.{Final, Refused as NotCollected}
 use Rattle.histories.specs.Courses.{never}
-use Rattle.histories.specs.Calls.{starts-from, read-ready, write-ready, zero-ready, discard-ready, place-done}
-use Rattle.histories.specs.MadeLaws.{judgedAs, begin-is, data-long, tell-is}
+use Rattle.histories.specs.Calls.{starts-from, read-ready, write-ready, zero-ready, discard-ready, begunRule, after}
+use Rattle.histories.specs.MadeLaws.{begin-is, data-long, tell-is}
 use Rattle.histories.specs.Store.{Bytes, Choice}
 use Rattle.histories.specs.PlainStore.{rangeFor, Tracked, Plain, plainOpened, plainStep, entersBy, broughtBy, toldBy, tellBy, collectBy}
 use Rattle.histories.specs.Histories.{Lends, Event, begins, carries, tells, collects, World, opened, called, fitsLent, afterBegin, told, afterTell, afterCollect, outIn, afterCarry, step, carryItem, fed, LentOf, CodeOf, HandsIn, Allowed, Lawful, OwedBy, OwedTo, Owed, Claim, EveryList}
@@ -82,10 +83,6 @@ zero-before s fit t o n = by (zeroCutOf (s .align) o n)
     by (Split c) = tt
     by (CutRefused r) = tt
 
-zero-reads : (t : Bool) → isReadJob (zeroJob t) ≡ false
-zero-reads true = refl
-zero-reads false = refl
-
 module _ (d : Dock) (fit : settingsFit (d .settings) ≡ true) (o : StoreOffset) where
   abbrev M : ℕ
   M = d .buffers .«data» .length
@@ -96,45 +93,41 @@ module _ (d : Dock) (fit : settingsFit (d .settings) ≡ true) (o : StoreOffset)
   abbrev ask : Job → ℕ → IoVector → Asked
   ask j n v = record { job = j; offset = o; length = n; vector = v }
 
-  zero-start : (t : Bool) (n : ℕ) (q : Asked) → q .job ≡ zeroJob t → rangeFor q ≡ asked o n → vectorFor q ≡ vectorOf [] → Starts (Start d q Zeroes (vectorOf [])) (zeroPlan (d .settings) t o n)
-  zero-start t n q a b c = starts-from (Start d q Zeroes (vectorOf [])) (zeroPlan (d .settings) t o n) (λ x i.
+  zero-start : (t : Bool) (n : ℕ) (q : Asked) → q .job ≡ zeroJob t → rangeFor q ≡ asked o n → vectorFor q ≡ vectorOf [] → Starts (Start d q (vectorOf [])) (zeroPlan (d .settings) t o n)
+  zero-start t n q a b c = starts-from (Start d q (vectorOf [])) (zeroPlan (d .settings) t o n) (λ x i.
       let k = zero-opens (d .settings) o n t x i in
       record {
         asked = record { job = a ∙ sym (k .job); range = b ∙ sym (k .range); vector = c };
         ready = rw i at (zero-ready (d .settings) M o (vectorOf []) t n);
         shaped = rw i at (zero-shaped (d .settings) fit t o n);
-        reads = ap isReadJob (k .job) ∙ zero-reads t;
         before = λ z. rw i at (zero-before (d .settings) fit t o n);
       })
 
-  starts : (j : Job) (n : ℕ) (v : IoVector) → isValid M (movedOf j v) ≡ true → Starts (Start d (ask j n v) (judgedAs j) (movedOf j v)) (planOf j (d .settings) (d .buffers) o n v)
-  starts Read n v e = starts-from (Start d (ask Read n v) Read v) (readPlan (d .settings) o (v .total) (al v)) (λ x i.
+  starts : (j : Job) (n : ℕ) (v : IoVector) → isValid M (movedOf j v) ≡ true → Starts (Start d (ask j n v) (movedOf j v)) (planOf j (d .settings) (d .buffers) o n v)
+  starts Read n v e = starts-from (Start d (ask Read n v) v) (readPlan (d .settings) o (v .total) (al v)) (λ x i.
       let k = read-opens (d .settings) o (v .total) (al v) x i in
       record {
         asked = record { job = sym (k .job); range = sym (k .range); vector = refl };
         ready = rw i at (read-ready (d .settings) M o v e (al v));
         shaped = rw i at (read-shaped (d .settings) fit o (v .total) (al v));
-        reads = ap isReadJob (k .job);
         before = λ z. never (rw (k .job) at z);
       })
-  starts Write n v e = starts-from (Start d (ask Write n v) Write v) (writePlan (d .settings) o (v .total) (al v)) (λ x i.
+  starts Write n v e = starts-from (Start d (ask Write n v) v) (writePlan (d .settings) o (v .total) (al v)) (λ x i.
       let k = write-opens (d .settings) o (v .total) (al v) x i in
       record {
         asked = record { job = sym (k .job); range = sym (k .range); vector = refl };
         ready = rw i at (write-ready (d .settings) M o v e (al v));
         shaped = rw i at (write-shaped (d .settings) fit o (v .total) (al v));
-        reads = ap isReadJob (k .job);
         before = λ z. never (rw (k .job) at z);
       })
   starts Zeroes n v e = zero-start false n (ask Zeroes n v) refl refl refl
   starts AllocatedZeroes n v e = zero-start true n (ask AllocatedZeroes n v) refl refl refl
-  starts Discard n v e = starts-from (Start d (ask Discard n v) Discard (vectorOf [])) (discardPlan (d .settings) o n) (λ x i.
+  starts Discard n v e = starts-from (Start d (ask Discard n v) (vectorOf [])) (discardPlan (d .settings) o n) (λ x i.
       let k = discard-opens (d .settings) o n x i in
       record {
         asked = record { job = sym (k .job); range = sym (k .range); vector = refl };
         ready = rw i at (discard-ready (d .settings) M o (vectorOf []) n);
         shaped = rw i at (discard-shaped (d .settings) fit o n);
-        reads = ap isReadJob (k .job);
         before = λ z. never (rw (k .job) at z);
       })
 
@@ -151,44 +144,28 @@ module _ (w : World) (m : Plain) (I : Inv w m) where
   abbrev Keeps : Asked → Begins → Plan → List ℕ → Type 0
   Keeps q b plan bs = Inv (begunWorld w b) (entersBy (b .answer) m q bs plan)
 
-  -- a planned job
-  begun-keeps : (q : Asked) (j : Job) (v : IoVector) (plan : Plan) → Starts (Start (w .dock) q j v) plan
-      → Keeps q (begunBy (w .dock) j v (w .memory) (w .scratch) plan) plan (bytesOf (w .memory) (segmentsOf v))
-  begun-keeps q j v NothingToDo k = I
-  begun-keeps q j v (PlanRefused r) k = I
-  begun-keeps q j v (Started x) k = go (overlapsOf (w .dock .states) (w .dock .vectors) j v) (ltb (firstFree (w .dock .states)) 8) refl refl
-    where
-      p : ℕ
-      p = firstFree (w .dock .states)
-
-      go : (a b : Bool) → overlapsOf (w .dock .states) (w .dock .vectors) j v ≡ a → ltb (firstFree (w .dock .states)) 8 ≡ b
-          → Keeps q (pick a (refusedBegin (w .dock) (w .scratch) Overlap) (pick b (placedAt (w .dock) p x v (w .memory) (w .scratch)) (refusedBegin (w .dock) (w .scratch) Full))) (Started x) (bytesOf (w .memory) (segmentsOf v))
-      go true b e f = I
-      go false true e f =
-          let h = ltb-true (firstFree (w .dock .states)) 8 f in
-          subst (λ (z : Begins). Keeps q z (Started x) (bytesOf (w .memory) (segmentsOf v))) (sym (place-done (w .dock) (I .held) v (w .memory) (w .scratch) long x (k .ready) h)) (begun-inv w m I q j v x k e h)
-      go false false e f = I
-
-  lent-ok : lentOf (w .dock .settings) (w .dock .buffers) (length (w .memory)) (length (w .scratch)) ≡ Done
-  unfolding lentOf
-  lent-ok = simp (I .held .opened, I .long)
-
-  -- 205, 202, then the plan
   begin-keeps : (q : Asked) → Keeps q (beginOf (w .dock) q (w .memory) (w .scratch)) (planFor (w .dock .settings) (w .dock .buffers) q) (broughtBy q (w .memory))
-  begin-keeps q = subst (λ (b : Begins). Keeps q b (planFor (w .dock .settings) (w .dock .buffers) q) (broughtBy q (w .memory))) (sym (begin-is (w .dock) q (w .memory) (w .scratch)))
-      (subst (λ (o : Outcome). Keeps q (onlyIf (w .dock) (w .scratch) o (past (isValid (length (w .memory)) (vectorFor q)))) (planFor (w .dock .settings) (w .dock .buffers) q) (broughtBy q (w .memory))) (sym lent-ok) (go (isValid (length (w .memory)) (vectorFor q)) refl))
+  begin-keeps q =
+      subst (λ (b : Begins). Keeps q b (planFor (w .dock .settings) (w .dock .buffers) q) (broughtBy q (w .memory))) (sym (begin-is (w .dock) (I .held) q (w .memory) (w .scratch)))
+      (go (decidedFor (w .dock) q (length (w .memory)) (length (w .scratch))) refl)
     where
-      past : Bool → Begins
-      past t = pick t (begunBy (w .dock) (judgedAs (q .job)) (vectorFor q) (w .memory) (w .scratch) (planFor (w .dock .settings) (w .dock .buffers) q)) (refusedBegin (w .dock) (w .scratch) Segment)
-
-      go : (t : Bool) → isValid (length (w .memory)) (vectorFor q) ≡ t → Keeps q (past t) (planFor (w .dock .settings) (w .dock .buffers) q) (broughtBy q (w .memory))
-      go true e = begun-keeps q (judgedAs (q .job)) (vectorFor q) (planFor (w .dock .settings) (w .dock .buffers) q) (starts (w .dock) fits (q .offset) (q .job) (q .length) (q .vector) (rw long at e))
-      go false e = I
+      go : (z : Plan) → decidedFor (w .dock) q (length (w .memory)) (length (w .scratch)) ≡ z
+          → Keeps q (begunRule (w .dock) (vectorFor q) (w .memory) (w .scratch) z) (planFor (w .dock .settings) (w .dock .buffers) q) (broughtBy q (w .memory))
+      go NothingToDo e = I
+      go (PlanRefused r) e = I
+      go (Started x) e =
+          let k =
+          started (lentOf (w .dock .settings) (w .dock .buffers) (length (w .memory)) (length (w .scratch))) (isValid (length (w .memory)) (vectorFor q))
+          (planFor (w .dock .settings) (w .dock .buffers) q) (overlapsOf (w .dock .states) (w .dock .vectors) (q .job) (vectorFor q)) (firstFree (w .dock .states)) x e in
+          let f : Start (w .dock) q (vectorFor q) x = rw (k .planned) at (starts (w .dock) fits (q .offset) (q .job) (q .length) (q .vector) (rw long at (k .valid))) in
+          subst (λ (u : Plan). Keeps q (begunRule (w .dock) (vectorFor q) (w .memory) (w .scratch) (Started x)) u (broughtBy q (w .memory))) (sym (k .planned))
+          (begun-inv w m I q (vectorFor q) x f (k .apart) (k .slot))
 
 -- ---- an event
 
 begin-refused : (d : Dock) (memory scratch : List ℕ) (q : Asked) → lentOf (d .settings) (d .buffers) (length memory) (length scratch) ≡ Refused Buffer → beginOf d q memory scratch .answer ≡ BeginRefused Buffer
-begin-refused d memory scratch q e = ap (λ (b : Begins). b .answer) (begin-is d q memory scratch) ∙ ap (λ (o : Outcome). onlyIf d scratch o (vectorThen d (vectorFor q) memory scratch (begunBy d (judgedAs (q .job)) (vectorFor q) memory scratch (planFor (d .settings) (d .buffers) q))) .answer) e
+unfolding beginOf
+begin-refused d memory scratch q e = simp e
 
 after-done : (d : Dock) (p : ℕ) (x : State) (code : ℕ) (memory scratch : List ℕ) (t : Step) → after d p x code memory scratch t .outcome ≡ Done
 after-done d p x code memory scratch (Stays y) = refl

@@ -105,7 +105,7 @@ module _ (w w' : World) (m m' : Plain) (I : Inv w m) (q : ℕ) (h : q < 8)
             rw (settings, state, vector, carried)
             (flight-frame (w .dock .settings) (w .store) (w' .store) (w .memory) (w' .memory) (share (w .scratch) (w .dock .settings .bounce) q) (share (w' .scratch) (w .dock .settings .bounce) q)
             (stateAt (w .dock) q) (vectorAt (w .dock) q) (w .carried q) (waitsOf q (w .dock .blockers)) (waitsOf q (w' .dock .blockers)) (k .j)
-            (S .sound) (S .placed) (S .regular) (data-same f) share-same store-same wait-less (k .flight));
+            (S .sound) (S .on-store) (S .regular) (data-same f) share-same store-same wait-less (k .flight));
       }
 
   pub slot-frame : SlotInv w' m' q

@@ -7,6 +7,7 @@ use mathlib.Core.Option.{Option, none, some}
 use Prim.Native.Nat.{ℕ}
 use lib.Dec.{eqb}
 use borrow.Author.Tests.{eqb-true}
+use Rattle.arithmetic.specs.Refusals.{isDone}
 use Rattle.arithmetic.specs.SettingsLaws.{and-left, and-right}
 use Rattle.arithmetic.specs.declared.refusals.Outcome.{Outcome}
 use Rattle.arithmetic.specs.declared.refusals.Outcome.the-variants.{Done, Refused}
@@ -50,10 +51,6 @@ run w m [] = record { real = w; plain = m }
 run w m (a ∷ rest) = run (step w (eventOf w a)) (plainStep m (fed w (eventOf w a))) rest
 
 -- ---- which acts a state allows
-
-abbrev pub isDone : Outcome → Bool
-isDone Done = true
-isDone (Refused r) = false
 
 abbrev pub isCode : Option ℕ → ℕ → Bool
 isCode none code = false

@@ -4,13 +4,13 @@ use mathlib.Core.Bool.{Bool, true, false, _&&_}
 use mathlib.Core.List.{List, [], _∷_}
 use Prim.Native.Nat.{ℕ, suc, _+_, _-_, _<_}
 use native.Mathlib.Omega.{arith}
-use lib.Dec.{ltb, eqb}
+use lib.Dec.{eqb}
 use lib.ListN.{length, getD, set, length-set}
 use lib.Seq.{getD-set-same, getD-set-other}
-use borrow.Author.Tests.{ltb-true, eq-eqb}
+use borrow.Author.Tests.{eq-eqb}
 use Rattle.arithmetic.specs.Rounding.{pick}
 use Rattle.arithmetic.specs.SettingsLaws.{and-right}
-use Rattle.arithmetic.specs.declared.refusals.Refusal.the-variants.{Overlap, Full}
+use Rattle.arithmetic.specs.declared.refusals.Outcome.{Outcome}
 use Rattle.arithmetic.specs.declared.refusals.Outcome.the-variants.{Done}
 use Rattle.arithmetic.specs.declared.offsets.StoreOffset.{StoreOffset}
 use Rattle.arithmetic.specs.declared.offsets.Range.{Range}
@@ -21,7 +21,7 @@ use Rattle.vectors.specs.declared.vector.IoVector.{IoVector}
 use Rattle.blockers.specs.Blockers.{isEntered, blockerAt}
 use Rattle.stages.specs.Stages.{sizeOf, isFree, hasEnded, isPending, isBlocking, isSound, asked, readPlan, writePlan, zeroJob, zeroPlan}
 use Rattle.stages.specs.Stages.{discardPlan, toldOf}
-use Rattle.stages.specs.Laws.{Placed, Opens, Starts, read-opens, write-opens, zero-opens, discard-opens, Continues, Finishes, told-stays}
+use Rattle.stages.specs.Laws.{OnStore, Opens, Starts, read-opens, write-opens, zero-opens, discard-opens, Continues, Finishes, told-stays}
 use Rattle.stages.specs.Laws.{told-ends, told-enters}
 use Rattle.stages.specs.declared.state.Job.{Job}
 use Rattle.stages.specs.declared.state.Job.the-variants.{Read, Write, Zeroes, AllocatedZeroes, Discard}
@@ -33,12 +33,14 @@ use Rattle.stages.specs.declared.plan.Plan.{Plan}
 use Rattle.stages.specs.declared.plan.Plan.the-variants.{Done as NothingToDo, Started, Refused as PlanRefused}
 use Rattle.stages.specs.declared.told.Step.{Step}
 use Rattle.stages.specs.declared.told.Step.the-variants.{Stays, Ends, Enters}
-use Rattle.dock.specs.Dock.{noState, noVector, vacant, stateAt, vectorAt, shareAt, isReadJob, overlapsOf, firstFree}
-use Rattle.dock.specs.Begin.{isWriteJob, isBouncedWrite, sourceFits, mergedAt, filled, blockersWith, withJob, Begins, placed, placedAt}
-use Rattle.dock.specs.Begin.{refusedBegin, begunBy, isAligned, movedOf, planOf}
-use Rattle.dock.specs.Tell.{blockersWithout, copiedAt, isBouncedRead, handed, stayed, ended, entered, staysOf, endsOf, entersOf, stepped}
-use Rattle.dock.specs.Tell.{after}
+use Rattle.dock.specs.Dock.{noState, noVector, vacant, stateAt, vectorAt, shareAt, isReadJob, firstFree}
+use Rattle.dock.specs.Begin.{isWriteJob, isBouncedWrite, sourceFits, mergedAt, filled, blockersWith, enterAt, admitAt, withJob}
+use Rattle.dock.specs.Begin.{Begins, seated, isAligned, movedOf, planOf}
+use Rattle.dock.specs.Tell.{blockersWithout, copiedAt, isBouncedRead, handed, staysAt, endsAt, entersAt, steppedAt}
+use Rattle.dock.specs.Tell.{Told, tells, accepted, storedBy, stored}
+use Rattle.dock.specs.SlotLaws.{lowest-free}
 use Rattle.dock.specs.declared.dock.Dock.{Dock}
+use Rattle.dock.specs.declared.begin.Begun.the-variants.{Done as NoRequest, Placed, Refused as BeginRefused}
 use Rattle.histories.specs.Courses.{isZeroJob, hasVector, isLast, isRegular, suited, never, Sole, read-regular, write-regular}
 use Rattle.histories.specs.Courses.{zero-regular, discard-regular, Goes, stays-regular, enters-regular}
 use Rattle.histories.specs.Held.{SlotOf, Held}
@@ -179,7 +181,7 @@ handed-done share x code v memory scratch f = go (isBouncedRead (x .phase)) (eqb
 pub record Ready (s : Settings) (m : ℕ) (v : IoVector) (x : State) : Type 0 where
   pub sound : isSound (s .bounce) x ≡ true
   pub pending : isPending (x .phase) ≡ true
-  pub placed : Placed (x .stage)
+  pub on-store : OnStore (x .stage)
   pub regular : isRegular x ≡ true
   pub vector : hasVector (x .job) ≡ true → (x .stage .asked ≡ x .range) × (isValid m v ≡ true) × (v .total ≡ sizeOf (x .range))
 
@@ -194,7 +196,7 @@ module _ (s : Settings) (m : ℕ) (o : StoreOffset) where
   vector-ready j v x e k l = record {
     sound = k .sound;
     pending = k .pending;
-    placed = k .placed;
+    on-store = k .on-store;
     regular = l .0;
     vector = λ u. (l .1, e, rw (k .range) (omega arith));
   }
@@ -213,7 +215,7 @@ module _ (s : Settings) (m : ℕ) (o : StoreOffset) where
   -- a job without one
   bare-ready : (j : Job) (w : Range) (v : IoVector) (x : State) → hasVector j ≡ false → Opens s j w x → isRegular x ≡ true → Ready s m v x
   bare-ready j w v x n k l =
-      record { sound = k .sound; pending = k .pending; placed = k .placed; regular = l; vector = λ u. never (sym n ∙ (rw (k .job) at u)) }
+      record { sound = k .sound; pending = k .pending; on-store = k .on-store; regular = l; vector = λ u. never (sym n ∙ (rw (k .job) at u)) }
 
   zero-bare : (t : Bool) → hasVector (zeroJob t) ≡ false
   zero-bare true = refl
@@ -238,17 +240,20 @@ module _ (s : Settings) (m : ℕ) (o : StoreOffset) where
   planned-ready b AllocatedZeroes n v e = zero-ready (vectorOf []) true n
   planned-ready b Discard n v e = discard-ready (vectorOf []) n
 
--- the lowest free slot is free
-pub first-free : (xs : List State) → firstFree xs < length xs → isFree (getD xs (firstFree xs) noState .phase) ≡ true
-unfolding firstFree
-first-free [] h = absurd (omega arith)
-first-free (x ∷ xs) h = go (isFree (x .phase)) refl h (λ l. first-free xs l)
-  where
-    go : (t : Bool) → isFree (x .phase) ≡ t → pick t 0 (suc (firstFree xs)) < suc (length xs)
-        → (firstFree xs < length xs → isFree (getD xs (firstFree xs) noState .phase) ≡ true)
-        → isFree (getD (x ∷ xs) (pick t 0 (suc (firstFree xs))) noState .phase) ≡ true
-    go true e h f = e
-    go false e h f = f (omega arith)
+-- the job x with the vector v comes to slot p: its blocker enters, its scratch is filled
+abbrev pub placed : Dock → ℕ → State → IoVector → List ℕ → List ℕ → Begins
+placed d p x v memory scratch =
+    record {
+      dock = withJob d p (blockersWith (d .blockers) p x .blockers) x v;
+      answer = Placed p;
+      scratch = filled (shareAt d p) x v memory scratch .scratch;
+    }
+
+-- a begin by its decided plan, in the lowest free slot
+abbrev pub begunRule : Dock → IoVector → List ℕ → List ℕ → Plan → Begins
+begunRule d v memory scratch NothingToDo = record { dock = d; answer = NoRequest; scratch = scratch }
+begunRule d v memory scratch (PlanRefused r) = record { dock = d; answer = BeginRefused r; scratch = scratch }
+begunRule d v memory scratch (Started x) = placed d (firstFree (d .states)) x v memory scratch
 
 module _ (d : Dock) (H : Held d) where
   abbrev N : ℕ
@@ -263,7 +268,7 @@ module _ (d : Dock) (H : Held d) where
       p = firstFree (d .states)
 
       pub free-there : isEntered (blockerAt (d .blockers) p) ≡ false
-      free-there = H .slots p h .entered ∙ free-unblocked (stateAt d p .phase) (first-free (d .states) (rw (H .states) h))
+      free-there = H .slots p h .entered ∙ free-unblocked (stateAt d p .phase) (lowest-free (d .states) (rw (H .states) h))
 
       enters : Changes (d .blockers) p x (blockersWith (d .blockers) p x)
       enters = enter-changes (d .blockers) p x (H .rank) (H .clock) (H .blockers) h free-there
@@ -274,8 +279,8 @@ module _ (d : Dock) (H : Held d) where
           (λ u. let k = r .vector (write-vector (x .job) u) in copied memory v (sizeOf (x .stage .asked)) (rw l (k .1)) (rw (k .0) (k .2)))
 
       -- the begin is not refused at the slot
-      pub place-done : placedAt d p x v memory scratch ≡ placed d p x v memory scratch
-      unfolding placedAt
+      pub place-done : seated d v (admitAt (d .blockers) p N v memory scratch (Started x)) ≡ placed d p x v memory scratch
+      unfolding enterAt
       place-done = simp (enters .done, fills)
 
       pub place-held : Held (placed d p x v memory scratch .dock)
@@ -285,7 +290,7 @@ module _ (d : Dock) (H : Held d) where
           (rw (getD-set-same (d .vectors) p v noVector (rw (H .vectors) h))
           (record {
             sound = r .sound;
-            placed = λ e. r .placed;
+            on-store = λ e. r .on-store;
             regular = r .regular;
             sole = λ e u. r .vector u .0;
             vector = λ e u. (r .vector u .1, r .vector u .2);
@@ -293,19 +298,28 @@ module _ (d : Dock) (H : Held d) where
             blocker = enters .own;
           }))
 
-    pub begun-held : (j : Job) (plan : Plan) → Starts (Ready (d .settings) M v) plan → Held (begunBy d j v memory scratch plan .dock)
-    begun-held j NothingToDo k = H
-    begun-held j (PlanRefused r) k = H
-    begun-held j (Started x) k = go (overlapsOf (d .states) (d .vectors) j v) (ltb (firstFree (d .states)) 8) refl
-      where
-        go : (t u : Bool) → ltb (firstFree (d .states)) 8 ≡ u
-            → Held (pick t (refusedBegin d scratch Overlap)
-            (pick u (placedAt d (firstFree (d .states)) x v memory scratch) (refusedBegin d scratch Full)) .dock)
-        go true u e = H
-        go false true e = let h = ltb-true _ _ e in subst (λ (z : Begins). Held (z .dock)) (sym (place-done x k h)) (place-held x k h)
-        go false false e = H
-
 -- ---- tell
+
+-- What an accepted tell leaves: the job goes on in its stage, its blocker too; "scratch is filled at the last read's tell"
+abbrev pub stayed : Dock → ℕ → State → List ℕ → List ℕ → Told
+stayed d p y memory scratch = tells (accepted d p (d .blockers) y) memory (filled (shareAt d p) y (vectorAt d p) memory scratch .scratch)
+
+-- or it ends: its blocker "leaves when its piece ends", and the bytes of a padded read are handed out
+abbrev pub ended : Dock → ℕ → State → ℕ → State → List ℕ → List ℕ → Told
+ended d p x code y memory scratch =
+    tells (accepted d p (blockersWithout (d .blockers) p x .blockers) y) (handed (shareAt d p) x code (vectorAt d p) memory scratch .memory) scratch
+
+-- or it enters its next stage: its blocker leaves first, then the next stage's enters, and where that reads nothing its scratch is filled
+abbrev pub entered : Dock → ℕ → State → State → List ℕ → List ℕ → Told
+entered d p x y memory scratch =
+    tells (accepted d p (blockersWith (blockersWithout (d .blockers) p x .blockers) p y .blockers) y) memory
+    (filled (shareAt d p) y (vectorAt d p) memory scratch .scratch)
+
+-- what a tell leaves of a dock that calls made
+abbrev pub after : Dock → ℕ → State → ℕ → List ℕ → List ℕ → Step → Told
+after d p x code memory scratch (Stays y) = stayed d p y memory scratch
+after d p x code memory scratch (Ends y) = ended d p x code y memory scratch
+after d p x code memory scratch (Enters y) = entered d p x y memory scratch
 
 -- the job x in slot p has a request out, and is told a code
 module _ (d : Dock) (H : Held d) (p : ℕ) (h : p < 8) (pending : isPending (stateAt d p .phase) ≡ true) (code : ℕ) (memory scratch : List ℕ)
@@ -336,9 +350,8 @@ module _ (d : Dock) (H : Held d) (p : ℕ) (h : p < 8) (pending : isPending (sta
         filled-done (shareAt d p) y (vectorAt d p) memory scratch
         (λ u. rw (C .stage) (has-bytes (write-vector (x .job) (rw (C .job) at u))))
 
-    stays-done : staysOf d p y memory scratch ≡ stayed d p y memory scratch
-    unfolding staysOf
-    stays-done = simp stays-fills
+    stays-done : stored d p (staysAt (d .blockers) (shareAt d p) y (vectorAt d p) memory scratch) ≡ stayed d p y memory scratch
+    stays-done = ap (λ (o : Outcome). storedBy o d p (staysAt (d .blockers) (shareAt d p) y (vectorAt d p) memory scratch)) stays-fills
 
     kept : Changes (d .blockers) p y (record { blockers = d .blockers; outcome = Done })
     kept =
@@ -350,7 +363,7 @@ module _ (d : Dock) (H : Held d) (p : ℕ) (h : p < 8) (pending : isPending (sta
         slot-anew d H p h y (d .vectors) (record { blockers = d .blockers; outcome = Done }) kept (H .vectors) (λ q n. refl)
         (record {
           sound = C .sound (S .sound);
-          placed = λ u. rw (C .stage) (S .placed pending);
+          on-store = λ u. rw (C .stage) (S .on-store pending);
           regular = G .regular;
           sole = λ f u. rw (C .stage, C .range) (S .sole taken (rw (C .job) at u));
           vector = λ f u. rw (C .range) (S .vector taken (rw (C .job) at u));
@@ -370,8 +383,8 @@ module _ (d : Dock) (H : Held d) (p : ℕ) (h : p < 8) (pending : isPending (sta
         handed-done (shareAt d p) x code (vectorAt d p) memory scratch
         (λ u. has-bytes (read-vector (x .job) (bounced-reads (x .phase) x refl (S .regular) u)))
 
-    ends-done : endsOf d p x code y memory scratch ≡ ended d p x code y memory scratch
-    unfolding endsOf
+    ends-done : stored d p (endsAt (d .blockers) p (shareAt d p) x code y (vectorAt d p) memory scratch) ≡ ended d p x code y memory scratch
+    unfolding endsAt
     ends-done = simp (leaves .done, hands-out)
 
     ends-held : Held (ended d p x code y memory scratch .dock)
@@ -380,7 +393,7 @@ module _ (d : Dock) (H : Held d) (p : ℕ) (h : p < 8) (pending : isPending (sta
         slot-anew d H p h y (d .vectors) (blockersWithout (d .blockers) p x) leaves (H .vectors) (λ q n. refl)
         (record {
           sound = rw (F .phase);
-          placed = λ u. never (rw (F .phase) at u);
+          on-store = λ u. never (rw (F .phase) at u);
           regular = rw (F .phase);
           sole = λ f u. rw (F .stage, F .range) (S .sole taken (rw (F .job) at u));
           vector = λ f u. rw (F .range) (S .vector taken (rw (F .job) at u));
@@ -418,8 +431,8 @@ module _ (d : Dock) (H : Held d) (p : ℕ) (h : p < 8) (pending : isPending (sta
     enters-fills : filled (shareAt d p) y (vectorAt d p) memory scratch .outcome ≡ Done
     enters-fills = filled-done (shareAt d p) y (vectorAt d p) memory scratch (λ u. never (sym bare ∙ write-vector (y .job) u))
 
-    enters-done : entersOf d p x y memory scratch ≡ entered d p x y memory scratch
-    unfolding entersOf
+    enters-done : stored d p (entersAt (d .blockers) p (shareAt d p) x y (vectorAt d p) memory scratch) ≡ entered d p x y memory scratch
+    unfolding entersAt enterAt
     enters-done = simp (gone .done, comes .done, enters-fills)
 
     enters-held : Held (entered d p x y memory scratch .dock)
@@ -427,7 +440,7 @@ module _ (d : Dock) (H : Held d) (p : ℕ) (h : p < 8) (pending : isPending (sta
         slot-anew d H p h y (d .vectors) (blockersWith (blockersWithout (d .blockers) p x .blockers) p y) moves (H .vectors) (λ q n. refl)
         (record {
           sound = O .sound;
-          placed = λ u. O .placed;
+          on-store = λ u. O .on-store;
           regular = enters-regular (d .settings) x (S .regular) code y e .1;
           sole = λ f u. never (sym bare ∙ u);
           vector = λ f u. never (sym bare ∙ u);
@@ -436,12 +449,12 @@ module _ (d : Dock) (H : Held d) (p : ℕ) (h : p < 8) (pending : isPending (sta
         })
 
   -- no step of it is refused
-  step-done : (t : Step) → toldOf (d .settings) x code ≡ t → stepped d p x code memory scratch t ≡ after d p x code memory scratch t
+  step-done : (t : Step) → toldOf (d .settings) x code ≡ t → stored d p (steppedAt (d .blockers) p (shareAt d p) x code (vectorAt d p) memory scratch t) ≡ after d p x code memory scratch t
   step-done (Stays y) e = stays-done y e
   step-done (Ends y) e = ends-done y e
   step-done (Enters y) e = enters-done y e
 
-  pub told-done : stepped d p x code memory scratch (toldOf (d .settings) x code)
+  pub told-done : stored d p (steppedAt (d .blockers) p (shareAt d p) x code (vectorAt d p) memory scratch (toldOf (d .settings) x code))
       ≡ after d p x code memory scratch (toldOf (d .settings) x code)
   told-done = step-done (toldOf (d .settings) x code) refl
 

@@ -15,7 +15,7 @@ use Rattle.blockers.specs.Blockers.{present, blockerAt}
 use Rattle.blockers.specs.Reached.{Reached}
 use Rattle.blockers.specs.declared.Kind.{Kind}
 use Rattle.stages.specs.Stages.{sizeOf, isFree, isPending, isBlocking, isSound}
-use Rattle.stages.specs.Laws.{Placed}
+use Rattle.stages.specs.Laws.{OnStore}
 use Rattle.stages.specs.declared.state.State.{State}
 use Rattle.dock.specs.Dock.{stateAt, vectorAt, openOf, openProfileOf}
 use Rattle.dock.specs.Begin.{strength, beginOf}
@@ -33,7 +33,7 @@ pub record Encloses (r q : Range) : Type 0 where
 pub record SlotHeld (n m : ℕ) (x : State) (v : IoVector) (k : Kind) (r : Range) : Type 0 where
   -- its bytes lie in its share, its ranges on the store
   pub sound : isSound n x ≡ true
-  pub placed : isPending (x .phase) ≡ true → Placed (x .stage)
+  pub on-store : isPending (x .phase) ≡ true → OnStore (x .stage)
   -- its phase is one of its job's
   pub regular : isRegular x ≡ true
   -- a read or write has one stage, and a vector over the data of as many bytes

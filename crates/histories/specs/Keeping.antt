@@ -175,7 +175,7 @@ pub none-held : (n m : ℕ) (v : IoVector) (k : Kind) (r : Range) → present k 
 unfolding vacant isSound isRegular
 none-held n m v k r e = record {
   sound = refl;
-  placed = never;
+  on-store = never;
   regular = refl;
   sole = λ f. never (sym f);
   vector = λ f. never (sym f);

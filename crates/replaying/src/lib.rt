@@ -25,7 +25,7 @@
 mod store; // the stand-in store
 
 use crate::store::Act;
-use crate::store::Carried;
+use crate::store::CarryOutcome;
 use arithmetic::offsets::StoreOffset;
 use arithmetic::refusals::Outcome;
 use arithmetic::settings::Buffers;
@@ -213,11 +213,11 @@ fn carry(
         return;
     }
     match store::carry(dock, slot, act, store, data, scratch) {
-        Carried::Done => {
+        CarryOutcome::Done => {
             marks::carry(marks, slot, act.code);
             text(b" done");
         }
-        Carried::NoRequest => text(b" no request is out"),
+        CarryOutcome::NoRequest => text(b" no request is out"),
     }
 }
 

@@ -9,7 +9,7 @@ use stages::state::Kind;
 use stages::state::Request;
 
 // Whether a request was out in the slot, to be carried out.
-pub enum Carried {
+pub enum CarryOutcome {
     Done,
     NoRequest,
 }
@@ -207,10 +207,10 @@ pub fn carry(
     store: &mut [u8],
     data: &mut [u8],
     scratch: &mut [u8],
-) -> Carried {
+) -> CarryOutcome {
     let Due::Make(q) = dock.next(slot, data, scratch) else {
-        return Carried::NoRequest;
+        return CarryOutcome::NoRequest;
     };
     act_on(dock, slot, q, act, store, data, scratch);
-    Carried::Done
+    CarryOutcome::Done
 }

@@ -1,4 +1,4 @@
--- Laws of stages: a stage that a job begins with or enters is sound, pending and placed, and keeps the job and its range; a told code keeps what it must; reads never enter a stage; a zero job never meets 206. Assumes nothing.
+-- Laws of stages: a stage that a job begins with or enters is sound, pending and on the store, and keeps the job and its range; a told code keeps what it must; reads never enter a stage; a zero job never meets 206. Assumes nothing.
 use mathlib.Core.Path.{_≡_, refl, sym, ap, subst, _∙_}
 use mathlib.Core.Bool.{Bool, true, false, _||_, not}
 use mathlib.Core.Logic.{_⊎_, inl, inr, ⊎-elim}
@@ -54,7 +54,7 @@ never e = let z : _≡_ {A = ℕ} 0 1 = cc in absurd (omega arith)
 -- ---- where a stage's ranges lie
 
 -- the asked range lies in the request's, the reads at its ends
-pub record Placed (g : Stage) : Type 0 where
+pub record OnStore (g : Stage) : Type 0 where
   pub some : g .request .start .0 < g .request .end .0
   pub fits : g .request .end .0 < 2 ^ 64
   pub asked-some : g .asked .start .0 < g .asked .end .0
@@ -65,9 +65,9 @@ pub record Placed (g : Stage) : Type 0 where
   pub second-starts : 0 < sizeOf (g .second) → g .request .start .0 ≤ g .second .start .0
   pub second-ends : 0 < sizeOf (g .second) → g .second .end .0 ≡ g .request .end .0
 
-direct-placed : (r : Range) → 0 < sizeOf r → r .end .0 < 2 ^ 64 → Placed (directStage r)
+direct-on-store : (r : Range) → 0 < sizeOf r → r .end .0 < 2 ^ 64 → OnStore (directStage r)
 unfolding directStage
-direct-placed r p f = record {
+direct-on-store r p f = record {
   some = omega arith;
   fits = f;
   asked-some = omega arith;
@@ -104,9 +104,9 @@ reading s e p q = go (eqb (s .prefix + s .suffix) (s .length)) (eqb (s .prefix) 
 read-at : {a : Alignments} {o n : ℕ} {x : Span} → Spans a o n x → Reading x (firstOf x (readsOf x)) (secondOf x (readsOf x))
 read-at {x = x} k = reading x (k .end) (k .prefix-le) (k .suffix-le)
 
-padded-placed : {a : Alignments} {n : ℕ} (x : Span) (r : Range) → Spans a (r .start .0) n x → sizeOf r ≡ n → 0 < n → Placed (paddedStage x r)
+padded-on-store : {a : Alignments} {n : ℕ} (x : Span) (r : Range) → Spans a (r .start .0) n x → sizeOf r ≡ n → 0 < n → OnStore (paddedStage x r)
 unfolding paddedStage
-padded-placed x r k e p =
+padded-on-store x r k e p =
     let d = read-at k in
     record {
       some = omega (arith, k .end, k .holds);
@@ -157,7 +157,7 @@ pub record Opens (s : Settings) (j : Job) (w : Range) (x : State) : Type 0 where
   pub answer : x .answer ≡ 0
   pub job : x .job ≡ j
   pub range : x .range ≡ w
-  pub placed : Placed (x .stage)
+  pub on-store : OnStore (x .stage)
 
 opens-direct : (s : Settings) (j : Job) (w m : Range) (c : Course) (r : Range) (ph : Phase)
     → isPending ph ≡ true → (usesBounce ph ≡ true → sizeOf r ≤ s .bounce) → 0 < sizeOf r → r .end .0 < 2 ^ 64
@@ -168,7 +168,7 @@ opens-direct s j w m c r ph e b p f = record {
   answer = refl;
   job = refl;
   range = refl;
-  placed = direct-placed r p f;
+  on-store = direct-on-store r p f;
 }
 
 opens-padded : {a : Alignments} {n : ℕ} (s : Settings) (j : Job) (w m : Range) (c : Course) (x : Span) (r : Range) (ph : Phase)
@@ -180,7 +180,7 @@ opens-padded s j w m c x r ph k z e b p = record {
   answer = refl;
   job = refl;
   range = refl;
-  placed = padded-placed x r k z p;
+  on-store = padded-on-store x r k z p;
 }
 
 first-pending : (g : Stage) → isPending (firstPhase g) ≡ true

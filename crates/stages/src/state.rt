@@ -253,7 +253,7 @@ impl State {
     }
 
     // Whether the stage's bytes lie in a bounce buffer of `bounce` bytes, where the phase uses one.
-    pub fn sound(self, bounce: u64) -> bool
+    pub fn is_sound(self, bounce: u64) -> bool
         ensures { λ t. ⌜ t ≡ isSound bounce self ⌝ }
     {
         let phase = self.phase;

@@ -1,12 +1,12 @@
 -- A pass over the segments of a vector: what holds at segment i. Assumes nothing.
 use mathlib.Core.Path.{_≡_, refl, sym, ap, _∙_}
 use mathlib.Core.Bool.{Bool, true, false, _&&_, _||_, and-false}
-use mathlib.Core.List.{List, [], _∷_, map}
+use mathlib.Core.List.{List, [], _∷_}
 use Prim.Native.Nat.{ℕ, _+_, _-_, _≤_, _<_}
 use native.Mathlib.Decide.{decLe}
 use native.Mathlib.Omega.{arith}
 use lib.Dec.{ltb, leb, eqb}
-use lib.ListN.{length, drop, getD, length-take, length-map, drop-of-length-le}
+use lib.ListN.{length, drop, getD, length-take, drop-of-length-le}
 use lib.Seq.{getD-take}
 use borrow.Author.Tests.{le-leb, lt-leb}
 use Rattle.vectors.specs.declared.vector.Segment.{Segment}
@@ -20,10 +20,6 @@ room n a b h = elim (decLe (a + b) n) [
   | yes l ↦ le-leb b (n - a) (omega arith) ∙ sym (le-leb (a + b) n l)
   | no l ↦ lt-leb b (n - a) (omega arith) ∙ sym (lt-leb (a + b) n (omega arith))
 ]
-
--- an array of structs has its length by the relation that owning it gives, which stands at a map over the list
-pub array-long : {Y : Type 0} (f : Segment → Y) (l : List Segment) (n : ℕ) → length (map f l) ≡ n → length l ≡ n
-array-long f l n e = sym (length-map l f) ∙ e
 
 abbrev pub nth : IoVector → ℕ → Segment
 nth v i = getD (v .segments) i none

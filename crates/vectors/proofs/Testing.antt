@@ -18,7 +18,7 @@ use Rattle.vectors.specs.declared.vector.Alignment.the-variants.{Aligned
 use Rattle.vectors.specs.declared.vector.Segment.{Segment}
 use Rattle.vectors.specs.declared.vector.IoVector.{IoVector}
 use Rattle.vectors.specs.Vectors.{none, segmentsOf, liesIn, allSegments, anySegment, shares, overlapOf, selfOverlapOf, isValid, allAligned, isAlignedOf, alignmentOf}
-use Rattle.vectors.specs.Aligning.{Placed}
+use Rattle.vectors.specs.Aligning.{Addressed}
 use Rattle.vectors.specs.SegmentLaws.{all-at, lies, Valid, valid}
 use Rattle.vectors.proofs.Pass.{nth, in-use, same, first, none-left, any-more, all-more}
 
@@ -121,7 +121,7 @@ module _ (v : IoVector) (n i : ℕ) (g : Selfsought v n i) where
 
 pub record Lined (v : IoVector) (address m l i : ℕ) : Type 0 where
   pub wide : length (v .segments) ≡ 16
-  pub asked : Placed v address m l
+  pub asked : Addressed v address m l
   pub is : allAligned address m l (segmentsOf v) ≡ allAligned address m l (drop i (segmentsOf v))
 
 module _ (v : IoVector) (address m l i : ℕ) (g : Lined v address m l i) where
@@ -183,7 +183,7 @@ module _ (a : Alignments) (lent : Lent) (v : IoVector) where
         unfolding alignmentOf isAlignedOf
         answer-trivial t = rw (e, fits-true (lent .address + lent .length) h, f, t)
 
-        pub answer-asked : (m : ℕ) → m ≡ lengthAlign a → Placed v (lent .address) (a .mem) m
+        pub answer-asked : (m : ℕ) → m ≡ lengthAlign a → Addressed v (lent .address) (a .mem) m
         answer-asked m q = let k = aligned a e in record { long = lent .length; valid = f; fits = h; mem = k .mem .positive; len = rw q (k .positive) }
 
         module _ (t : (eqb (a .mem) 1 && eqb (a .req) 1) ≡ false) (m : ℕ) (q : m ≡ lengthAlign a) where

@@ -6,7 +6,7 @@ use Rattle.vectors.specs.declared.vector.IoVector.{IoVector}
 use Rattle.vectors.specs.Vectors.{isValid}
 
 -- a vector over data whose addresses fit, and two alignments
-pub record Placed (v : IoVector) (address m l : ℕ) : Type 0 where
+pub record Addressed (v : IoVector) (address m l : ℕ) : Type 0 where
   pub long : ℕ
   pub valid : isValid long v ≡ true
   pub fits : address + long < 18446744073709551616

@@ -15,39 +15,39 @@ use Rattle.vectors.specs.Vectors.{segmentsOf, segmentsFit, isValid, refu
 use Rattle.vectors.specs.SegmentLaws.{fit-true, valid, segments-of, vector-valid}
 use Rattle.vectors.specs.SplitLaws.{head-fits, tail-fits}
 
--- carried out: the vector has the segments ps, and is valid
-pub record Carried (n : ℕ) (ps : List Segment) (c : Changed) : Type 0 where
+-- the edit was carried out: the vector has the segments ps, and is valid
+pub record EditedTo (n : ℕ) (ps : List Segment) (c : Changed) : Type 0 where
   pub done : c .outcome ≡ Done
   pub segments : segmentsOf (c .vector) ≡ ps
   pub valid : isValid n (c .vector) ≡ true
 
-pub changed : (n : ℕ) (v : IoVector) (ps : List Segment) → Carried n ps (changedTo n v ps) ⊎ (changedTo n v ps ≡ refusedVector v)
+pub changed : (n : ℕ) (v : IoVector) (ps : List Segment) → EditedTo n ps (changedTo n v ps) ⊎ (changedTo n v ps ≡ refusedVector v)
 unfolding changedTo
 changed n v ps = go (isValid n v && segmentsFit n ps) refl
   where
-    go : (t : Bool) → (isValid n v && segmentsFit n ps) ≡ t → Carried n ps (changedTo n v ps) ⊎ (changedTo n v ps ≡ refusedVector v)
+    go : (t : Bool) → (isValid n v && segmentsFit n ps) ≡ t → EditedTo n ps (changedTo n v ps) ⊎ (changedTo n v ps ≡ refusedVector v)
     go true e =
         let f = vector-valid n ps (and-right (isValid n v) (segmentsFit n ps) e) in
         inl (record { done = rw e; segments = rw e (segments-of ps); valid = rw e f })
     go false e = inr (rw e)
 
-pub pushed : (n : ℕ) (v : IoVector) (p : Segment) → Carried n (segmentsOf v ++ (p ∷ [])) (pushOf n v p) ⊎ (pushOf n v p ≡ refusedVector v)
+pub pushed : (n : ℕ) (v : IoVector) (p : Segment) → EditedTo n (segmentsOf v ++ (p ∷ [])) (pushOf n v p) ⊎ (pushOf n v p ≡ refusedVector v)
 unfolding pushOf
 pushed n v p = changed n v (segmentsOf v ++ (p ∷ []))
 
-pub inserted : (n : ℕ) (v : IoVector) (i : ℕ) (p : Segment) → Carried n (take i (segmentsOf v) ++ (p ∷ drop i (segmentsOf v))) (insertOf n v i p) ⊎ (insertOf n v i p ≡ refusedVector v)
+pub inserted : (n : ℕ) (v : IoVector) (i : ℕ) (p : Segment) → EditedTo n (take i (segmentsOf v) ++ (p ∷ drop i (segmentsOf v))) (insertOf n v i p) ⊎ (insertOf n v i p ≡ refusedVector v)
 unfolding insertOf
 inserted n v i p = go (leb i (v .count)) refl
   where
-    go : (t : Bool) → leb i (v .count) ≡ t → Carried n (take i (segmentsOf v) ++ (p ∷ drop i (segmentsOf v))) (insertOf n v i p) ⊎ (insertOf n v i p ≡ refusedVector v)
+    go : (t : Bool) → leb i (v .count) ≡ t → EditedTo n (take i (segmentsOf v) ++ (p ∷ drop i (segmentsOf v))) (insertOf n v i p) ⊎ (insertOf n v i p ≡ refusedVector v)
     go true e = rw e (changed n v (take i (segmentsOf v) ++ (p ∷ drop i (segmentsOf v))))
     go false e = inr (rw e)
 
-pub appended : (n : ℕ) (v w : IoVector) → Carried n (segmentsOf v ++ segmentsOf w) (appendOf n v w) ⊎ (appendOf n v w ≡ refusedVector v)
+pub appended : (n : ℕ) (v w : IoVector) → EditedTo n (segmentsOf v ++ segmentsOf w) (appendOf n v w) ⊎ (appendOf n v w ≡ refusedVector v)
 unfolding appendOf
 appended n v w = go (isValid n w) refl
   where
-    go : (t : Bool) → isValid n w ≡ t → Carried n (segmentsOf v ++ segmentsOf w) (appendOf n v w) ⊎ (appendOf n v w ≡ refusedVector v)
+    go : (t : Bool) → isValid n w ≡ t → EditedTo n (segmentsOf v ++ segmentsOf w) (appendOf n v w) ⊎ (appendOf n v w ≡ refusedVector v)
     go true e = rw e (changed n v (segmentsOf v ++ segmentsOf w))
     go false e = inr (rw e)
 

@@ -7,7 +7,7 @@ use arithmetic::settings::Alignments;
 use arithmetic::settings::Lent;
 ghost use mathlib.Core.Path.{_≡_};
 ghost use Rattle.vectors.specs.Vectors.{segmentsOf, allAligned, alignmentOf};
-ghost use Rattle.vectors.specs.Aligning.{Placed};
+ghost use Rattle.vectors.specs.Aligning.{Addressed};
 
 impl IoVector {
     // Whether direct requests can use the segments. Refused: 201 for unfit alignments, then 205 for data that ends past
@@ -36,7 +36,7 @@ impl IoVector {
 
     // Whether every segment's address is a multiple of `mem` and its length of `len`, over data at `address`.
     fn segments_aligned(self, address: u64, mem: u64, len: u64) -> bool
-        requires { ⌜ Placed self address mem len ⌝ }
+        requires { ⌜ Addressed self address mem len ⌝ }
         ensures { λ r. ⌜ r ≡ allAligned address mem len (segmentsOf self) ⌝ }
     {
         let n = self.count;

@@ -6,6 +6,7 @@ use Prim.Native.Nat.{ℕ, _<_}
 use lib.Dec.{ltb, eqb}
 use lib.ListN.{length, set}
 use borrow.Author.Tests.{ltb-true}
+use Rattle.arithmetic.specs.Refusals.{isDone, is-done}
 use Rattle.arithmetic.specs.SettingsLaws.{and-left}
 use Rattle.arithmetic.specs.declared.refusals.Refusal.{Refusal}
 use Rattle.arithmetic.specs.declared.refusals.Refusal.the-variants.{Slot}
@@ -18,21 +19,20 @@ use Rattle.vectors.specs.declared.vector.IoVector.{IoVector}
 use Rattle.stages.specs.declared.state.State.{State}
 use Rattle.stages.specs.declared.plan.Plan.{Plan}
 use Rattle.dock.specs.Dock.{lentOf, overlapsOf, firstFree}
-use Rattle.dock.specs.Begin.{Filled, fills, filled, blockersWith, begins, movedOf, planOf, beginOf}
-use Rattle.dock.specs.Next.{isKeptBy, isSeated}
-use Rattle.dock.specs.Slots.{Entered, enterAt, decidedOf, admitBy, admitAt}
-use Rattle.dock.specs.SeatLaws.{begin-whole}
+use Rattle.dock.specs.Begin.{Filled, fills, filled, blockersWith, begins, movedOf, planOf, beginOf, Entered, enterAt, decidedOf, admitBy, admitAt}
+use Rattle.dock.specs.Next.{isSoundIn, isSoundAt}
+use Rattle.dock.specs.SlotLaws.{begin-whole}
 use Rattle.dock.specs.declared.begin.Asked.{Asked}
 use Rattle.dock.specs.declared.begin.Begun.{Begun}
 use Rattle.dock.specs.declared.begin.Begun.the-variants.{Placed, Refused as BeginRefused}
 use Rattle.words.specs.View.{blockersOf, statesOf, vectorsOf, settingsOf, buffersOf, dockOf}
-use Rattle.words.specs.Kept.{isDone, Seats, seats, placedIn}
-use Rattle.words.specs.KeptLaws.{is-done, enters-not, begun-placed}
+use Rattle.words.specs.Kept.{Seats, seats, placedIn}
+use Rattle.words.specs.KeptLaws.{enters-not, begun-placed}
 
--- a seated job is in one of the eight slots
-pub seated-slot : (p : ℕ) (x : State) (s : Settings) (b : Buffers) (n : ℕ) → isSeated p x s b n ≡ true → p < 8
-unfolding isSeated
-seated-slot p x s b n e = ltb-true p 8 (and-left (ltb p 8) (isKeptBy x s b) (and-left (ltb p 8 && isKeptBy x s b) (eqb n (b .scratch .length)) e))
+-- a job that is sound in a slot is in one of the eight
+pub sound-slot : (p : ℕ) (x : State) (s : Settings) (b : Buffers) (n : ℕ) → isSoundAt p x s b n ≡ true → p < 8
+unfolding isSoundAt
+sound-slot p x s b n e = ltb-true p 8 (and-left (ltb p 8) (isSoundIn x s b) (and-left (ltb p 8 && isSoundIn x s b) (eqb n (b .scratch .length)) e))
 
 -- ---- the job w with the vector u comes to slot p
 

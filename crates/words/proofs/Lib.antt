@@ -1,5 +1,4 @@
 -- What the proofs of several functions cite.
-mod Lowest
 mod Stored
 pub mod Told
 pub mod Begun

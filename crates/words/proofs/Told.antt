@@ -5,6 +5,7 @@ use mathlib.Core.List.{List}
 use Prim.Native.Nat.{ℕ, _*_, _<_, _≤_}
 use lib.ListN.{length, set}
 use borrow.Author.Tests.{lt-ltb, le-ltb}
+use Rattle.arithmetic.specs.Refusals.{isDone, is-done}
 use Rattle.arithmetic.specs.declared.refusals.Refusal.{Refusal}
 use Rattle.arithmetic.specs.declared.refusals.Refusal.the-variants.{Buffer, Slot}
 use Rattle.arithmetic.specs.declared.refusals.Outcome.{Outcome}
@@ -16,15 +17,13 @@ use Rattle.stages.specs.declared.state.State.{State}
 use Rattle.stages.specs.declared.told.Step.{Step}
 use Rattle.dock.specs.Dock.{lentFits, isOutBy, stateAt, vectorAt}
 use Rattle.dock.specs.Begin.{Filled, fills, filled, blockersWith}
-use Rattle.dock.specs.Next.{isKeptBy}
-use Rattle.dock.specs.Tell.{Handed, hands, handed, blockersWithout, tells, tellOf}
-use Rattle.dock.specs.Slots.{Stepped, staysAt, endsAt, entersAt, steppedAt, answeredOf, answeredBy, toldAt}
-use Rattle.dock.specs.SlotLaws.{told-stored}
+use Rattle.dock.specs.Next.{isSoundIn}
+use Rattle.dock.specs.Tell.{Handed, hands, handed, blockersWithout, tells, tellOf, Stepped, staysAt, endsAt, entersAt, steppedAt, answeredOf, answeredBy, toldAt}
 use Rattle.dock.specs.declared.tell.Answered.{Answered}
 use Rattle.dock.specs.declared.tell.Answered.the-variants.{Leads, Refused as NoLead}
 use Rattle.words.specs.View.{blockersOf, statesOf, settingsOf, buffersOf, dockOf}
-use Rattle.words.specs.Kept.{isDone, changes, Kept, keeps, kept}
-use Rattle.words.specs.KeptLaws.{told-kept, kept-done, kept-refused, is-done, ends-left, ends-stuck, enters-changed, enters-stuck}
+use Rattle.words.specs.Kept.{changes, Kept, keeps, kept}
+use Rattle.words.specs.KeptLaws.{told-kept, kept-done, kept-refused, ends-left, ends-stuck, enters-changed, enters-stuck}
 
 -- ---- a step
 
@@ -102,11 +101,11 @@ module _ (b x : List ℕ) (p : ℕ) (s : Settings) (l : Buffers) (w : State) (v 
   told-not-out o = simp o
 
   module _ (o : isOutBy (blockersOf b) w p ≡ true) where
-    pub told-not-kept : isKeptBy w s l ≡ false → keeps (Refused Slot) b x memory scratch ≡ kept (blockersOf b) (statesOf x) p Tell
+    pub told-not-sound : isSoundIn w s l ≡ false → keeps (Refused Slot) b x memory scratch ≡ kept (blockersOf b) (statesOf x) p Tell
     unfolding toldAt
-    told-not-kept k = simp (o, k)
+    told-not-sound k = simp (o, k)
 
-    module _ (k : isKeptBy w s l ≡ true) (a : Answered) (e : a ≡ answeredOf s w code) where
+    module _ (k : isSoundIn w s l ≡ true) (a : Answered) (e : a ≡ answeredOf s w code) where
       by : (z : Answered) → a ≡ z → answeredBy z (blockersOf b) p (p * s .bounce) w code v memory scratch ≡ Tell
       unfolding toldAt
       by z q = ap (λ (y : Answered). answeredBy y (blockersOf b) p (p * s .bounce) w code v memory scratch) (sym q ∙ e) ∙ simp (o, k)
@@ -134,4 +133,4 @@ module _ (s b x v : List ℕ) (p code : ℕ) (memory scratch : List ℕ) where
         → tells (record { outcome = o; dock = dockOf s b′ x′ v }) m n ≡ tellOf (dockOf s b x v) p code memory scratch
     unfolding tellOf
     tell-there h w e c f d g o b′ x′ m n k =
-        told-kept s b x v p o b′ x′ m n (toldAt (blockersOf b) p (settingsOf s) (buffersOf s) (stateAt (dockOf s b x v) p) (vectorAt (dockOf s b x v) p) code memory scratch) (k ∙ rw (e, f, g)) ∙ told-stored (dockOf s b x v) p memory scratch code ∙ simp (l, lt-ltb p 8 h)
+        told-kept s b x v p o b′ x′ m n (toldAt (blockersOf b) p (settingsOf s) (buffersOf s) (stateAt (dockOf s b x v) p) (vectorAt (dockOf s b x v) p) code memory scratch) (k ∙ rw (e, f, g)) ∙ simp (l, lt-ltb p 8 h)

@@ -5,14 +5,14 @@ use mathlib.Core.Bool.{Bool, true, false}
 use mathlib.Core.List.{List}
 use Prim.Native.Nat.{ℕ}
 use lib.ListN.{set}
+use Rattle.arithmetic.specs.Refusals.{whenDone, isDone}
 use Rattle.arithmetic.specs.declared.refusals.Outcome.{Outcome}
 use Rattle.arithmetic.specs.declared.refusals.Outcome.the-variants.{Done, Refused}
 use Rattle.vectors.specs.declared.vector.IoVector.{IoVector}
 use Rattle.blockers.specs.declared.Blockers.{Blockers}
 use Rattle.stages.specs.declared.state.State.{State}
-use Rattle.dock.specs.Begin.{thenDo, blockersWith}
-use Rattle.dock.specs.Tell.{blockersWithout}
-use Rattle.dock.specs.Slots.{Stepped, Admitted}
+use Rattle.dock.specs.Begin.{blockersWith, Admitted}
+use Rattle.dock.specs.Tell.{blockersWithout, Stepped}
 use Rattle.dock.specs.declared.dock.Dock.{Dock}
 use Rattle.dock.specs.declared.open.Opened.{Opened}
 use Rattle.dock.specs.declared.begin.Begun.{Begun}
@@ -20,10 +20,6 @@ use Rattle.dock.specs.declared.begin.Begun.the-variants.{Done as NoRequest, Pla
 use Rattle.dock.specs.declared.tell.Collected.{Collected}
 use Rattle.dock.specs.declared.tell.Collected.the-variants.{Final, Refused as NotCollected}
 use Rattle.words.specs.View.{blockersOf, statesOf, vectorsOf, dockOf}
-
-abbrev pub isDone : Outcome → Bool
-isDone Done = true
-isDone (Refused r) = false
 
 abbrev pub isPlaced : Begun → Bool
 isPlaced NoRequest = false
@@ -61,7 +57,7 @@ opensOver o s b x v s′ b′ x′ v′ =
 
 -- the blocker of slot p leaves for the stage of x, and enters for that of y: what comes of it
 abbrev pub changes : Blockers → ℕ → State → State → Outcome
-changes b p x y = thenDo (blockersWithout b p x .outcome) (blockersWith (blockersWithout b p x .blockers) p y .outcome)
+changes b p x y = whenDone (blockersWithout b p x .outcome) (blockersWith (blockersWithout b p x .blockers) p y .outcome) Refused
 
 pub record Kept : Type 0 where
   pub outcome : Outcome

@@ -8,6 +8,7 @@ use lib.Dec.{ltb}
 use lib.ListN.{set}
 use borrow.Author.Tests.{ltb-true, lt-ltb, le-ltb}
 use Rattle.arithmetic.specs.Rounding.{pick}
+use Rattle.arithmetic.specs.Refusals.{whenDone, isDone, is-done}
 use Rattle.arithmetic.specs.SettingsLaws.{and-left, and-right}
 use Rattle.arithmetic.specs.declared.refusals.Refusal.{Refusal}
 use Rattle.arithmetic.specs.declared.refusals.Refusal.the-variants.{Slot}
@@ -23,15 +24,14 @@ use Rattle.blockers.specs.declared.Blockers.{Blockers}
 use Rattle.blockers.specs.declared.Changed.{Changed}
 use Rattle.stages.specs.Stages.{isBlocking}
 use Rattle.stages.specs.declared.state.State.{State}
-use Rattle.dock.specs.Begin.{Begins, begins, strength, blockersWith, thenDo, filled}
-use Rattle.dock.specs.Tell.{Told, tells, blockersWithout, handed}
-use Rattle.dock.specs.Slots.{Stepped, steps, unstepped, storedBy, stored, leftThen, whenDone, enterAt, entersBy, endsAt, entersAt, Admitted, seatedBy, seated}
+use Rattle.dock.specs.Begin.{Begins, begins, strength, blockersWith, filled, enterAt, Admitted, seatedBy, seated}
+use Rattle.dock.specs.Tell.{Told, tells, blockersWithout, handed, Stepped, steps, unstepped, storedBy, stored, entersBy, endsAt, entersAt}
 use Rattle.dock.specs.declared.dock.Dock.{Dock}
 use Rattle.dock.specs.declared.open.Opened.{Opened}
 use Rattle.dock.specs.declared.begin.Begun.{Begun}
 use Rattle.dock.specs.declared.begin.Begun.the-variants.{Done as NoRequest, Placed, Refused as BeginRefused}
 use Rattle.words.specs.View.{blockersOf, statesOf, vectorsOf, settingsOf, buffersOf, dockOf}
-use Rattle.words.specs.Kept.{isDone, sameUnless, opensAs, opensOver}
+use Rattle.words.specs.Kept.{sameUnless, opensAs, opensOver}
 use Rattle.words.specs.Kept.{changes, Kept, keeps, keptBy, kept, Seats, seats, placedBy, placedIn}
 
 -- ---- what a call leaves in every word
@@ -166,11 +166,6 @@ module _ (b : Blockers) (p : ℕ) where
         go true false l e = refl
         go false t l e = let z : _≡_ {A = ℕ} 0 1 = cc in absurd (omega arith)
 
--- done is done
-pub is-done : (o : Outcome) → isDone o ≡ true → o ≡ Done
-is-done Done e = refl
-is-done (Refused r) e = let z : _≡_ {A = ℕ} 0 1 = cc in absurd (omega arith)
-
 -- where a blocker has left, the next one enters
 after-left : (b : Blockers) (p : ℕ) (y : State) → isDone (leftOf p b .outcome) ≡ true → blockersWith (leftOf p b .blockers) p y .outcome ≡ Done
 unfolding blockersWith
@@ -195,7 +190,7 @@ module _ (b : Blockers) (p : ℕ) (x y : State) where
   unfolding blockersWithout
   changes-blocking e = simp e (go (leftOf p b .outcome) refl)
     where
-      go : (o : Outcome) → leftOf p b .outcome ≡ o → isDone o ≡ isDone (thenDo o (blockersWith (leftOf p b .blockers) p y .outcome))
+      go : (o : Outcome) → leftOf p b .outcome ≡ o → isDone o ≡ isDone (whenDone o (blockersWith (leftOf p b .blockers) p y .outcome) Refused)
       go Done q = sym (ap isDone (after-left b p y (ap isDone q)))
       go (Refused r) q = refl
 
@@ -226,8 +221,9 @@ module _ (b : Blockers) (p share : ℕ) (x y : State) (v : IoVector) (memory scr
       B : Blockers
       B = blockersWith (blockersWithout b p x .blockers) p y .blockers
 
-      go : (q n : Outcome) → isDone (thenDo q n) ≡ true
-          → leftThen q b x memory scratch (entersBy (whenDone n (record { blockers = B; outcome = filled share y v memory scratch .outcome; scratch = filled share y v memory scratch .scratch }) (record { blockers = B; outcome = n; scratch = scratch })) y memory)
+      go : (q n : Outcome) → isDone (whenDone q n Refused) ≡ true
+          → whenDone q (entersBy (whenDone n (record { blockers = B; outcome = filled share y v memory scratch .outcome; scratch = filled share y v memory scratch .scratch })
+          (λ r. record { blockers = B; outcome = n; scratch = scratch })) y memory) (λ r. steps (unstepped b x r) memory scratch)
           ≡ record { outcome = filled share y v memory scratch .outcome; blockers = B; state = y; memory = memory; scratch = filled share y v memory scratch .scratch }
       go Done Done e = refl
       go Done (Refused r) e = let z : _≡_ {A = ℕ} 0 1 = cc in absurd (omega arith)
@@ -243,9 +239,10 @@ module _ (b : Blockers) (p share : ℕ) (x y : State) (v : IoVector) (memory scr
       B = blockersWith (blockersWithout b p x .blockers) p y .blockers
 
       there : Outcome → Outcome → Stepped
-      there q n = leftThen q b x memory scratch (entersBy (whenDone n (record { blockers = B; outcome = filled share y v memory scratch .outcome; scratch = filled share y v memory scratch .scratch }) (record { blockers = B; outcome = n; scratch = scratch })) y memory)
+      there q n = whenDone q (entersBy (whenDone n (record { blockers = B; outcome = filled share y v memory scratch .outcome; scratch = filled share y v memory scratch .scratch })
+          (λ r. record { blockers = B; outcome = n; scratch = scratch })) y memory) (λ r. steps (unstepped b x r) memory scratch)
 
-      go : (q : Outcome) → (isDone q ≡ false → q ≡ Refused Slot) → (n : Outcome) → (isDone n ≡ false → n ≡ Refused Slot) → isDone (thenDo q n) ≡ false
+      go : (q : Outcome) → (isDone q ≡ false → q ≡ Refused Slot) → (n : Outcome) → (isDone n ≡ false → n ≡ Refused Slot) → isDone (whenDone q n Refused) ≡ false
           → (there q n .outcome ≡ Refused Slot) × (memory ≡ there q n .memory) × (scratch ≡ there q n .scratch)
       go Done f Done g e = let z : _≡_ {A = ℕ} 0 1 = cc in absurd (omega arith)
       go Done f (Refused r) g e = (g refl, refl, refl)

@@ -1,10 +1,11 @@
 -- What lent words mean: the dock by value. Any words are a dock: a tag that is none is the first variant, an answer counts modulo 256,
 -- a flag is true at any word but 0. `..Of` and `..From` read a row, `..Words` write it.
+use mathlib.Core.Path.{_≡_}
 use mathlib.Core.Bool.{Bool, true, false, not}
 use mathlib.Core.List.{List, [], _∷_, _++_, map}
 use Prim.Native.Nat.{ℕ, _+_, _%_}
 use lib.Dec.{eqb}
-use lib.ListN.{getD, drop}
+use lib.ListN.{length, getD, drop}
 use Rattle.arithmetic.specs.Rounding.{pick}
 use Rattle.arithmetic.specs.Offsets.{bufferAt, rangeOf}
 use Rattle.arithmetic.specs.declared.offsets.Range.{Range}
@@ -172,6 +173,10 @@ statesOf w = rows stateOf 18 8 w
 
 abbrev pub vectorsOf : List ℕ → List IoVector
 vectorsOf w = rows vectorFrom 34 8 w
+
+-- the four arrays have the words of a dock: settings, blockers, states, vectors
+abbrev pub DockWords : List ℕ → List ℕ → List ℕ → List ℕ → Type 0
+DockWords s b x v = (length s ≡ 9) × (length b ≡ 88) × (length x ≡ 144) × (length v ≡ 272)
 
 abbrev pub dockOf : List ℕ → List ℕ → List ℕ → List ℕ → Dock
 dockOf s b x v =

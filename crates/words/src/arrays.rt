@@ -20,7 +20,8 @@ ghost use Rattle.dock.specs.Begin.{begins, beginOf};
 ghost use Rattle.dock.specs.Next.{nextOf, pieceOf};
 ghost use Rattle.dock.specs.Tell.{tells, tellOf, collectOf};
 ghost use Rattle.words.specs.View.{settingsOf, vectorFrom, blockersOf, dockOf};
-ghost use Rattle.words.specs.Kept.{isDone, isPlaced, isFinal, sameUnless, sameTwo, sameThree, opensOver};
+ghost use Rattle.arithmetic.specs.Refusals.{isDone};
+ghost use Rattle.words.specs.Kept.{isPlaced, isFinal, sameUnless, sameTwo, sameThree, opensOver};
 
 // The settings that the dock was opened with.
 pub fn settings_of(settings: &[u64; 9]) -> Settings

@@ -26,8 +26,9 @@ ghost use Prim.Native.Nat.{_<_};
 ghost use lib.ListN.{length};
 ghost use Rattle.stages.specs.declared.plan.Plan.the-variants.{Started};
 ghost use Rattle.dock.specs.Dock.{meetsAt, overlapsOf};
-ghost use Rattle.dock.specs.Next.{isSeated};
-ghost use Rattle.dock.specs.Slots.{admitAt, PlanSeated};
+ghost use Rattle.dock.specs.Next.{isSoundAt};
+ghost use Rattle.dock.specs.Slots.{PlanSound};
+ghost use Rattle.dock.specs.Begin.{admitAt};
 ghost use Rattle.words.specs.View.{blockersOf, statesOf, vectorsOf};
 ghost use Rattle.words.specs.Kept.{isPlaced, sameThree, seats, placedIn};
 
@@ -72,7 +73,7 @@ fn seat(
     data: &[u8],
     scratch: &mut [u8],
 ) -> Begun
-    requires { ⌜ (length (now blockers) ≡ 88) × (length (now states) ≡ 144) × (length (now vectors) ≡ 272) × (slot < 8) × (isSeated slot x settings buffers (length (now scratch)) ≡ true) ⌝ }
+    requires { ⌜ (length (now blockers) ≡ 88) × (length (now states) ≡ 144) × (length (now vectors) ≡ 272) × (slot < 8) × (isSoundAt slot x settings buffers (length (now scratch)) ≡ true) ⌝ }
     ensures dock { λ r. ⌜ seats r (now (blockers .exit)) (now (states .exit)) (now (vectors .exit)) (now (scratch .exit))
         ≡ placedIn (blockersOf (now (blockers .entry))) (statesOf (now (states .entry))) (vectorsOf (now (vectors .entry))) v (admitAt (blockersOf (now (blockers .entry))) slot (settings .bounce) v (now («data» .entry)) (now (scratch .entry)) (Started x)) ⌝ }
     ensures words { λ r. ⌜ sameThree (isPlaced r) (now (blockers .entry)) (now (states .entry)) (now (vectors .entry))
@@ -104,7 +105,7 @@ pub(crate) fn admit(
     data: &[u8],
     scratch: &mut [u8],
 ) -> Begun
-    requires { ⌜ (length (now blockers) ≡ 88) × (length (now states) ≡ 144) × (length (now vectors) ≡ 272) × PlanSeated slot settings buffers (length (now scratch)) plan ⌝ }
+    requires { ⌜ (length (now blockers) ≡ 88) × (length (now states) ≡ 144) × (length (now vectors) ≡ 272) × PlanSound slot settings buffers (length (now scratch)) plan ⌝ }
     ensures dock { λ r. ⌜ seats r (now (blockers .exit)) (now (states .exit)) (now (vectors .exit)) (now (scratch .exit))
         ≡ placedIn (blockersOf (now (blockers .entry))) (statesOf (now (states .entry))) (vectorsOf (now (vectors .entry))) v (admitAt (blockersOf (now (blockers .entry))) slot (settings .bounce) v (now («data» .entry)) (now (scratch .entry)) plan) ⌝ }
     ensures words { λ r. ⌜ sameThree (isPlaced r) (now (blockers .entry)) (now (states .entry)) (now (vectors .entry))

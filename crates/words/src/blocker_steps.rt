@@ -12,7 +12,8 @@ ghost use lib.ListN.{length};
 ghost use Rattle.dock.specs.Begin.{strength, blockersWith};
 ghost use Rattle.dock.specs.Tell.{blockersWithout};
 ghost use Rattle.words.specs.View.{blockersOf};
-ghost use Rattle.words.specs.Kept.{isDone, changes};
+ghost use Rattle.arithmetic.specs.Refusals.{isDone};
+ghost use Rattle.words.specs.Kept.{changes};
 
 fn strength(strong: bool) -> Kind
     ensures { λ k. ⌜ k ≡ strength strong ⌝ }

@@ -21,7 +21,8 @@ ghost use Prim.Native.Nat.{_<_};
 ghost use lib.ListN.{length};
 ghost use Rattle.blockers.specs.Blockers.{present, notes, notesOf, forgetting, enteredOf, leftOf, waitsOf, blockerAt, isEntered};
 ghost use Rattle.words.specs.View.{kindOf, blockerOf, blockerWords, blockersOf};
-ghost use Rattle.words.specs.Kept.{isDone, sameUnless};
+ghost use Rattle.arithmetic.specs.Refusals.{isDone};
+ghost use Rattle.words.specs.Kept.{sameUnless};
 
 // How many words a blocker has.
 const BLOCKER_WORDS: usize = 11;

@@ -23,11 +23,11 @@ use arithmetic::settings::drive_profile;
 use arithmetic::settings::opening;
 use dock::begin::Asked;
 use dock::begin::Begun;
-use dock::begin::decided;
+use dock::begin::decide;
 use dock::begin::moved;
-use dock::begin::planned;
+use dock::begin::plan_asked;
 use dock::dock::SLOTS;
-use dock::dock::lent;
+use dock::dock::check_lent;
 use dock::dock::lent_fits;
 use dock::next::Due;
 use dock::next::Piece;
@@ -43,8 +43,9 @@ ghost use Rattle.dock.specs.Dock.{fresh, openOf, openProfileOf};
 ghost use Rattle.dock.specs.Begin.{begins, beginOf};
 ghost use Rattle.dock.specs.Next.{nextOf, pieceOf};
 ghost use Rattle.dock.specs.Tell.{tells, tellOf, collectOf};
-ghost use Rattle.words.specs.View.{dockOf};
-ghost use Rattle.words.specs.Kept.{isDone, isPlaced, isFinal, sameTwo, sameThree, opensOver};
+ghost use Rattle.words.specs.View.{dockOf, DockWords};
+ghost use Rattle.arithmetic.specs.Refusals.{isDone};
+ghost use Rattle.words.specs.Kept.{isPlaced, isFinal, sameTwo, sameThree, opensOver};
 
 // The words of a dock with eight free slots.
 fn set_fresh(
@@ -55,7 +56,7 @@ fn set_fresh(
     s: Settings,
     b: Buffers,
 )
-    requires { ⌜ (length (now settings) ≡ 9) × (length (now blockers) ≡ 88) × (length (now states) ≡ 144) × (length (now vectors) ≡ 272) ⌝ }
+    requires { ⌜ DockWords (now settings) (now blockers) (now states) (now vectors) ⌝ }
     ensures { λ t. ⌜ dockOf (now (settings .exit)) (now (blockers .exit)) (now (states .exit)) (now (vectors .exit)) ≡ fresh s b ⌝ }
 {
     put_settings(settings, s, b);
@@ -73,7 +74,7 @@ pub(crate) fn open(
     s: Settings,
     b: Buffers,
 ) -> Outcome
-    requires { ⌜ (length (now settings) ≡ 9) × (length (now blockers) ≡ 88) × (length (now states) ≡ 144) × (length (now vectors) ≡ 272) ⌝ }
+    requires { ⌜ DockWords (now settings) (now blockers) (now states) (now vectors) ⌝ }
     ensures { λ r. ⌜ (r ≡ openOf s b .outcome) × opensOver (openOf s b)
         (now (settings .entry)) (now (blockers .entry)) (now (states .entry)) (now (vectors .entry))
         (now (settings .exit)) (now (blockers .exit)) (now (states .exit)) (now (vectors .exit)) ⌝ }
@@ -96,7 +97,7 @@ pub(crate) fn open_profile(
     bounce: u64,
     b: Buffers,
 ) -> Outcome
-    requires { ⌜ (length (now settings) ≡ 9) × (length (now blockers) ≡ 88) × (length (now states) ≡ 144) × (length (now vectors) ≡ 272) ⌝ }
+    requires { ⌜ DockWords (now settings) (now blockers) (now states) (now vectors) ⌝ }
     ensures { λ r. ⌜ (r ≡ openProfileOf index bounce b .outcome) × opensOver (openProfileOf index bounce b)
         (now (settings .entry)) (now (blockers .entry)) (now (states .entry)) (now (vectors .entry))
         (now (settings .exit)) (now (blockers .exit)) (now (states .exit)) (now (vectors .exit)) ⌝ }
@@ -120,7 +121,7 @@ pub(crate) fn begin(
     data: &[u8],
     scratch: &mut [u8],
 ) -> Begun
-    requires { ⌜ (length (now settings) ≡ 9) × (length (now blockers) ≡ 88) × (length (now states) ≡ 144) × (length (now vectors) ≡ 272) ⌝ }
+    requires { ⌜ DockWords (now settings) (now blockers) (now states) (now vectors) ⌝ }
     ensures dock { λ r. ⌜ begins (record { answer = r; dock = dockOf (now (settings .entry)) (now (blockers .exit)) (now (states .exit)) (now (vectors .exit)) }) (now (scratch .exit))
         ≡ beginOf (dockOf (now (settings .entry)) (now (blockers .entry)) (now (states .entry)) (now (vectors .entry))) asked (now («data» .entry)) (now (scratch .entry)) ⌝ }
     ensures words { λ r. ⌜ sameThree (isPlaced r) (now (blockers .entry)) (now (states .entry)) (now (vectors .entry))
@@ -131,10 +132,10 @@ pub(crate) fn begin(
     let job = asked.job;
     let v = moved(job, asked.vector);
     let met = overlaps(states, vectors, job, v);
-    let lent = lent(s, b, data.len(), scratch.len());
+    let lent = check_lent(s, b, data.len(), scratch.len());
     let free = first_free(states);
-    let plan = planned(asked, s, b);
-    let plan = decided(lent, v.valid(data.len()), plan, met, free);
+    let first = plan_asked(asked, s, b);
+    let plan = decide(lent, v.valid(data.len()), first, met, free);
     admit(
         blockers,
         states,
@@ -159,7 +160,7 @@ pub(crate) fn next(
     data_len: usize,
     scratch_len: usize,
 ) -> Due
-    requires { ⌜ (length (now settings) ≡ 9) × (length (now blockers) ≡ 88) × (length (now states) ≡ 144) × (length (now vectors) ≡ 272) ⌝ }
+    requires { ⌜ DockWords (now settings) (now blockers) (now states) (now vectors) ⌝ }
     ensures { λ r. ⌜ r ≡ nextOf (dockOf (now (settings .entry)) (now (blockers .entry)) (now (states .entry)) (now (vectors .entry))) slot data_len «scratch_len» ⌝ }
 {
     let lent = get_buffers(settings);
@@ -186,7 +187,7 @@ pub(crate) fn piece(
     data_len: usize,
     scratch_len: usize,
 ) -> Piece
-    requires { ⌜ (length (now settings) ≡ 9) × (length (now blockers) ≡ 88) × (length (now states) ≡ 144) × (length (now vectors) ≡ 272) ⌝ }
+    requires { ⌜ DockWords (now settings) (now blockers) (now states) (now vectors) ⌝ }
     ensures { λ r. ⌜ r ≡ pieceOf (dockOf (now (settings .entry)) (now (blockers .entry)) (now (states .entry)) (now (vectors .entry))) slot i data_len «scratch_len» ⌝ }
 {
     let lent = get_buffers(settings);
@@ -216,7 +217,7 @@ pub(crate) fn tell(
     data: &mut [u8],
     scratch: &mut [u8],
 ) -> Outcome
-    requires { ⌜ (length (now settings) ≡ 9) × (length (now blockers) ≡ 88) × (length (now states) ≡ 144) × (length (now vectors) ≡ 272) ⌝ }
+    requires { ⌜ DockWords (now settings) (now blockers) (now states) (now vectors) ⌝ }
     ensures dock { λ r. ⌜ tells (record { outcome = r; dock = dockOf (now (settings .entry)) (now (blockers .exit)) (now (states .exit)) (now (vectors .entry)) }) (now («data» .exit)) (now (scratch .exit))
         ≡ tellOf (dockOf (now (settings .entry)) (now (blockers .entry)) (now (states .entry)) (now (vectors .entry))) slot code (now («data» .entry)) (now (scratch .entry)) ⌝ }
     ensures words { λ r. ⌜ sameTwo (isDone r) (now (blockers .entry)) (now (states .entry)) (now (blockers .exit)) (now (states .exit)) ⌝ }

@@ -14,7 +14,7 @@ use dock::bytes::fill_share;
 use dock::bytes::hand_out_share;
 use dock::bytes::is_bounced_read;
 use dock::bytes::is_bounced_write;
-use dock::next::is_kept;
+use dock::next::is_sound_in;
 use dock::tell::Answered;
 use dock::tell::told;
 use stages::state::State;
@@ -27,11 +27,12 @@ ghost use Prim.Native.Nat.{_*_, _<_};
 ghost use lib.ListN.{length, getD};
 ghost use Rattle.dock.specs.Dock.{isOutBy, lentFits, noVector};
 ghost use Rattle.dock.specs.Begin.{fills};
-ghost use Rattle.dock.specs.Next.{isSeated};
-ghost use Rattle.dock.specs.Tell.{hands};
-ghost use Rattle.dock.specs.Slots.{filledShare, handedShare, staysAt, endsAt, entersAt, steppedAt, toldAt, StepSeated};
+ghost use Rattle.dock.specs.Next.{isSoundAt};
+ghost use Rattle.dock.specs.Tell.{hands, staysAt, endsAt, entersAt, steppedAt, toldAt};
+ghost use Rattle.dock.specs.Slots.{filledShare, handedShare, StepSound};
 ghost use Rattle.words.specs.View.{blockersOf, statesOf, vectorsOf};
-ghost use Rattle.words.specs.Kept.{isDone, sameUnless, sameTwo, keeps, kept};
+ghost use Rattle.arithmetic.specs.Refusals.{isDone};
+ghost use Rattle.words.specs.Kept.{sameUnless, sameTwo, keeps, kept};
 
 // Whether the request of the job x in `slot` is out.
 pub(crate) fn is_out(blockers: &[u64], x: State, slot: usize) -> bool
@@ -103,7 +104,7 @@ fn stays(
     data: &[u8],
     scratch: &mut [u8],
 ) -> Outcome
-    requires { ⌜ (length (now states) ≡ 144) × (length (now vectors) ≡ 272) × (slot < 8) × (isSeated slot y settings buffers (length (now scratch)) ≡ true) ⌝ }
+    requires { ⌜ (length (now states) ≡ 144) × (length (now vectors) ≡ 272) × (slot < 8) × (isSoundAt slot y settings buffers (length (now scratch)) ≡ true) ⌝ }
     ensures dock { λ r. ⌜ keeps r (now (blockers .entry)) (now (states .exit)) (now («data» .entry)) (now (scratch .exit))
         ≡ kept (blockersOf (now (blockers .entry))) (statesOf (now (states .entry))) slot (staysAt (blockersOf (now (blockers .entry))) (slot * settings .bounce) y (getD (vectorsOf (now (vectors .entry))) slot noVector) (now («data» .entry)) (now (scratch .entry))) ⌝ }
     ensures words { λ r. ⌜ sameUnless (isDone r) (now (states .entry)) (now (states .exit)) ⌝ }
@@ -130,7 +131,7 @@ fn ends(
     data: &mut [u8],
     scratch: &[u8],
 ) -> Outcome
-    requires { ⌜ (length (now blockers) ≡ 88) × (length (now states) ≡ 144) × (length (now vectors) ≡ 272) × (slot < 8) × (isSeated slot x settings buffers (length (now scratch)) ≡ true) ⌝ }
+    requires { ⌜ (length (now blockers) ≡ 88) × (length (now states) ≡ 144) × (length (now vectors) ≡ 272) × (slot < 8) × (isSoundAt slot x settings buffers (length (now scratch)) ≡ true) ⌝ }
     ensures dock { λ r. ⌜ keeps r (now (blockers .exit)) (now (states .exit)) (now («data» .exit)) (now (scratch .entry))
         ≡ kept (blockersOf (now (blockers .entry))) (statesOf (now (states .entry))) slot (endsAt (blockersOf (now (blockers .entry))) slot (slot * settings .bounce) x code y (getD (vectorsOf (now (vectors .entry))) slot noVector) (now («data» .entry)) (now (scratch .entry))) ⌝ }
     ensures words { λ r. ⌜ sameTwo (isDone r) (now (blockers .entry)) (now (states .entry)) (now (blockers .exit)) (now (states .exit)) ⌝ }
@@ -160,7 +161,7 @@ fn enters(
     data: &[u8],
     scratch: &mut [u8],
 ) -> Outcome
-    requires { ⌜ (length (now blockers) ≡ 88) × (length (now states) ≡ 144) × (length (now vectors) ≡ 272) × (slot < 8) × (isSeated slot y settings buffers (length (now scratch)) ≡ true) ⌝ }
+    requires { ⌜ (length (now blockers) ≡ 88) × (length (now states) ≡ 144) × (length (now vectors) ≡ 272) × (slot < 8) × (isSoundAt slot y settings buffers (length (now scratch)) ≡ true) ⌝ }
     ensures dock { λ r. ⌜ keeps r (now (blockers .exit)) (now (states .exit)) (now («data» .entry)) (now (scratch .exit))
         ≡ kept (blockersOf (now (blockers .entry))) (statesOf (now (states .entry))) slot (entersAt (blockersOf (now (blockers .entry))) slot (slot * settings .bounce) x y (getD (vectorsOf (now (vectors .entry))) slot noVector) (now («data» .entry)) (now (scratch .entry))) ⌝ }
     ensures words { λ r. ⌜ sameTwo (isDone r) (now (blockers .entry)) (now (states .entry)) (now (blockers .exit)) (now (states .exit)) ⌝ }
@@ -191,7 +192,7 @@ fn step(
     data: &mut [u8],
     scratch: &mut [u8],
 ) -> Outcome
-    requires { ⌜ (length (now b) ≡ 88) × (length (now xs) ≡ 144) × (length (now vs) ≡ 272) × (slot < 8) × StepSeated slot s l x (length (now scratch)) step ⌝ }
+    requires { ⌜ (length (now b) ≡ 88) × (length (now xs) ≡ 144) × (length (now vs) ≡ 272) × (slot < 8) × StepSound slot s l x (length (now scratch)) step ⌝ }
     ensures dock { λ r. ⌜ keeps r (now (b .exit)) (now (xs .exit)) (now («data» .exit)) (now (scratch .exit))
         ≡ kept (blockersOf (now (b .entry))) (statesOf (now (xs .entry))) slot (steppedAt (blockersOf (now (b .entry))) slot (slot * s .bounce) x code (getD (vectorsOf (now (vs .entry))) slot noVector) (now («data» .entry)) (now (scratch .entry)) step) ⌝ }
     ensures words { λ r. ⌜ sameTwo (isDone r) (now (b .entry)) (now (xs .entry)) (now (b .exit)) (now (xs .exit)) ⌝ }
@@ -224,7 +225,7 @@ pub(crate) fn told_at(
     if !is_out(b, x, slot) {
         return Outcome::Refused(Refusal::Slot);
     }
-    if !is_kept(x, s, l) {
+    if !is_sound_in(x, s, l) {
         return Outcome::Refused(Refusal::Slot);
     }
     let answer = told(x, s, code);

@@ -3,15 +3,15 @@ use borrow.Author.Needs.{needs}
 use native.Mathlib.Omega.{arith}
 use Prim.Native.Nat.{_≤_, _-_}
 use mathlib.Core.Path.{_≡_}
-use lib.ListN.{length}
+use lib.ListN.{length, length-map}
+use Rattle.arithmetic.specs.Loops.{Mapped, mapped-none, mapped-more, like-all}
 use Rattle.blockers.specs.Blockers.{forgetting, nowhere}
-use Rattle.blockers.proofs.Mapped.{mapped, mapped-none, mapped-within, mapped-all}
 use Rattle.blockers.proofs.Slots.{eight}
 use Rattle.blockers.proofs.Blockers.forget.Statement.{statement}
 use Rattle.blockers.proofs.Blockers.forget.Tie as tie
 
 abbrev Inv-loop : tie.InvT-loop
-Inv-loop slot self₀ i₀ self i = (i ≤ 8) × (self .slots ≡ mapped (forgetting slot) (self₀ .slots) (self₀ .slots) i)
+Inv-loop slot self₀ i₀ self i = (i ≤ 8) × Mapped (forgetting slot) nowhere (self₀ .slots) (self .slots) i
 
 abbrev μ-loop : tie.MeasureT-loop
 μ-loop slot self₀ i₀ self i = 8 - i
@@ -20,7 +20,7 @@ whole : (s : tie.Start Inv-loop μ-loop) → length (s .args .t1 .slots) ≡ 8
 whole s = eight (s .args .t1) _ (s .good .0)
 
 loop-holds : tie.Need-loop-holds Inv-loop μ-loop
-loop-holds c = (search needs, mapped-none _ _ _)
+loop-holds c = (search needs, mapped-none (forgetting (c .args .slot)) nowhere (c .args .t1 .slots))
 
 mul-b : tie.Need-mul-b Inv-loop μ-loop
 mul-b c = search needs
@@ -45,11 +45,12 @@ loop-less c = search needs
 
 loop-again : tie.Need-loop-again Inv-loop μ-loop
 loop-again c =
-    let l = whole (c .before .before .before .before) in
-    (search needs, rw (c .forgetting .ensures) (mapped-within _ _ _ nowhere _ (omega arith) (c .before .before .before .loop .inv .1)))
+    let s = c .before .before .before .before in
+    let l = c .before .before .before .loop in
+    (search needs, rw (c .forgetting .ensures) (mapped-more (forgetting (s .args .slot)) nowhere (s .args .t1 .slots) (l .self .slots) (l .i) (omega (arith, whole s)) (l .inv .1)))
 
 returns : tie.Need-returns Inv-loop μ-loop
-returns c = let l = whole (c .before .before) in mapped-all _ _ _ 8 _ _ l l (c .before .loop .inv .1) (c .before .loop .inv .0) (search needs)
+returns c = like-all _ (c .before .loop .self .slots) (c .before .loop .i) (omega (arith, whole (c .before .before), length-map (c .before .before .args .t1 .slots) (forgetting (c .before .before .args .slot)))) (c .before .loop .inv .1 .0)
 
 pub forget-spec : {M : Type 1} → statement M
 forget-spec =

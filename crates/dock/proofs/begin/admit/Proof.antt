@@ -4,7 +4,7 @@ use mathlib.Core.Path.{sym, ap, subst, _∙_}
 use native.Mathlib.Omega.{arith}
 use lib.ListN.{length}
 use Rattle.stages.specs.declared.plan.Plan.{Plan}
-use Rattle.dock.specs.Slots.{PlanInShare, admits, admitAt}
+use Rattle.dock.specs.Begin.{PlanInShare, admits, admitAt}
 use Rattle.dock.specs.declared.begin.Admission.{Admission}
 use Rattle.dock.proofs.Merging.{in-share}
 use Rattle.dock.proofs.SlotsOf.{share-in}

@@ -1,7 +1,7 @@
 -- `dock::tell::step` meets its contract: each step is its case of the definition. Assumes nothing.
 use denote.Ref.{now}
 use mathlib.Core.Path.{sym, ap, _∙_}
-use Rattle.dock.specs.Slots.{steppedAt}
+use Rattle.dock.specs.Tell.{steppedAt}
 use borrow.Author.Needs.{needs}
 use Rattle.dock.proofs.tell.step.Statement.{statement}
 use Rattle.dock.proofs.tell.step.Tie as tie

@@ -3,7 +3,7 @@ use mathlib.Core.Path.{sym, ap, _∙_}
 use Prim.Native.Nat.{ℕ}
 use borrow.Author.Tests.{ne-eqb, lt-ltb, le-ltb}
 use Rattle.stages.specs.Stages.{toldOf}
-use Rattle.dock.specs.Slots.{answeredOf}
+use Rattle.dock.specs.Tell.{answeredOf}
 use Rattle.dock.specs.declared.tell.Answered.the-variants.{Leads}
 use borrow.Author.Needs.{needs}
 use Rattle.dock.proofs.tell.told.Statement.{statement}

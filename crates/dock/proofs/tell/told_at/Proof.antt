@@ -1,13 +1,13 @@
--- `dock::tell::told_at` meets its contract: 208 where the request is not out or the job not kept, else what the code leads to, whose bytes lie in the share. Assumes nothing.
+-- `dock::tell::told_at` meets its contract: 208 where the request is not out or the job not sound, else what the code leads to, whose bytes lie in the share. Assumes nothing.
 use denote.Ref.{now}
 use mathlib.Core.Path.{sym, ap, _∙_}
-use Rattle.dock.specs.Slots.{steps}
+use Rattle.dock.specs.Tell.{steps}
 use Rattle.dock.specs.declared.tell.Stepping.{Stepping}
 use native.Mathlib.Omega.{arith}
 use borrow.Author.Tests.{not-true, not-false}
 use lib.ListN.{length}
-use Rattle.dock.proofs.SlotsOf.{share-kept, kept-sound}
-use Rattle.dock.proofs.Steps.{told-none, told-unkept, told-answered, kept-room, leads-in-share}
+use Rattle.dock.proofs.SlotsOf.{share-sound, sound-share}
+use Rattle.dock.proofs.Steps.{told-none, told-unsound, told-answered, sound-room, leads-in-share}
 use Rattle.dock.proofs.Merging.{in-share}
 use borrow.Author.Needs.{needs}
 use Rattle.dock.proofs.tell.told_at.Statement.{statement}
@@ -22,14 +22,14 @@ unstepped-requires c κs = search needs
 returns : tie.Need-returns
 returns c = let a = c .before .before .before .before .before .args in told-none (a .b) (a .slot) (a .settings) (a .buffers) (a .x) (a .v) (a .code) (now (a .«data»)) (now (a .scratch)) (sym (c .before .before .is-out .ensures) ∙ not-true _ (c .before .if1 .taken)) _ (c .unstepped .ensures)
 
-is-kept-requires : tie.Need-is-kept-requires
-is-kept-requires c κs = search needs
+is-sound-in-requires : tie.Need-is-sound-in-requires
+is-sound-in-requires c κs = search needs
 
 unstepped-requires-2 : tie.Need-unstepped-requires-2
 unstepped-requires-2 c κs = search needs
 
 returns-2 : tie.Need-returns-2
-returns-2 c = let a = c .before .before .before .before .before .before .before .args in told-unkept (a .b) (a .slot) (a .settings) (a .buffers) (a .x) (a .v) (a .code) (now (a .«data»)) (now (a .scratch)) (sym (c .before .before .before .before .is-out .ensures) ∙ not-false _ (c .before .before .before .if1 .left)) (sym (c .before .before .is-kept .ensures) ∙ not-true _ (c .before .if2 .taken)) _ (c .unstepped2 .ensures)
+returns-2 c = let a = c .before .before .before .before .before .before .before .args in told-unsound (a .b) (a .slot) (a .settings) (a .buffers) (a .x) (a .v) (a .code) (now (a .«data»)) (now (a .scratch)) (sym (c .before .before .before .before .is-out .ensures) ∙ not-false _ (c .before .before .before .if1 .left)) (sym (c .before .before .is-sound-in .ensures) ∙ not-true _ (c .before .if2 .taken)) _ (c .unstepped2 .ensures)
 
 told-requires : tie.Need-told-requires
 told-requires c κs = search needs
@@ -44,13 +44,13 @@ enum-known-answer-2 : tie.Need-enum-known-answer-2
 enum-known-answer-2 c = search needs
 
 mul-share : tie.Need-mul-share
-mul-share c = let s = c .before .before .before .before .before .before .before .before .before .before in let a = s .args in omega (arith, share-kept (a .slot) (a .x) (a .settings) (a .buffers) (length (now (a .«data»))) (length (now (a .scratch))) (s .pre .0) (s .pre .1) (sym (c .before .before .before .before .before .is-kept .ensures) ∙ not-false _ (c .before .before .before .before .if2 .left)), s .good)
+mul-share c = let s = c .before .before .before .before .before .before .before .before .before .before in let a = s .args in omega (arith, share-sound (a .slot) (a .x) (a .settings) (a .buffers) (length (now (a .«data»))) (length (now (a .scratch))) (s .pre .0) (s .pre .1) (sym (c .before .before .before .before .before .is-sound-in .ensures) ∙ not-false _ (c .before .before .before .before .if2 .left)), s .good)
 
 step-requires : tie.Need-step-requires
-step-requires c κs = let s = c .before .before .before .before .before .before .before .before .before .before .before .before in let a = s .args in let n = length (now (a .scratch)) in let k = (sym (c .before .before .before .before .before .before .before .is-kept .ensures) ∙ not-false _ (c .before .before .before .before .before .before .if2 .left)) in let r = kept-room (a .x) (a .settings) (a .buffers) (length (now (a .«data»))) n (s .pre .1) k in let w = kept-sound (a .x) (a .settings) (a .buffers) k in (in-share (a .slot) (a .settings .bounce) (a .x) n (s .pre .0) w r, leads-in-share (a .slot) (a .settings) (a .x) (a .code) n (s .pre .0) w r _ (sym (c .before .before .before .before .before .told .ensures) ∙ c .before .before .before .answer2 .given .1))
+step-requires c κs = let s = c .before .before .before .before .before .before .before .before .before .before .before .before in let a = s .args in let n = length (now (a .scratch)) in let k = (sym (c .before .before .before .before .before .before .before .is-sound-in .ensures) ∙ not-false _ (c .before .before .before .before .before .before .if2 .left)) in let r = sound-room (a .x) (a .settings) (a .buffers) (length (now (a .«data»))) n (s .pre .1) k in let w = sound-share (a .x) (a .settings) (a .buffers) k in (in-share (a .slot) (a .settings .bounce) (a .x) n (s .pre .0) w r, leads-in-share (a .slot) (a .settings) (a .x) (a .code) n (s .pre .0) w r _ (sym (c .before .before .before .before .before .told .ensures) ∙ c .before .before .before .answer2 .given .1))
 
 returns-3 : tie.Need-returns-3
-returns-3 c = let a = c .before .before .before .before .before .before .before .before .before .before .before .args in told-answered (a .b) (a .slot) (a .settings) (a .buffers) (a .x) (a .v) (a .code) (now (a .«data»)) (now (a .scratch)) (sym (c .before .before .before .before .before .before .before .before .is-out .ensures) ∙ not-false _ (c .before .before .before .before .before .before .before .if1 .left)) (sym (c .before .before .before .before .before .before .is-kept .ensures) ∙ not-false _ (c .before .before .before .before .before .if2 .left)) _ (c .before .before .before .before .told .ensures) _ (c .before .before .answer .given .1) _ (ap (λ (z : Stepping). steps z (now (a .«data»)) (now (a .scratch))) (c .unstepped3 .ensures))
+returns-3 c = let a = c .before .before .before .before .before .before .before .before .before .before .before .args in told-answered (a .b) (a .slot) (a .settings) (a .buffers) (a .x) (a .v) (a .code) (now (a .«data»)) (now (a .scratch)) (sym (c .before .before .before .before .before .before .before .before .is-out .ensures) ∙ not-false _ (c .before .before .before .before .before .before .before .if1 .left)) (sym (c .before .before .before .before .before .before .is-sound-in .ensures) ∙ not-false _ (c .before .before .before .before .before .if2 .left)) _ (c .before .before .before .before .told .ensures) _ (c .before .before .answer .given .1) _ (ap (λ (z : Stepping). steps z (now (a .«data»)) (now (a .scratch))) (c .unstepped3 .ensures))
 
 same-length : tie.Need-same-length
 same-length c = search needs
@@ -59,7 +59,7 @@ same-length-2 : tie.Need-same-length-2
 same-length-2 c = search needs
 
 returns-4 : tie.Need-returns-4
-returns-4 c = let a = c .before .before .before .before .before .before .before .before .before .before .before .before .before .before .before .before .before .args in told-answered (a .b) (a .slot) (a .settings) (a .buffers) (a .x) (a .v) (a .code) (now (a .«data»)) (now (a .scratch)) (sym (c .before .before .before .before .before .before .before .before .before .before .before .before .before .before .is-out .ensures) ∙ not-false _ (c .before .before .before .before .before .before .before .before .before .before .before .before .before .if1 .left)) (sym (c .before .before .before .before .before .before .before .before .before .before .before .before .is-kept .ensures) ∙ not-false _ (c .before .before .before .before .before .before .before .before .before .before .before .if2 .left)) _ (c .before .before .before .before .before .before .before .before .before .before .told .ensures) _ (c .before .before .before .before .before .before .before .before .answer2 .given .1) _ (c .before .before .before .before .step .ensures)
+returns-4 c = let a = c .before .before .before .before .before .before .before .before .before .before .before .before .before .before .before .before .before .args in told-answered (a .b) (a .slot) (a .settings) (a .buffers) (a .x) (a .v) (a .code) (now (a .«data»)) (now (a .scratch)) (sym (c .before .before .before .before .before .before .before .before .before .before .before .before .before .before .is-out .ensures) ∙ not-false _ (c .before .before .before .before .before .before .before .before .before .before .before .before .before .if1 .left)) (sym (c .before .before .before .before .before .before .before .before .before .before .before .before .is-sound-in .ensures) ∙ not-false _ (c .before .before .before .before .before .before .before .before .before .before .before .if2 .left)) _ (c .before .before .before .before .before .before .before .before .before .before .told .ensures) _ (c .before .before .before .before .before .before .before .before .answer2 .given .1) _ (c .before .before .before .before .step .ensures)
 
 pub told-at-spec : {M : Type 1} → statement M
 told-at-spec =
@@ -68,7 +68,7 @@ told-at-spec =
     is-out-requires
     unstepped-requires
     returns
-    is-kept-requires
+    is-sound-in-requires
     unstepped-requires-2
     returns-2
     told-requires

@@ -1,10 +1,10 @@
 -- `words::begun_words::admit` meets its contract: each plan by its case of the definition. Assumes nothing.
 use mathlib.Core.Path.{sym, ap, _∙_}
 use Rattle.stages.specs.declared.plan.Plan.{Plan}
-use Rattle.dock.specs.Slots.{admitAt}
+use Rattle.dock.specs.Begin.{admitAt}
 use Rattle.words.specs.View.{blockersOf, statesOf, vectorsOf}
 use Rattle.words.specs.Kept.{placedIn}
-use Rattle.words.proofs.Begun.{seated-slot}
+use Rattle.words.proofs.Begun.{sound-slot}
 use Rattle.words.specs.KeptLaws.{same-words}
 use borrow.Author.Needs.{needs}
 use Rattle.words.proofs.begun_words.admit.Statement.{statement}
@@ -20,7 +20,7 @@ enum-known-plan-2 : tie.Need-enum-known-plan-2
 enum-known-plan-2 c = search needs
 
 seat-requires : tie.Need-seat-requires
-seat-requires c κs = let a = c .before .before .before .before .before .before .before .before .before .before .before .before .args in let w = rw (c .before .before .before .before .before .plan2 .given .1) at (c .before .before .before .before .before .before .before .before .before .before .before .before .pre .3) in (c .before .before .before .before .before .before .before .before .before .before .before .before .pre .0, c .before .before .before .before .before .before .before .before .before .before .before .before .pre .1, c .before .before .before .before .before .before .before .before .before .before .before .before .pre .2, seated-slot (a .slot) _ (a .settings) (a .buffers) _ w, w)
+seat-requires c κs = let a = c .before .before .before .before .before .before .before .before .before .before .before .before .args in let w = rw (c .before .before .before .before .before .plan2 .given .1) at (c .before .before .before .before .before .before .before .before .before .before .before .before .pre .3) in (c .before .before .before .before .before .before .before .before .before .before .before .before .pre .0, c .before .before .before .before .before .before .before .before .before .before .before .before .pre .1, c .before .before .before .before .before .before .before .before .before .before .before .before .pre .2, sound-slot (a .slot) _ (a .settings) (a .buffers) _ w, w)
 
 returns : tie.Need-returns
 returns c = ((let a = c .before .before .before .before .before .before .before .args in sym (ap (λ (q : Plan). placedIn (blockersOf (a .blockers .now)) (statesOf (a .states .now)) (vectorsOf (a .vectors .now)) (a .v) (admitAt (blockersOf (a .blockers .now)) (a .slot) (a .settings .bounce) (a .v) (a .«data» .now) (a .scratch .now) q)) (c .enum-told .given .1))), (same-words _ _, same-words _ _, same-words _ _))

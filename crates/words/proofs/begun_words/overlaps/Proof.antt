@@ -5,7 +5,7 @@ use mathlib.Core.Bool.{_||_}
 use Prim.Native.Nat.{_≤_, _-_}
 use Rattle.arithmetic.specs.Loops.{anyBelow}
 use Rattle.dock.specs.Dock.{meetsItself, meetsAt}
-use Rattle.dock.specs.SeatLaws.{met-none, met-more, met-all}
+use Rattle.dock.specs.SlotLaws.{met-none, met-more, met-all}
 use Rattle.words.specs.View.{statesOf, vectorsOf}
 use Rattle.words.proofs.begun_words.overlaps.Statement.{statement}
 use Rattle.words.proofs.begun_words.overlaps.Tie as tie

@@ -2,16 +2,15 @@
 use borrow.Author.Needs.{needs}
 use native.Mathlib.Omega.{arith}
 use Prim.Native.Nat.{ℕ, _+_, _*_, _≤_, _<_, _-_}
-use mathlib.Core.Path.{_≡_, refl, sym, ap, _∙_}
+use mathlib.Core.Path.{_≡_, sym, ap, _∙_}
 use mathlib.Core.List.{List, map}
-use lib.ListN.{length, getD, set, length-map, length-set, List·getD-map}
-use lib.Seq.{getD-set-other}
+use lib.ListN.{length, set, length-map, length-set}
 use Rattle.blockers.specs.Blockers.{blockerAt, nowhere, forgetting}
 use Rattle.blockers.specs.declared.Blockers.{Blockers}
 use Rattle.words.specs.Rows.{rows-length}
 use Rattle.words.specs.View.{blockerOf, blockersOf}
 use Rattle.words.specs.Laws.{note-cleared}
-use Rattle.words.proofs.Stored.{Like, like-more, like-all}
+use Rattle.arithmetic.specs.Loops.{Mapped, mapped-none, mapped-more, like-all}
 use Rattle.words.proofs.blocker_words.forget.Statement.{statement}
 use Rattle.words.proofs.blocker_words.forget.Tie as tie
 
@@ -19,25 +18,21 @@ use Rattle.words.proofs.blocker_words.forget.Tie as tie
 record Forgot (p : ℕ) (w₀ w : List ℕ) (i : ℕ) : Type 0 where
   pub turns : i ≤ 8
   pub words : length w ≡ 88
-  pub done : Like (map (forgetting p) (blockersOf w₀ .slots)) (blockersOf w .slots) i
-  pub rest : (k : ℕ) → i ≤ k → blockerAt (blockersOf w) k ≡ blockerAt (blockersOf w₀) k
+  pub done : Mapped (forgetting p) nowhere (blockersOf w₀ .slots) (blockersOf w .slots) i
 
 eight : (p : ℕ) (w : List ℕ) → length (map (forgetting p) (blockersOf w .slots)) ≡ 8
 eight p w = length-map (blockersOf w .slots) (forgetting p) ∙ rows-length blockerOf 11 8 w
 
 none-yet : (p : ℕ) (w : List ℕ) → length w ≡ 88 → Forgot p w w 0
-none-yet p w l = record { turns = omega arith; words = l; done = (rows-length blockerOf 11 8 w ∙ sym (eight p w), refl); rest = λ k h. refl }
+none-yet p w l = record { turns = omega arith; words = l; done = mapped-none (forgetting p) nowhere (blockersOf w .slots) }
 
 one-more : (p : ℕ) (w₀ w : List ℕ) (i : ℕ) → p < 8 → i < 8 → Forgot p w₀ w i → Forgot p w₀ (set w (i * 11 + 3 + p) 0) (i + 1)
 one-more p w₀ w i h g f =
-    let b = forgetting p (blockerAt (blockersOf w) i) in
-    let e : blockersOf (set w (i * 11 + 3 + p) 0) ≡ record { slots = set (blockersOf w .slots) i b } = note-cleared w i p g h (f .words) in
-    let v : b ≡ getD (map (forgetting p) (blockersOf w₀ .slots)) i (forgetting p nowhere) = ap (forgetting p) (f .rest i (omega arith)) ∙ sym (List·getD-map (forgetting p) (blockersOf w₀ .slots) i nowhere) in
+    let e : blockersOf (set w (i * 11 + 3 + p) 0) ≡ record { slots = set (blockersOf w .slots) i (forgetting p (blockerAt (blockersOf w) i)) } = note-cleared w i p g h (f .words) in
     record {
       turns = omega arith;
       words = length-set w (i * 11 + 3 + p) 0 ∙ f .words;
-      done = rw (ap (λ (x : Blockers). x .slots) e) (like-more (map (forgetting p) (blockersOf w₀ .slots)) (blockersOf w .slots) i (i + 1) b (forgetting p nowhere) refl (rw (eight p w₀) g) (f .done) v);
-      rest = λ k l. ap (λ (x : Blockers). blockerAt x k) e ∙ getD-set-other (blockersOf w .slots) i k b nowhere (λ q. omega (arith, q)) ∙ f .rest k (omega arith);
+      done = rw (ap (λ (x : Blockers). x .slots) e) (mapped-more (forgetting p) nowhere (blockersOf w₀ .slots) (blockersOf w .slots) i (rw (rows-length blockerOf 11 8 w₀) g) (f .done));
     }
 
 abbrev Inv-loop : tie.InvT-loop
@@ -77,7 +72,7 @@ same-length : tie.Need-same-length Inv-loop μ-loop
 same-length c = c .before .loop .inv .words ∙ sym (c .before .before .pre .0)
 
 returns : tie.Need-returns Inv-loop μ-loop
-returns c = like-all _ _ (c .before .loop .i) (rw (eight (c .before .before .args .slot) (c .before .before .args .all .now)) (c .loop-test .left)) (c .before .loop .inv .done)
+returns c = like-all _ _ (c .before .loop .i) (rw (eight (c .before .before .args .slot) (c .before .before .args .all .now)) (c .loop-test .left)) (c .before .loop .inv .done .0)
 
 pub forget-spec : {M : Type 1} → statement M
 forget-spec =

@@ -10,7 +10,7 @@ use Rattle.blockers.specs.declared.Kind.{Kind}
 use Rattle.words.specs.Rows.{rows-length, row-part, part-length}
 use Rattle.words.specs.View.{blockerOf, blockersOf}
 use Rattle.words.specs.Laws.{note-at}
-use Rattle.words.proofs.Stored.{Like, like-more, like-all}
+use Rattle.arithmetic.specs.Loops.{Like, like-more, like-all}
 use Rattle.words.proofs.blocker_words.notes.Statement.{statement}
 use Rattle.words.proofs.blocker_words.notes.Tie as tie
 

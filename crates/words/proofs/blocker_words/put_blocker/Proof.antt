@@ -7,7 +7,8 @@ use mathlib.Core.List.{[], _∷_, map}
 use lib.ListN.{length, length-set}
 use Rattle.words.specs.View.{kindTag, flagWord, blockerWords}
 use Rattle.words.specs.Laws.{blocker-width, blocker-note}
-use Rattle.words.proofs.Stored.{Like, like-first, like-more, like-all}
+use Rattle.arithmetic.specs.Loops.{Like, like-more, like-all}
+use Rattle.words.proofs.Stored.{like-first}
 use Rattle.words.proofs.blocker_words.put_blocker.Statement.{statement}
 use Rattle.words.proofs.blocker_words.put_blocker.Tie as tie
 

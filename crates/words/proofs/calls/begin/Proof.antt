@@ -1,5 +1,5 @@
 -- `words::calls::begin` meets its contract: each step by its definition, then what is admitted is begun. Assumes nothing.
-use Rattle.dock.specs.SeatLaws.{decided-seated}
+use Rattle.dock.specs.SlotLaws.{decided-sound}
 use Rattle.words.proofs.Begun.{begin-there}
 use borrow.Author.Needs.{needs}
 use Rattle.words.proofs.calls.begin.Statement.{statement}
@@ -17,23 +17,23 @@ moved-requires c κs = search needs
 overlaps-requires : tie.Need-overlaps-requires
 overlaps-requires c κs = search needs
 
-lent-requires : tie.Need-lent-requires
-lent-requires c κs = search needs
+check-lent-requires : tie.Need-check-lent-requires
+check-lent-requires c κs = search needs
 
 first-free-requires : tie.Need-first-free-requires
 first-free-requires c κs = search needs
 
-planned-requires : tie.Need-planned-requires
-planned-requires c κs = search needs
+plan-asked-requires : tie.Need-plan-asked-requires
+plan-asked-requires c κs = search needs
 
 valid-requires : tie.Need-valid-requires
 valid-requires c κs = search needs
 
-decided-requires : tie.Need-decided-requires
-decided-requires c κs = search needs
+decide-requires : tie.Need-decide-requires
+decide-requires c κs = search needs
 
 admit-requires : tie.Need-admit-requires
-admit-requires c κs = let a = c .before .before .before .before .before .before .before .before .before .before .before .before .before .before .before .before .before .before .before .before .before .before .args in (c .before .before .before .before .before .before .before .before .before .before .before .before .before .before .before .before .before .before .before .before .before .before .pre .1, c .before .before .before .before .before .before .before .before .before .before .before .before .before .before .before .before .before .before .before .before .before .before .pre .2, c .before .before .before .before .before .before .before .before .before .before .before .before .before .before .before .before .before .before .before .before .before .before .pre .3, decided-seated (a .asked .job) _ _ (a .asked .offset) (a .asked .length) (a .asked .vector) _ _ _ (c .before .before .before .before .before .before .before .before .before .lent .ensures) _ _ (c .before .before .before .before .before .before .planned .ensures) _ _ _ (c .before .before .before .before .decided .ensures))
+admit-requires c κs = let a = c .before .before .before .before .before .before .before .before .before .before .before .before .before .before .before .before .before .before .before .before .before .before .args in (c .before .before .before .before .before .before .before .before .before .before .before .before .before .before .before .before .before .before .before .before .before .before .pre .1, c .before .before .before .before .before .before .before .before .before .before .before .before .before .before .before .before .before .before .before .before .before .before .pre .2, c .before .before .before .before .before .before .before .before .before .before .before .before .before .before .before .before .before .before .before .before .before .before .pre .3, decided-sound (a .asked .job) _ _ (a .asked .offset) (a .asked .length) (a .asked .vector) _ _ _ (c .before .before .before .before .before .before .before .before .before .check-lent .ensures) _ _ (c .before .before .before .before .before .before .plan-asked .ensures) _ _ _ (c .before .before .before .before .decide .ensures))
 
 same-length : tie.Need-same-length
 same-length c = search needs
@@ -48,7 +48,7 @@ same-length-4 : tie.Need-same-length-4
 same-length-4 c = search needs
 
 returns : tie.Need-returns
-returns c = ((let a = c .before .before .before .before .before .before .before .before .before .before .before .before .before .before .before .before .before .before .before .before .before .before .before .before .before .before .before .before .before .before .before .args in begin-there (a .settings .now) (a .blockers .now) (a .states .now) (a .vectors .now) (a .asked) (a .«data» .now) (a .scratch .now) _ (c .before .before .before .before .before .before .before .before .before .before .before .before .before .before .before .before .before .before .before .before .before .before .before .before .get-settings .ensures) _ (c .before .before .before .before .before .before .before .before .before .before .before .before .before .before .before .before .before .before .before .before .before .before .before .get-buffers .ensures) _ (c .before .before .before .before .before .before .before .before .before .before .before .before .before .before .before .before .before .before .before .before .before .before .moved .ensures) _ (c .before .before .before .before .before .before .before .before .before .before .before .before .before .before .before .before .before .before .before .overlaps .ensures) _ (c .before .before .before .before .before .before .before .before .before .before .before .before .before .before .before .before .before .before .lent .ensures) _ (c .before .before .before .before .before .before .before .before .before .before .before .before .before .before .before .before .first-free .ensures) _ (c .before .before .before .before .before .before .before .before .before .before .before .before .before .before .before .planned .ensures) _ (c .before .before .before .before .before .before .before .before .before .before .before .before .before .before .valid .ensures) _ (c .before .before .before .before .before .before .before .before .before .before .before .before .before .decided .ensures) _ _ _ _ _ (c .before .before .before .before .before .before .before .before .admit .ensures .0)), c .before .before .before .before .before .before .before .before .admit .ensures .1)
+returns c = ((let a = c .before .before .before .before .before .before .before .before .before .before .before .before .before .before .before .before .before .before .before .before .before .before .before .before .before .before .before .before .before .before .before .args in begin-there (a .settings .now) (a .blockers .now) (a .states .now) (a .vectors .now) (a .asked) (a .«data» .now) (a .scratch .now) _ (c .before .before .before .before .before .before .before .before .before .before .before .before .before .before .before .before .before .before .before .before .before .before .before .before .get-settings .ensures) _ (c .before .before .before .before .before .before .before .before .before .before .before .before .before .before .before .before .before .before .before .before .before .before .before .get-buffers .ensures) _ (c .before .before .before .before .before .before .before .before .before .before .before .before .before .before .before .before .before .before .before .before .before .before .moved .ensures) _ (c .before .before .before .before .before .before .before .before .before .before .before .before .before .before .before .before .before .before .before .overlaps .ensures) _ (c .before .before .before .before .before .before .before .before .before .before .before .before .before .before .before .before .before .before .check-lent .ensures) _ (c .before .before .before .before .before .before .before .before .before .before .before .before .before .before .before .before .first-free .ensures) _ (c .before .before .before .before .before .before .before .before .before .before .before .before .before .before .before .plan-asked .ensures) _ (c .before .before .before .before .before .before .before .before .before .before .before .before .before .before .valid .ensures) _ (c .before .before .before .before .before .before .before .before .before .before .before .before .before .decide .ensures) _ _ _ _ _ (c .before .before .before .before .before .before .before .before .admit .ensures .0)), c .before .before .before .before .before .before .before .before .admit .ensures .1)
 
 pub begin-spec : {M : Type 1} → statement M
 begin-spec =
@@ -58,11 +58,11 @@ begin-spec =
     get-buffers-requires
     moved-requires
     overlaps-requires
-    lent-requires
+    check-lent-requires
     first-free-requires
-    planned-requires
+    plan-asked-requires
     valid-requires
-    decided-requires
+    decide-requires
     admit-requires
     same-length
     same-length-2

@@ -10,7 +10,7 @@ use Rattle.arithmetic.specs.declared.settings.Buffers.{Buffers}
 use Rattle.vectors.specs.declared.vector.IoVector.{IoVector}
 use Rattle.stages.specs.declared.state.State.{State}
 use Rattle.dock.specs.Dock.{lentFits, stateAt, vectorAt, isOutBy, isOut}
-use Rattle.dock.specs.Next.{isKept, pieceIn, pieceOf}
+use Rattle.dock.specs.Next.{isSoundOf, pieceIn, pieceOf}
 use Rattle.dock.specs.declared.next.Piece.{Piece}
 use Rattle.dock.specs.declared.next.Piece.the-variants.{Refused}
 use Rattle.dock.specs.declared.dock.Dock.{Dock}
@@ -26,7 +26,7 @@ module _ (d : Dock) (p i m n : ℕ) (f : lentFits (d .buffers) m n ≡ true) whe
 
   piece-there : p < 8 → {r : Piece} {x : State} {s : Settings} {b : Buffers} {v : IoVector} → x ≡ stateAt d p → isOutBy (d .blockers) x p ≡ true → s ≡ d .settings → b ≡ d .buffers → v ≡ vectorAt d p
       → r ≡ pieceIn p s b x v i m → r ≡ pieceOf d p i m n
-  unfolding pieceOf isOut isKept pieceIn
+  unfolding pieceOf isOut isSoundOf pieceIn
   piece-there h x o s b v e = let q : isOutBy (d .blockers) (stateAt d p) p ≡ true = rw x at o in simp (f, lt-ltb p 8 h, q) (e ∙ rw (x, s, b, v) (simp (lt-ltb p 8 h)))
 
 get-buffers-requires : tie.Need-get-buffers-requires

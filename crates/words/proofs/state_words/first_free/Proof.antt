@@ -1,6 +1,6 @@
+-- `words::state_words::first_free` meets its contract: after i turns none of the first i slots is free. Assumes nothing.
 use mathlib.Core.List.{List}
 use lib.ListN.{length, getD}
--- `words::state_words::first_free` meets its contract: after i turns none of the first i slots is free. Assumes nothing.
 use borrow.Author.Needs.{needs}
 use native.Mathlib.Omega.{arith}
 use borrow.Author.Count.{below-none, below-more}
@@ -12,7 +12,7 @@ use Rattle.dock.specs.Dock.{noState}
 use Rattle.words.specs.Rows.{rows-length}
 use Rattle.words.specs.View.{phaseOf, stateOf, statesOf}
 use Rattle.words.specs.Laws.{phase-word}
-use Rattle.words.proofs.Lowest.{NoneFree, lowest-here, lowest-none}
+use Rattle.dock.specs.SlotLaws.{NoneFree, lowest-here, lowest-none}
 use Rattle.words.proofs.state_words.first_free.Statement.{statement}
 use Rattle.words.proofs.state_words.first_free.Tie as tie
 

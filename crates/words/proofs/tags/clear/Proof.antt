@@ -4,7 +4,7 @@ use native.Mathlib.Omega.{arith}
 use Prim.Native.Nat.{ℕ, _+_, _≤_, _<_, _-_}
 use mathlib.Core.Path.{_≡_, refl, sym, _∙_}
 use lib.ListN.{length, replicate, length-replicate, getD-replicate}
-use Rattle.words.proofs.Stored.{Like, like-more, like-all}
+use Rattle.arithmetic.specs.Loops.{Like, like-more, like-all}
 use Rattle.words.proofs.tags.clear.Statement.{statement}
 use Rattle.words.proofs.tags.clear.Tie as tie
 

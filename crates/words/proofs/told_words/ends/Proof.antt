@@ -5,10 +5,10 @@ use lib.ListN.{getD}
 use borrow.Author.Tests.{not-true, not-false}
 use Rattle.dock.specs.Dock.{noVector}
 use Rattle.words.specs.View.{vectorsOf}
-use Rattle.dock.specs.SeatLaws.{handed-share}
+use Rattle.dock.specs.SlotLaws.{handed-share}
 use Rattle.words.proofs.Told.{ends-not, ends-refused, ends-done}
 use Rattle.words.specs.KeptLaws.{same-words, done-words}
-use Rattle.words.specs.Kept.{isDone}
+use Rattle.arithmetic.specs.Refusals.{isDone}
 use borrow.Author.Needs.{needs}
 use Rattle.words.proofs.told_words.ends.Statement.{statement}
 use Rattle.words.proofs.told_words.ends.Tie as tie

@@ -5,7 +5,7 @@ use lib.ListN.{getD}
 use borrow.Author.Tests.{not-true, not-false}
 use Rattle.dock.specs.Dock.{noVector}
 use Rattle.words.specs.View.{vectorsOf}
-use Rattle.dock.specs.SeatLaws.{filled-share}
+use Rattle.dock.specs.SlotLaws.{filled-share}
 use Rattle.words.proofs.Told.{enters-not, enters-refused, enters-done}
 use Rattle.words.specs.KeptLaws.{same-words, done-words}
 use borrow.Author.Needs.{needs}

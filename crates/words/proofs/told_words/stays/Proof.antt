@@ -4,7 +4,7 @@ use Prim.Native.Nat.{_*_}
 use lib.ListN.{getD}
 use Rattle.dock.specs.Dock.{noVector}
 use Rattle.words.specs.View.{vectorsOf}
-use Rattle.dock.specs.SeatLaws.{filled-share}
+use Rattle.dock.specs.SlotLaws.{filled-share}
 use Rattle.words.proofs.Told.{stays-refused, stays-done}
 use Rattle.words.specs.KeptLaws.{same-words, done-words}
 use borrow.Author.Needs.{needs}

@@ -4,7 +4,7 @@ use Prim.Native.Nat.{_*_}
 use lib.ListN.{getD}
 use Rattle.stages.specs.declared.told.Step.{Step}
 use Rattle.dock.specs.Dock.{noVector}
-use Rattle.dock.specs.Slots.{steppedAt}
+use Rattle.dock.specs.Tell.{steppedAt}
 use Rattle.words.specs.View.{blockersOf, statesOf, vectorsOf}
 use Rattle.words.specs.Kept.{kept}
 use Rattle.words.specs.KeptLaws.{same-words}

@@ -8,7 +8,7 @@ use Rattle.vectors.specs.Vectors.{none}
 use Rattle.words.specs.Rows.{rows-length}
 use Rattle.words.specs.View.{vectorFrom, segmentOf}
 use Rattle.words.specs.Laws.{segment-words}
-use Rattle.words.proofs.Stored.{Like, like-more, like-all}
+use Rattle.arithmetic.specs.Loops.{Like, like-more, like-all}
 use Rattle.words.proofs.vector_words.get_vector.Statement.{statement}
 use Rattle.words.proofs.vector_words.get_vector.Tie as tie
 

@@ -7,7 +7,8 @@ use mathlib.Core.List.{[], _∷_}
 use lib.ListN.{length, length-set}
 use Rattle.words.specs.View.{vectorWords, segmentWords}
 use Rattle.words.specs.Laws.{vector-width, vector-start, vector-length}
-use Rattle.words.proofs.Stored.{long, Like, like-first, like-more, like-all}
+use Rattle.arithmetic.specs.Loops.{array-long, Like, like-more, like-all}
+use Rattle.words.proofs.Stored.{like-first}
 use Rattle.words.proofs.vector_words.put_vector.Statement.{statement}
 use Rattle.words.proofs.vector_words.put_vector.Tie as tie
 
@@ -29,7 +30,7 @@ slice-write-row-2 c = search needs
 loop-holds : tie.Need-loop-holds Inv-loop μ-loop
 loop-holds c = let s = c .before .before in
     let v = s .args .t2 in
-    let n : length (v .segments) ≡ 16 = search (needs, long) in
+    let n : length (v .segments) ≡ 16 = search (needs, array-long) in
     let w = vector-width v n in
     (search needs, w, rw (c .size-word .ensures) (like-first (s .args .row .now) (v .count ∷ v .total ∷ []) (segmentWords (v .segments)) (omega (arith, s .pre))))
 

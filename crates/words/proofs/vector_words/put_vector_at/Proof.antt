@@ -1,6 +1,6 @@
 -- `words::vector_words::put_vector_at` meets its contract: the vector's words come back in the place of the slot's row. Assumes nothing.
 use Rattle.words.specs.Laws.{vector-part}
-use Rattle.words.proofs.Stored.{long}
+use Rattle.arithmetic.specs.Loops.{array-long}
 use borrow.Author.Needs.{needs}
 use Rattle.words.proofs.vector_words.put_vector_at.Statement.{statement}
 use Rattle.words.proofs.vector_words.put_vector_at.Tie as tie
@@ -30,7 +30,7 @@ same-length : tie.Need-same-length
 same-length c = search needs
 
 returns : tie.Need-returns
-returns c = let s = c .before .before .before .before .before in vector-part (s .args .vectors .now) (s .args .slot) (s .args .v) (c .before .before .put-vector .last .0) (s .pre .1) (s .pre .0) (search (needs, long)) (c .before .before .put-vector .ensures)
+returns c = let s = c .before .before .before .before .before in vector-part (s .args .vectors .now) (s .args .slot) (s .args .v) (c .before .before .put-vector .last .0) (s .pre .1) (s .pre .0) (search (needs, array-long)) (c .before .before .put-vector .ensures)
 
 pub put-vector-at-spec : {M : Type 1} → statement M
 put-vector-at-spec =

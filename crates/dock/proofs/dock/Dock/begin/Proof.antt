@@ -14,7 +14,7 @@ use Rattle.dock.specs.declared.begin.Begun.{Begun}
 use Rattle.dock.specs.declared.begin.Begun.the-variants.{Done as NoRequest, Placed, Refused}
 use Rattle.dock.proofs.begin.Begun.{enum}
 use Rattle.dock.specs.Dock.{meetsAt, meetsItself}
-use Rattle.dock.specs.SeatLaws.{met-none, met-more, met-all}
+use Rattle.dock.specs.SlotLaws.{met-none, met-more, met-all}
 use Rattle.dock.proofs.Steps.{decided-in-share, admitted-slot, begin-placed, begin-unplaced}
 use borrow.Author.Needs.{needs}
 use Rattle.dock.proofs.dock.Dock.begin.Statement.{statement}
@@ -69,23 +69,23 @@ loop-again c = let a = c .before .before .before .before .before .before .before
 last : (c : tie.After-loop Inv-loop μ-loop) → c .before .loop .i ≡ 8
 last c = search needs
 
-lent-requires : tie.Need-lent-requires Inv-loop μ-loop
-lent-requires c κs = tt
+check-lent-requires : tie.Need-check-lent-requires Inv-loop μ-loop
+check-lent-requires c κs = tt
 
 first-free-requires : tie.Need-first-free-requires Inv-loop μ-loop
 first-free-requires c κs = tt
 
-planned-requires : tie.Need-planned-requires Inv-loop μ-loop
-planned-requires c κs = tt
+plan-asked-requires : tie.Need-plan-asked-requires Inv-loop μ-loop
+plan-asked-requires c κs = tt
 
 valid-requires : tie.Need-valid-requires Inv-loop μ-loop
 valid-requires c κs = tt
 
-decided-requires : tie.Need-decided-requires Inv-loop μ-loop
-decided-requires c κs = tt
+decide-requires : tie.Need-decide-requires Inv-loop μ-loop
+decide-requires c κs = tt
 
 admit-requires : tie.Need-admit-requires Inv-loop μ-loop
-admit-requires c κs = let a = c .before .before .before .before .before .before .before .before .before .before .before .before .before .before .before .before .args in decided-in-share (a .asked .job) (a .t1 .settings) (a .t1 .buffers) (a .asked .offset) (a .asked .length) (a .asked .vector) (length (now (a .«data»))) (length (now (a .scratch))) _ (c .before .before .before .before .before .before .before .lent .ensures) _ _ (c .before .before .before .before .planned .ensures) _ _ _ (c .before .before .decided .ensures)
+admit-requires c κs = let a = c .before .before .before .before .before .before .before .before .before .before .before .before .before .before .before .before .args in decided-in-share (a .asked .job) (a .t1 .settings) (a .t1 .buffers) (a .asked .offset) (a .asked .length) (a .asked .vector) (length (now (a .«data»))) (length (now (a .scratch))) _ (c .before .before .before .before .before .before .before .check-lent .ensures) _ _ (c .before .before .before .before .plan-asked .ensures) _ _ _ (c .before .before .decide .ensures)
 
 enum-known-answer : tie.Need-enum-known-answer Inv-loop μ-loop
 enum-known-answer c = search needs
@@ -94,13 +94,13 @@ same-length : tie.Need-same-length Inv-loop μ-loop
 same-length c = search needs
 
 returns : tie.Need-returns Inv-loop μ-loop
-returns c = let a = c .before .before .before .before .before .before .before .before .before .before .before .before .before .before .before .before .before .before .before .before .args in begin-unplaced (a .t1) (a .asked) (now (a .«data»)) (now (a .scratch)) _ (c .before .before .before .before .before .before .before .before .before .before .before .before .before .before .before .moved .ensures) _ (met-all (a .t1 .states) (a .t1 .vectors) (a .asked .job) (c .before .before .before .before .before .before .before .before .before .before .before .before .before .before .before .moved .result) _ (c .before .before .before .before .before .before .before .before .before .before .before .before .before .loop .i) (last (c .before .before .before .before .before .before .before .before .before .before .before .before)) (c .before .before .before .before .before .before .before .before .before .before .before .before .before .loop .inv .1)) _ (c .before .before .before .before .before .before .before .before .before .before .before .lent .ensures) _ (c .before .before .before .before .before .before .before .before .before .first-free .ensures) _ (c .before .before .before .before .before .before .before .before .planned .ensures) _ (c .before .before .before .before .before .before .before .valid .ensures) _ (c .before .before .before .before .before .before .decided .ensures) _ _ (c .before .before .before .admit .ensures) (λ p e. unplaced _ p (c .match .keys2) e)
+returns c = let a = c .before .before .before .before .before .before .before .before .before .before .before .before .before .before .before .before .before .before .before .before .args in begin-unplaced (a .t1) (a .asked) (now (a .«data»)) (now (a .scratch)) _ (c .before .before .before .before .before .before .before .before .before .before .before .before .before .before .before .moved .ensures) _ (met-all (a .t1 .states) (a .t1 .vectors) (a .asked .job) (c .before .before .before .before .before .before .before .before .before .before .before .before .before .before .before .moved .result) _ (c .before .before .before .before .before .before .before .before .before .before .before .before .before .loop .i) (last (c .before .before .before .before .before .before .before .before .before .before .before .before)) (c .before .before .before .before .before .before .before .before .before .before .before .before .before .loop .inv .1)) _ (c .before .before .before .before .before .before .before .before .before .before .before .check-lent .ensures) _ (c .before .before .before .before .before .before .before .before .before .first-free .ensures) _ (c .before .before .before .before .before .before .before .before .plan-asked .ensures) _ (c .before .before .before .before .before .before .before .valid .ensures) _ (c .before .before .before .before .before .before .decide .ensures) _ _ (c .before .before .before .admit .ensures) (λ p e. unplaced _ p (c .match .keys2) e)
 
 -- the slot that was found free is one of the eight
 slot : (c : tie.After-state Inv-loop μ-loop) → c .before .before .before .answer .given .0 .0 < 8
 slot c =
     let a = c .before .before .before .before .before .before .before .before .before .before .before .before .before .before .before .before .before .before .before .before .before .before .before .before .args in
-    admitted-slot (a .t1 .blockers) (a .t1 .settings .bounce) (c .before .before .before .before .before .before .before .before .before .before .before .before .before .before .before .before .before .before .before .moved .result) (now (a .«data»)) (now (a .scratch)) (c .before .before .before .before .before .before .before .before .before .before .before .before .before .before .before .lent .result) (c .before .before .before .before .before .before .before .before .before .before .before .valid .result) (c .before .before .before .before .before .before .before .before .before .before .before .before .planned .result) (c .before .before .before .before .before .before .before .before .before .before .before .before .before .before .before .before .before .loop .met) (c .before .before .before .before .before .before .before .before .before .before .before .before .before .first-free .result) (c .before .before .before .before .before .before .before .before .before .before .decided .result) (c .before .before .before .before .before .before .before .before .before .before .decided .ensures) _ _ (c .before .before .before .before .before .before .before .admit .ensures) _ (c .before .before .before .answer .given .1)
+    admitted-slot (a .t1 .blockers) (a .t1 .settings .bounce) (c .before .before .before .before .before .before .before .before .before .before .before .before .before .before .before .before .before .before .before .moved .result) (now (a .«data»)) (now (a .scratch)) (c .before .before .before .before .before .before .before .before .before .before .before .before .before .before .before .check-lent .result) (c .before .before .before .before .before .before .before .before .before .before .before .valid .result) (c .before .before .before .before .before .before .before .before .before .before .before .before .plan-asked .result) (c .before .before .before .before .before .before .before .before .before .before .before .before .before .before .before .before .before .loop .met) (c .before .before .before .before .before .before .before .before .before .before .before .before .before .first-free .result) (c .before .before .before .before .before .before .before .before .before .before .decide .result) (c .before .before .before .before .before .before .before .before .before .before .decide .ensures) _ _ (c .before .before .before .before .before .before .before .admit .ensures) _ (c .before .before .before .answer .given .1)
 
 mul-state : tie.Need-mul-state Inv-loop μ-loop
 mul-state c = omega (arith, slot c)
@@ -118,7 +118,7 @@ same-length-2 : tie.Need-same-length-2 Inv-loop μ-loop
 same-length-2 c = search needs
 
 returns-2 : tie.Need-returns-2 Inv-loop μ-loop
-returns-2 c = let a = c .before .before .before .before .before .before .before .before .before .before .before .before .before .before .before .before .before .before .before .before .before .before .before .before .args in begin-placed (a .t1) (a .asked) (now (a .«data»)) (now (a .scratch)) _ (c .before .before .before .before .before .before .before .before .before .before .before .before .before .before .before .before .before .before .before .moved .ensures) _ (met-all (a .t1 .states) (a .t1 .vectors) (a .asked .job) (c .before .before .before .before .before .before .before .before .before .before .before .before .before .before .before .before .before .before .before .moved .result) _ (c .before .before .before .before .before .before .before .before .before .before .before .before .before .before .before .before .before .loop .i) (last (c .before .before .before .before .before .before .before .before .before .before .before .before .before .before .before .before)) (c .before .before .before .before .before .before .before .before .before .before .before .before .before .before .before .before .before .loop .inv .1)) _ (c .before .before .before .before .before .before .before .before .before .before .before .before .before .before .before .lent .ensures) _ (c .before .before .before .before .before .before .before .before .before .before .before .before .before .first-free .ensures) _ (c .before .before .before .before .before .before .before .before .before .before .before .before .planned .ensures) _ (c .before .before .before .before .before .before .before .before .before .before .before .valid .ensures) _ (c .before .before .before .before .before .before .before .before .before .before .decided .ensures) _ _ (c .before .before .before .before .before .before .before .admit .ensures) _ (c .before .before .before .answer .given .1)
+returns-2 c = let a = c .before .before .before .before .before .before .before .before .before .before .before .before .before .before .before .before .before .before .before .before .before .before .before .before .args in begin-placed (a .t1) (a .asked) (now (a .«data»)) (now (a .scratch)) _ (c .before .before .before .before .before .before .before .before .before .before .before .before .before .before .before .before .before .before .before .moved .ensures) _ (met-all (a .t1 .states) (a .t1 .vectors) (a .asked .job) (c .before .before .before .before .before .before .before .before .before .before .before .before .before .before .before .before .before .before .before .moved .result) _ (c .before .before .before .before .before .before .before .before .before .before .before .before .before .before .before .before .before .loop .i) (last (c .before .before .before .before .before .before .before .before .before .before .before .before .before .before .before .before)) (c .before .before .before .before .before .before .before .before .before .before .before .before .before .before .before .before .before .loop .inv .1)) _ (c .before .before .before .before .before .before .before .before .before .before .before .before .before .before .before .check-lent .ensures) _ (c .before .before .before .before .before .before .before .before .before .before .before .before .before .first-free .ensures) _ (c .before .before .before .before .before .before .before .before .before .before .before .before .plan-asked .ensures) _ (c .before .before .before .before .before .before .before .before .before .before .before .valid .ensures) _ (c .before .before .before .before .before .before .before .before .before .before .decide .ensures) _ _ (c .before .before .before .before .before .before .before .admit .ensures) _ (c .before .before .before .answer .given .1)
 
 pub begin-spec : {M : Type 1} → statement M
 begin-spec =
@@ -137,11 +137,11 @@ begin-spec =
     add-i
     loop-less
     loop-again
-    lent-requires
+    check-lent-requires
     first-free-requires
-    planned-requires
+    plan-asked-requires
     valid-requires
-    decided-requires
+    decide-requires
     admit-requires
     enum-known-answer
     same-length

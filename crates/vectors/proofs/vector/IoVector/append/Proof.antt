@@ -9,7 +9,7 @@ use lib.ListN.{length}
 use borrow.Author.Tests.{not-true, not-false}
 use Rattle.vectors.specs.Vectors.{isValid}
 use Rattle.vectors.specs.SegmentLaws.{Valid, valid}
-use Rattle.vectors.proofs.Pass.{array-long}
+use Rattle.arithmetic.specs.Loops.{array-long}
 use Rattle.vectors.proofs.Building.{grown}
 use Rattle.vectors.proofs.Editing.{not-valid, append-other, append-is, append-full, append-first, append-rest, append-done}
 use borrow.Author.Needs.{needs}

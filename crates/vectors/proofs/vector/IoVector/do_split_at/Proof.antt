@@ -4,7 +4,7 @@ use Prim.Native.Nat.{_-_}
 use native.Mathlib.Omega.{arith}
 use lib.ListN.{length}
 use borrow.Author.Needs.{needs}
-use Rattle.vectors.proofs.Pass.{array-long}
+use Rattle.arithmetic.specs.Loops.{array-long}
 use Rattle.vectors.proofs.Splitting.{Walk, walk-start, walk-end, walk-here, walk-next}
 use Rattle.vectors.proofs.vector.IoVector.do_split_at.Statement.{statement}
 use Rattle.vectors.proofs.vector.IoVector.do_split_at.Tie as tie

@@ -5,7 +5,8 @@ use mathlib.Core.Path.{_≡_}
 use Prim.Native.Nat.{_-_}
 use lib.ListN.{length}
 use denote.Ref.{now}
-use Rattle.vectors.proofs.Pass.{nth, array-long}
+use Rattle.arithmetic.specs.Loops.{array-long}
+use Rattle.vectors.proofs.Pass.{nth}
 use Rattle.vectors.proofs.Moving.{Filled, fill-fits, fill-step, fill-end, fill-start, filled-back}
 use Rattle.vectors.proofs.vector.IoVector.fill_segments.Statement.{statement}
 use Rattle.vectors.proofs.vector.IoVector.fill_segments.Tie as tie

@@ -5,7 +5,8 @@ use Prim.Native.Nat.{_-_}
 use lib.ListN.{length}
 use denote.Ref.{now}
 use borrow.Author.Needs.{needs}
-use Rattle.vectors.proofs.Pass.{nth, array-long}
+use Rattle.arithmetic.specs.Loops.{array-long}
+use Rattle.vectors.proofs.Pass.{nth}
 use Rattle.vectors.proofs.Moving.{Gathered, gather-fits, gather-step, gather-end, gather-start, copies-of, copied-back}
 use Rattle.vectors.proofs.vector.IoVector.gather.Statement.{statement}
 use Rattle.vectors.proofs.vector.IoVector.gather.Tie as tie

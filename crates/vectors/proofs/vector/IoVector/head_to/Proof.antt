@@ -2,7 +2,7 @@
 use mathlib.Core.Path.{_≡_}
 use mathlib.Core.List.{[]}
 use lib.ListN.{length}
-use Rattle.vectors.proofs.Pass.{array-long}
+use Rattle.arithmetic.specs.Loops.{array-long}
 use Rattle.vectors.proofs.Building.{grown}
 use Rattle.vectors.proofs.Splitting.{head-joins, head-clean, in-array, head-room, head-inner}
 use borrow.Author.Needs.{needs}

@@ -4,7 +4,7 @@ use native.Mathlib.Omega.{arith}
 use mathlib.Core.Path.{_≡_}
 use Prim.Native.Nat.{_-_}
 use lib.ListN.{length}
-use Rattle.vectors.proofs.Pass.{array-long}
+use Rattle.arithmetic.specs.Loops.{array-long}
 use Rattle.vectors.proofs.Building.{Joining, join-start, join-end, join-room, join-next, reads}
 use Rattle.vectors.proofs.vector.IoVector.joined.Statement.{statement}
 use Rattle.vectors.proofs.vector.IoVector.joined.Tie as tie

@@ -5,7 +5,7 @@ use Prim.Native.Nat.{_-_}
 use native.Mathlib.Omega.{arith}
 use lib.ListN.{length}
 use Rattle.vectors.specs.Vectors.{segmentsOf, shares, anySegment, overlapOf}
-use Rattle.vectors.proofs.Pass.{array-long}
+use Rattle.arithmetic.specs.Loops.{array-long}
 use Rattle.vectors.proofs.Testing.{Sought, overlap-start, sought-here, sought-next, sought-end}
 use Rattle.vectors.proofs.vector.IoVector.overlaps.Statement.{statement}
 use Rattle.vectors.proofs.vector.IoVector.overlaps.Tie as tie

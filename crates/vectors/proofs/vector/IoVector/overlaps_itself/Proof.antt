@@ -4,7 +4,7 @@ use mathlib.Core.Path.{_≡_, sym, _∙_}
 use Prim.Native.Nat.{_-_}
 use native.Mathlib.Omega.{arith}
 use lib.ListN.{length}
-use Rattle.vectors.proofs.Pass.{array-long}
+use Rattle.arithmetic.specs.Loops.{array-long}
 use Rattle.vectors.proofs.Testing.{Selfsought, self-start, self-from, self-here, self-next, self-end}
 use Rattle.vectors.proofs.vector.IoVector.overlaps_itself.Statement.{statement}
 use Rattle.vectors.proofs.vector.IoVector.overlaps_itself.Tie as tie

@@ -5,7 +5,8 @@ use Prim.Native.Nat.{_-_}
 use lib.ListN.{length}
 use denote.Ref.{now}
 use borrow.Author.Needs.{needs}
-use Rattle.vectors.proofs.Pass.{nth, array-long}
+use Rattle.arithmetic.specs.Loops.{array-long}
+use Rattle.vectors.proofs.Pass.{nth}
 use Rattle.vectors.proofs.Moving.{Scattered, scatter-fits, scatter-step, scatter-end, scatter-start, copied-back}
 use Rattle.vectors.proofs.vector.IoVector.scatter.Statement.{statement}
 use Rattle.vectors.proofs.vector.IoVector.scatter.Tie as tie

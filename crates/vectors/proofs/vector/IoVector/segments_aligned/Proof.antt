@@ -4,7 +4,7 @@ use mathlib.Core.Path.{_≡_, refl}
 use Prim.Native.Nat.{_-_}
 use native.Mathlib.Omega.{arith}
 use lib.ListN.{length}
-use Rattle.vectors.proofs.Pass.{array-long}
+use Rattle.arithmetic.specs.Loops.{array-long}
 use Rattle.vectors.proofs.Testing.{Lined, few, lined-fits, off-start, off-length, lined-next, lined-end}
 use Rattle.vectors.proofs.vector.IoVector.segments_aligned.Statement.{statement}
 use Rattle.vectors.proofs.vector.IoVector.segments_aligned.Tie as tie

@@ -5,7 +5,7 @@ use Prim.Native.Nat.{_-_}
 use native.Mathlib.Omega.{arith}
 use lib.ListN.{length, drop}
 use Rattle.vectors.specs.Vectors.{segmentsOf, shares, anySegment}
-use Rattle.vectors.proofs.Pass.{array-long}
+use Rattle.arithmetic.specs.Loops.{array-long}
 use Rattle.vectors.proofs.Testing.{Sought, sought-start, sought-here, sought-next, sought-end}
 use Rattle.vectors.proofs.vector.IoVector.shares_from.Statement.{statement}
 use Rattle.vectors.proofs.vector.IoVector.shares_from.Tie as tie

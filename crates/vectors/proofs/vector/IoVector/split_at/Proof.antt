@@ -8,7 +8,7 @@ use Rattle.vectors.specs.declared.vector.Split.{Split}
 use Rattle.vectors.specs.Vectors.{segmentsOf, isValid}
 use Rattle.vectors.specs.Positions.{positionOf, Cut}
 use Rattle.vectors.specs.SegmentLaws.{valid}
-use Rattle.vectors.proofs.Pass.{array-long}
+use Rattle.arithmetic.specs.Loops.{array-long}
 use Rattle.vectors.proofs.Splitting.{cut-of, split-refused, split-done}
 use borrow.Author.Needs.{needs}
 use Rattle.vectors.proofs.vector.IoVector.split_at.Statement.{statement}

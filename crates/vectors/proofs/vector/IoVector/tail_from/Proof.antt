@@ -3,7 +3,7 @@ use mathlib.Core.Path.{_≡_}
 use mathlib.Core.List.{[]}
 use native.Mathlib.Omega.{arith}
 use lib.ListN.{length}
-use Rattle.vectors.proofs.Pass.{array-long}
+use Rattle.arithmetic.specs.Loops.{array-long}
 use Rattle.vectors.proofs.Building.{grown}
 use Rattle.vectors.proofs.Splitting.{tail-joins, tail-clean, in-array, tail-ends, tail-room, tail-rest, tail-inner}
 use borrow.Author.Needs.{needs}

@@ -3,7 +3,7 @@ use borrow.Author.Needs.{needs}
 use mathlib.Core.Path.{_≡_}
 use native.Mathlib.Omega.{arith}
 use lib.ListN.{length, length-take}
-use Rattle.vectors.proofs.Pass.{array-long}
+use Rattle.arithmetic.specs.Loops.{array-long}
 use Rattle.vectors.proofs.vector.IoVector.used.Statement.{statement}
 use Rattle.vectors.proofs.vector.IoVector.used.Tie as tie
 

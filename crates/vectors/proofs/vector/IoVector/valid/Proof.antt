@@ -6,7 +6,8 @@ use Prim.Native.Nat.{_-_, _<_}
 use lib.ListN.{length}
 use borrow.Author.Tests.{not-true, not-false, lt-leb}
 use Rattle.vectors.specs.Vectors.{isValid}
-use Rattle.vectors.proofs.Pass.{array-long, Checked, check-start, check-end, check-bad, check-long, check-next}
+use Rattle.arithmetic.specs.Loops.{array-long}
+use Rattle.vectors.proofs.Pass.{Checked, check-start, check-end, check-bad, check-long, check-next}
 use Rattle.vectors.proofs.vector.IoVector.valid.Statement.{statement}
 use Rattle.vectors.proofs.vector.IoVector.valid.Tie as tie
 

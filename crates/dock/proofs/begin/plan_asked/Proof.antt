@@ -1,12 +1,12 @@
--- `dock::begin::planned` meets its contract: each kind of job by its plan. Assumes nothing.
+-- `dock::begin::plan_asked` meets its contract: each kind of job by its plan. Assumes nothing.
 use mathlib.Core.Path.{sym, ap, _∙_}
 use mathlib.Core.Bool.{Bool}
 use Rattle.stages.specs.Stages.{readPlan, writePlan}
 use Rattle.stages.specs.declared.state.Job.{Job}
 use Rattle.dock.specs.Begin.{planOf}
 use borrow.Author.Needs.{needs}
-use Rattle.dock.proofs.begin.planned.Statement.{statement}
-use Rattle.dock.proofs.begin.planned.Tie as tie
+use Rattle.dock.proofs.begin.plan_asked.Statement.{statement}
+use Rattle.dock.proofs.begin.plan_asked.Tie as tie
 
 is-aligned-requires : tie.Need-is-aligned-requires
 is-aligned-requires c κs = search needs
@@ -56,8 +56,8 @@ returns-4 c = let a = c .before .before .before .before .before .before .args in
 returns-5 : tie.Need-returns-5
 returns-5 c = let a = c .before .before .before .before .before .before .args in c .discard-plan .ensures ∙ sym (ap (λ (j : Job). planOf j (a .settings) (a .buffers) (a .asked .offset) (a .asked .length) (a .asked .vector)) (c .before .enum-told5 .given .1))
 
-pub planned-spec : {M : Type 1} → statement M
-planned-spec =
+pub plan-asked-spec : {M : Type 1} → statement M
+plan-asked-spec =
     tie.close
     (tie.spec
     is-aligned-requires

@@ -1,10 +1,10 @@
--- `dock::dock::lent` meets its contract: opening's refusal, else whether the lengths fit. Assumes nothing.
+-- `dock::dock::check_lent` meets its contract: opening's refusal, else whether the lengths fit. Assumes nothing.
 use Rattle.arithmetic.specs.declared.refusals.Outcome.the-variants.{Done, Refused}
 use mathlib.Core.Path.{_≡_, sym, _∙_}
 use Rattle.dock.specs.Dock.{lentOf}
 use borrow.Author.Needs.{needs}
-use Rattle.dock.proofs.dock.lent.Statement.{statement}
-use Rattle.dock.proofs.dock.lent.Tie as tie
+use Rattle.dock.proofs.dock.check_lent.Statement.{statement}
+use Rattle.dock.proofs.dock.check_lent.Tie as tie
 
 opening-requires : tie.Need-opening-requires
 opening-requires c κs = tt
@@ -39,8 +39,8 @@ returns-3 c =
     let e : o .opening .result ≡ Done = c .before .before .enum-told .given .1 in
     simp (sym (o .opening .ensures) ∙ e, sym (c .before .lent-fits .ensures) ∙ c .if1 .left)
 
-pub lent-spec : {M : Type 1} → statement M
-lent-spec =
+pub check-lent-spec : {M : Type 1} → statement M
+check-lent-spec =
     tie.close
     (tie.spec
     opening-requires

@@ -1,8 +1,8 @@
--- `stages::state::State::sound` meets its contract: a phase without bounce buffer is sound, in any other the stage's bytes lie in it. Assumes nothing.
+-- `stages::state::State::is_sound` meets its contract: a phase without bounce buffer is sound, in any other the stage's bytes lie in it. Assumes nothing.
 use mathlib.Core.Path.{sym, _∙_}
 use Rattle.stages.specs.Stages.{isSound}
-use Rattle.stages.proofs.state.State.sound.Statement.{statement}
-use Rattle.stages.proofs.state.State.sound.Tie as tie
+use Rattle.stages.proofs.state.State.is_sound.Statement.{statement}
+use Rattle.stages.proofs.state.State.is_sound.Tie as tie
 
 uses-bounce-requires : tie.Need-uses-bounce-requires
 uses-bounce-requires c κs = tt
@@ -22,5 +22,5 @@ returns-2 c =
     let e = sym (c .before .uses-bounce .ensures) ∙ c .if1 .left in
     simp e
 
-pub sound-spec : {M : Type 1} → statement M
-sound-spec = tie.close (tie.spec uses-bounce-requires lies-in-requires returns returns-2)
+pub is-sound-spec : {M : Type 1} → statement M
+is-sound-spec = tie.close (tie.spec uses-bounce-requires lies-in-requires returns returns-2)

@@ -1,4 +1,4 @@
--- `dock::begin::decided` meets its contract: each test in the order of the definition. Assumes nothing.
+-- `dock::begin::decide` meets its contract: each test in the order of the definition. Assumes nothing.
 use mathlib.Core.Path.{_≡_, refl, sym, ap, _∙_}
 use mathlib.Core.List.{[], _∷_}
 use mathlib.Core.Logic.{⊎-elim}
@@ -15,10 +15,10 @@ use Rattle.arithmetic.specs.declared.refusals.Outcome.the-variants.{Done}
 use Rattle.stages.specs.declared.state.State.{State}
 use Rattle.stages.specs.declared.plan.Plan.{Plan}
 use Rattle.stages.specs.declared.plan.Plan.the-variants.{Done as NothingToDo, Started, Refused}
-use Rattle.dock.specs.Slots.{allowedBy, decidedOf}
+use Rattle.dock.specs.Begin.{allowedBy, decidedOf}
 use borrow.Author.Needs.{needs}
-use Rattle.dock.proofs.begin.decided.Statement.{statement}
-use Rattle.dock.proofs.begin.decided.Tie as tie
+use Rattle.dock.proofs.begin.decide.Statement.{statement}
+use Rattle.dock.proofs.begin.decide.Tie as tie
 
 module _ (lent : Outcome) (valid : Bool) (plan : Plan) (met : Bool) (free : ℕ) (l : lent ≡ Done) where
   invalid : valid ≡ false → Refused Segment ≡ decidedOf lent valid plan met free
@@ -71,8 +71,8 @@ returns-5 c = let a = c .before .before .before .before .before .before .before 
 returns-6 : tie.Need-returns-6
 returns-6 c = let a = c .before .before .before .before .before .before .before .before .args in starts (a .lent) (a .valid) (a .plan) (a .met) (a .free) (c .before .before .before .before .before .before .enum-told .given .1) (not-false _ (c .before .before .before .before .before .if1 .left)) _ (c .before .before .before .plan .given .1) (c .before .if2 .left) (c .if3 .left)
 
-pub decided-spec : {M : Type 1} → statement M
-decided-spec =
+pub decide-spec : {M : Type 1} → statement M
+decide-spec =
     tie.close
     (tie.spec
     enum-known-lent
