@@ -1,5 +1,5 @@
 /*
- * The dock: byte ranges over an aligned drive, for C99 and C++. Link with libboundary.a (`rt staticlib boundary`).
+ * The dock: byte ranges over an aligned drive, for C99 and C++. Link with libdock_c.a (`rt staticlib dock_c`).
  *
  * A job is begun (read, write, zeroes, discard) over any byte range of the store. dock_next says which aligned request
  * the store must carry out for it, dock_piece where that request's bytes lie, dock_tell hands in the store's code,
@@ -38,7 +38,7 @@
 extern "C" {
 #endif
 
-/* ---- The version: of the headers, and of the libboundary.a that they are delivered with ---- */
+/* ---- The version: of the headers, and of the libdock_c.a that they are delivered with ---- */
 
 #define DOCK_VERSION_MAJOR 0
 #define DOCK_VERSION_MINOR 2
@@ -188,7 +188,7 @@ struct dock_chunk_range {
     uint8_t refusal;
 };
 
-/* ---- The raw calls of libboundary.a; use the wrappers below ---- */
+/* ---- The raw calls of libdock_c.a; use the wrappers below ---- */
 
 enum dock_words_limit { DOCK_WORDS_NO_NUMBER = 256 };
 

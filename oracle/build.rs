@@ -3,9 +3,9 @@
 use std::env;
 use std::path::PathBuf;
 
-/// Where `rt staticlib boundary` leaves it, seen from this package.
+/// Where `rt staticlib dock_c` leaves it, seen from this package.
 const FOLDER: &str = "../target/staticlib";
-const FILE: &str = "libboundary.a";
+const FILE: &str = "libdock_c.a";
 
 fn main() {
     println!("cargo:rustc-check-cfg=cfg(dock)");
@@ -19,5 +19,5 @@ fn main() {
     }
     println!("cargo:rustc-cfg=dock");
     println!("cargo:rustc-link-search=native={}", folder.display());
-    println!("cargo:rustc-link-lib=static=boundary");
+    println!("cargo:rustc-link-lib=static=dock_c");
 }

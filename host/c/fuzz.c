@@ -1,5 +1,5 @@
 /*
- * Random words, arguments and buffers against the raw calls of libboundary.a: fuzz [SECONDS [SEED [EPISODE]]], 60
+ * Random words, arguments and buffers against the raw calls of libdock_c.a: fuzz [SECONDS [SEED [EPISODE]]], 60
  * seconds and seed 1 unless said. Each array and buffer lies between two pages that nobody may touch, its end (or its
  * start) right at one of them. After each call: it has returned; where it refuses, no word and no byte has changed;
  * where it does not, only what is the call's to change; its number is one of document 01's for the call. An episode

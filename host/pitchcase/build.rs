@@ -1,4 +1,4 @@
-//! Says which libboundary.a the program is linked with, by the start of its SHA-256, for `--version`.
+//! Says which libdock_c.a the program is linked with, by the start of its SHA-256, for `--version`.
 
 use std::env;
 use std::path::{Path, PathBuf};
@@ -7,7 +7,7 @@ use std::process::Command;
 fn main() {
     let here = env::var("CARGO_MANIFEST_DIR").expect("cargo sets it");
     let made = Path::new(&here).join("../../target/staticlib");
-    let library = env::var_os("DOCK_LIB").map_or(made, PathBuf::from).join("libboundary.a");
+    let library = env::var_os("DOCK_LIB").map_or(made, PathBuf::from).join("libdock_c.a");
     println!("cargo:rerun-if-env-changed=DOCK_LIB");
     println!("cargo:rerun-if-changed={}", library.display());
     let said = Command::new("sha256sum").arg(&library).output();

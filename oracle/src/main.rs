@@ -157,7 +157,7 @@ mod dock {
 mod dock {
     use super::*;
 
-    const NONE: &str = "built without the dock: make libboundary.a (rt staticlib boundary), or name its folder by DOCK_LIB";
+    const NONE: &str = "built without the dock: make libdock_c.a (rt staticlib dock_c), or name its folder by DOCK_LIB";
 
     pub fn lists(_: &Options) -> Result<(Progress, Option<Found>), String> {
         Err(NONE.to_owned())

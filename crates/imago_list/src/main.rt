@@ -2,5 +2,5 @@
 // The list was made by `oracle fixed` (oracle/README.md, "The fixed list").
 
 fn main() {
-    replaying::replay_input();
+    replay_run::replay_input();
 }

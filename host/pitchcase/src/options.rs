@@ -11,7 +11,7 @@ use std::os::unix::ffi::OsStrExt;
 use std::path::PathBuf;
 
 /// The version, and which library the program is linked with.
-const VERSION: &str = concat!(env!("CARGO_PKG_VERSION"), " (libboundary.a ", env!("PITCHCASE_LIBRARY"), ")");
+const VERSION: &str = concat!(env!("CARGO_PKG_VERSION"), " (libdock_c.a ", env!("PITCHCASE_LIBRARY"), ")");
 
 const TOP_END: &str = "\
 Numbers: decimal, 0x and hex, or decimal with B, K, M, G, T, P, E (powers of 1024).

@@ -36,7 +36,7 @@
 //! the store's code, [`Dock::collect`] takes the final answer. "Document 01" is the agreed scope; it says what is
 //! right.
 //!
-//! The calls are those of the proved library `libboundary.a`. What its proof asks of a caller, this crate keeps by
+//! The calls are those of the proved library `libdock_c.a`. What its proof asks of a caller, this crate keeps by
 //! types:
 //!
 //! - Data and scratch are borrowed by the dock, so they stay where they are and do not overlap.

@@ -1,4 +1,4 @@
-//! The calls of `libboundary.a`, as it has them, behind functions that are safe to call, and the buffers that they work
+//! The calls of `libdock_c.a`, as it has them, behind functions that are safe to call, and the buffers that they work
 //! on. All that is unsafe in this crate is here and in `raw/loan.rs`.
 //!
 //! The library is proved to return for any words, and to touch nothing outside its arrays and the lent bytes. What its

@@ -1,0 +1,34 @@
+-- `dock_c::parts::dock_words_vector_split_tail_at` meets its contract: what the call on the vector gives, written back. Assumes nothing.
+use mathlib.Core.Path.{ap, _∙_}
+use Rattle.arithmetic.specs.Refusals.{outcomeNumber}
+use Rattle.vectors.specs.declared.vector.IoVector.{IoVector}
+use Rattle.vectors.specs.declared.vector.Changed.{Changed}
+use Rattle.vectors.specs.Vectors.{splitTailOf}
+use borrow.Author.Needs.{needs}
+use Rattle.dock_c.proofs.parts.dock_words_vector_split_tail_at.Statement.{statement}
+use Rattle.dock_c.proofs.parts.dock_words_vector_split_tail_at.Tie as tie
+
+vector-of-requires : tie.Need-vector-of-requires
+vector-of-requires c κs = search needs
+
+split-tail-at-requires : tie.Need-split-tail-at-requires
+split-tail-at-requires c κs = search needs
+
+put-vector-of-requires : tie.Need-put-vector-of-requires
+put-vector-of-requires c κs = search needs
+
+number-requires : tie.Need-number-requires
+number-requires c κs = search needs
+
+returns : tie.Need-returns
+returns c = let a = c .before .before .before .before .before .before .args in let e = c .before .before .before .split-tail-at .ensures ∙ ap (λ (v : IoVector). splitTailOf (a .data-len) v (a .mid)) (c .before .before .before .before .vector-of .ensures) in (c .number .ensures ∙ ap (λ (z : Changed). outcomeNumber (z .outcome)) e, c .before .put-vector-of .ensures ∙ ap (λ (z : Changed). z .vector) e)
+
+pub dock-words-vector-split-tail-at-spec : {M : Type 1} → statement M
+dock-words-vector-split-tail-at-spec =
+    tie.close
+    (tie.spec
+    vector-of-requires
+    split-tail-at-requires
+    put-vector-of-requires
+    number-requires
+    returns)

@@ -1,0 +1,50 @@
+-- `dock_c::replies::planned_reply` meets its contract: each arm is its case of the definition. Assumes nothing.
+use mathlib.Core.Path.{sym, ap, _∙_}
+use Rattle.dock_c.specs.Replies.{replyOf, numbers}
+use Rattle.dock_c.specs.Replies.{plannedPaper}
+use Rattle.arithmetic.specs.declared.planner.Planned.{Planned}
+use Prim.Native.Nat.{ℕ}
+use borrow.Author.Needs.{needs}
+use Rattle.dock_c.proofs.replies.planned_reply.Statement.{statement}
+use Rattle.dock_c.proofs.replies.planned_reply.Tie as tie
+
+enum-known-p : tie.Need-enum-known-p
+enum-known-p c = search needs
+
+size-requires : tie.Need-size-requires
+size-requires c κs = search needs
+
+valued-requires : tie.Need-valued-requires
+valued-requires c κs = search needs
+
+enum-known-p-2 : tie.Need-enum-known-p-2
+enum-known-p-2 c = search needs
+
+number-requires : tie.Need-number-requires
+number-requires c κs = search needs
+
+cast-numbered : tie.Need-cast-numbered
+cast-numbered c = search needs
+
+numbered-requires : tie.Need-numbered-requires
+numbered-requires c κs = search needs
+
+returns : tie.Need-returns
+returns c = c .valued .ensures ∙ ap (λ (n : ℕ). record { number = 256; count = 2; first = c .before .before .before .before .p .given .0 .0 .start .0; second = n; third = 0; fourth = 0 }) (c .before .size .ensures) ∙ sym (ap (λ (z : Planned). replyOf (plannedPaper z)) (c .before .before .before .before .p .given .1))
+
+returns-2 : tie.Need-returns-2
+returns-2 c = c .numbered .ensures ∙ ap numbers (c .before .number .ensures) ∙ sym (ap (λ (z : Planned). replyOf (plannedPaper z)) (c .before .before .before .p2 .given .1))
+
+pub planned-reply-spec : {M : Type 1} → statement M
+planned-reply-spec =
+    tie.close
+    (tie.spec
+    enum-known-p
+    size-requires
+    valued-requires
+    enum-known-p-2
+    number-requires
+    cast-numbered
+    numbered-requires
+    returns
+    returns-2)

@@ -1,0 +1,145 @@
+// What crosses the boundary: document 01's number and values of an answer, in one struct of words.
+use arithmetic::planner::Count;
+use arithmetic::planner::Planned;
+use dock::begin::Begun;
+use dock::next::Due;
+use dock::next::Piece;
+use dock::tell::Collected;
+use stages::state::Kind;
+use stages::state::Request;
+use stages::state::size;
+use vectors::vector::Alignment;
+ghost use mathlib.Core.Path.{_≡_};
+ghost use Rattle.dock.specs.Numbers.{kindNumber, begunPaper, duePaper, piecePaper};
+ghost use Rattle.dock_c.specs.Replies.{replyOf, numbers, countPaper, plannedPaper, alignmentPaper, collectedNumber};
+
+// The number that stands for none: an answer that has values alone.
+const NO_NUMBER: u64 = 256;
+
+// A number of document 01's, or NO_NUMBER; how many values there are; and the values, 0 past the last.
+#[repr(C)]
+pub struct Reply {
+    pub number: u64,
+    pub count: u64,
+    pub first: u64,
+    pub second: u64,
+    pub third: u64,
+    pub fourth: u64,
+}
+
+fn numbered(n: u64) -> Reply
+    ensures { λ r. ⌜ r ≡ numbers n ⌝ }
+{
+    Reply {
+        number: n,
+        count: 0,
+        first: 0,
+        second: 0,
+        third: 0,
+        fourth: 0,
+    }
+}
+
+fn valued(count: u64, first: u64, second: u64, third: u64, fourth: u64) -> Reply
+    ensures { λ r. ⌜ r ≡ record { number = 256; count = count; first = first; second = second; third = third; fourth = fourth } ⌝ }
+{
+    Reply {
+        number: NO_NUMBER,
+        count,
+        first,
+        second,
+        third,
+        fourth,
+    }
+}
+
+fn kind_number(k: Kind) -> u64
+    ensures { λ n. ⌜ n ≡ kindNumber k ⌝ }
+{
+    match k {
+        Kind::Read => 0,
+        Kind::Write => 1,
+        Kind::Zero => 2,
+        Kind::AllocatedZero => 3,
+        Kind::Discard => 4,
+    }
+}
+
+pub(crate) fn begun_reply(b: Begun) -> Reply
+    ensures { λ r. ⌜ r ≡ replyOf (begunPaper b) ⌝ }
+{
+    match b {
+        Begun::Done => numbered(0),
+        Begun::Placed(p) => valued(1, p as u64, 0, 0, 0),
+        Begun::Refused(r) => numbered(r.number() as u64),
+    }
+}
+
+fn request_reply(q: Request) -> Reply
+    ensures { λ r. ⌜ r ≡ record { number = 256; count = 4; first = kindNumber (q .kind); second = q .offset .0; third = q .length; fourth = q .segments } ⌝ }
+{
+    let kind = q.kind;
+    let offset = q.offset;
+    valued(4, kind_number(kind), offset.0, q.length, q.segments as u64)
+}
+
+pub(crate) fn due_reply(d: Due) -> Reply
+    ensures { λ r. ⌜ r ≡ replyOf (duePaper d) ⌝ }
+{
+    match d {
+        Due::Waiting => valued(0, 0, 0, 0, 0),
+        Due::Make(q) => request_reply(q),
+        Due::Answer(code) => numbered(code as u64),
+        Due::Refused(r) => numbered(r.number() as u64),
+    }
+}
+
+pub(crate) fn piece_reply(p: Piece) -> Reply
+    ensures { λ r. ⌜ r ≡ replyOf (piecePaper p) ⌝ }
+{
+    match p {
+        Piece::InData(s) => valued(3, 0, s.start as u64, s.length as u64, 0),
+        Piece::InScratch(s) => valued(3, 1, s.start as u64, s.length as u64, 0),
+        Piece::Refused(r) => numbered(r.number() as u64),
+    }
+}
+
+pub(crate) fn count_reply(k: Count) -> Reply
+    ensures { λ r. ⌜ r ≡ replyOf (countPaper k) ⌝ }
+{
+    match k {
+        Count::Chunks(n) => valued(1, n, 0, 0, 0),
+        Count::Refused(r) => numbered(r.number() as u64),
+    }
+}
+
+pub(crate) fn planned_reply(p: Planned) -> Reply
+    ensures { λ r. ⌜ r ≡ replyOf (plannedPaper p) ⌝ }
+{
+    match p {
+        Planned::Chunk(c) => {
+            let start = c.start;
+            valued(2, start.0, size(c), 0, 0)
+        }
+        Planned::Refused(r) => numbered(r.number() as u64),
+    }
+}
+
+pub(crate) fn alignment_reply(a: Alignment) -> Reply
+    ensures { λ r. ⌜ r ≡ replyOf (alignmentPaper a) ⌝ }
+{
+    match a {
+        Alignment::Aligned => valued(1, 1, 0, 0, 0),
+        Alignment::Unaligned => valued(1, 0, 0, 0, 0),
+        Alignment::Refused(r) => numbered(r.number() as u64),
+    }
+}
+
+pub(crate) fn collected_number(c: Collected) -> u8
+    ensures { λ n. ⌜ n ≡ collectedNumber c ⌝ }
+{
+    match c {
+        Collected::Final(code) => code,
+        Collected::Refused(r) => r.number(),
+    }
+}
