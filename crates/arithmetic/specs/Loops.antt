@@ -42,7 +42,8 @@ unfolding anyBelow
 any-found zero test e = absurd (let z : _≡_ {A = ℕ} 0 1 = cc in omega arith)
 any-found (suc n) test e = go (test n) refl e (any-found n test)
   where
-    go : (b : Bool) → test n ≡ b → (anyBelow n test || b) ≡ true → (anyBelow n test ≡ true → (i : ℕ) × (i < n) × (test i ≡ true)) → (i : ℕ) × (i < suc n) × (test i ≡ true)
+    go : (b : Bool) → test n ≡ b → (anyBelow n test || b) ≡ true → (anyBelow n test ≡ true → (i : ℕ) × (i < n) × (test i ≡ true)) → (i : ℕ)
+        × (i < suc n) × (test i ≡ true)
     go true p q f = (n, omega arith, p)
     go false p q f = let r = f (or-left (anyBelow n test) q) in (r .0, omega arith, r .2)
       where

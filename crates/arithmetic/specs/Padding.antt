@@ -80,7 +80,8 @@ unfoldable pub transferOf : Alignments → StoreOffset → ℕ → Bool → Tran
 transferOf a o n vectorAligned =
     pick (alignmentsFit a)
     (pick (fits (o .0 + n))
-    (pick (isDirect (a .req) (o .0) n vectorAligned) (Direct (rangeOf (o .0) (o .0 + n))) (bounced (paddedOf (a .req) (lengthAlign a) (o .0) n)))
+    (pick (isDirect (a .req) (o .0) n vectorAligned) (Direct (rangeOf (o .0) (o .0 + n)))
+    (bounced (paddedOf (a .req) (lengthAlign a) (o .0) n)))
     (NoTransfer Overflow))
     (NoTransfer Unfit)
 

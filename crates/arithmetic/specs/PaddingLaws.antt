@@ -1,4 +1,5 @@
--- Laws of padding: the padded range holds the asked one, its length is the least multiple of L that holds h + length, H and T are 0 or L, and the reads cover what is not asked; a transfer is refused for its alignments or for a sum. Assumes nothing.
+-- Laws of padding: the padded range holds the asked one, its length is the least multiple of L that holds h + length, H and T are 0 or L,
+-- and the reads cover what is not asked; a transfer is refused for its alignments or for a sum. Assumes nothing.
 use mathlib.Core.Path.{_≡_, refl, ap, _∙_}
 use mathlib.Core.Bool.{Bool, true, false, _&&_, _||_, or-true}
 use mathlib.Core.Logic.{_⊎_, inl, inr, ⊎-elim}
@@ -10,10 +11,12 @@ use native.Mathlib.Omega.{arith}
 use Rattle.arithmetic.specs.Rounding.{pick, fits, isMultiple, roundUp}
 use Rattle.arithmetic.specs.Offsets.{rangeOf}
 use lib.Dec.{eqb}
-use Rattle.arithmetic.specs.RoundingLaws.{multiple-add, multiple-sub, multiple-trans, multiple-le, down-le, down-near, down-multiple, up-ge, up-near, up-multiple, up-least, up-same, true-fits}
+use Rattle.arithmetic.specs.RoundingLaws.{multiple-add, multiple-sub, multiple-trans, multiple-le, down-le, down-near, down-multiple}
+use Rattle.arithmetic.specs.RoundingLaws.{up-ge, up-near, up-multiple, up-least, up-same, true-fits}
 use Rattle.arithmetic.specs.Settings.{alignmentsFit, lengthAlign}
 use Rattle.arithmetic.specs.SettingsLaws.{and-left, and-right, Aligned, aligned}
-use Rattle.arithmetic.specs.Padding.{paddedStart, roundedEnd, paddedLength, paddedEnd, paddingFits, headOf, tailOf, spanOf, paddedOf, paddingOf, isDirect, bounced, transferOf, paddingRefusal, readsOf, within, isRead}
+use Rattle.arithmetic.specs.Padding.{paddedStart, roundedEnd, paddedLength, paddedEnd, paddingFits, headOf, tailOf, spanOf, paddedOf}
+use Rattle.arithmetic.specs.Padding.{paddingOf, isDirect, bounced, transferOf, paddingRefusal, readsOf, within, isRead}
 use Rattle.arithmetic.specs.declared.refusals.Refusal.{Refusal}
 use Rattle.arithmetic.specs.declared.refusals.Refusal.the-variants.{Unfit, Overflow}
 use Rattle.arithmetic.specs.declared.offsets.StoreOffset.{StoreOffset}
@@ -28,15 +31,18 @@ use Rattle.arithmetic.specs.declared.padding.Transfer.the-variants.{Dire
 -- x rounded up to r and then to l, a multiple of r, is x rounded up to l
 pub up-twice : (x r l : ℕ) → 0 < r → 0 < l → l % r ≡ 0 → roundUp (roundUp x r) l ≡ roundUp x l
 up-twice x r l hr hl m =
-    let a = up-least (roundUp x r) l (roundUp x l) hl (up-multiple x l) (up-least x r (roundUp x l) hr (multiple-trans (roundUp x l) l r (up-multiple x l) m) (up-ge x l hl)) in
-    let b = up-least x l (roundUp (roundUp x r) l) hl (up-multiple (roundUp x r) l) (omega (arith, up-ge x r hr, up-ge (roundUp x r) l hl)) in
+    let a = up-least (roundUp x r) l (roundUp x l) hl (up-multiple x l)
+    (up-least x r (roundUp x l) hr (multiple-trans (roundUp x l) l r (up-multiple x l) m) (up-ge x l hl)) in
+    let b = up-least x l (roundUp (roundUp x r) l) hl (up-multiple (roundUp x r) l)
+    (omega (arith, up-ge x r hr, up-ge (roundUp x r) l hl)) in
     omega (arith, a, b)
 
 -- rounding up counts from any multiple
 pub up-from : (x s r : ℕ) → 0 < r → s % r ≡ 0 → s ≤ x → roundUp x r - s ≡ roundUp (x - s) r
 up-from x s r h m l =
     let a = up-least (x - s) r (roundUp x r - s) h (multiple-sub (roundUp x r) s r (up-multiple x r) m) (omega (arith, up-ge x r h)) in
-    let b = up-least x r (roundUp (x - s) r + s) h (multiple-add (roundUp (x - s) r) s r (up-multiple (x - s) r) m) (omega (arith, up-ge (x - s) r h)) in
+    let b = up-least x r (roundUp (x - s) r + s) h (multiple-add (roundUp (x - s) r) s r (up-multiple (x - s) r) m)
+    (omega (arith, up-ge (x - s) r h)) in
     omega (arith, a, b, up-ge x r h)
 
 -- a multiple of l from 1 to l is l
@@ -91,7 +97,8 @@ module _ (r l o n : ℕ) (hr : 0 < r) (hl : 0 < l) (m : l % r ≡ 0) where
   unfolding paddedLength roundedEnd
   length-is =
       let e : o + n - paddedStart r o ≡ headOf r o + n = omega (arith, start-le) in
-      ap (λ (x : ℕ). roundUp x l) (up-from (o + n) (paddedStart r o) r hr start-multiple (omega (arith, start-le)) ∙ ap (λ (x : ℕ). roundUp x r) e)
+      ap (λ (x : ℕ). roundUp x l) (up-from (o + n) (paddedStart r o) r hr start-multiple (omega (arith, start-le))
+      ∙ ap (λ (x : ℕ). roundUp x r) e)
       ∙ up-twice (headOf r o + n) r l hr hl m
 
   pub length-multiple : paddedLength r l o n % l ≡ 0
@@ -148,7 +155,9 @@ read-edges s k a b c = elim (ℕ-discrete (s .prefix + s .suffix) (s .length)) [
                   simp (ne-eqb _ _ w, ne-eqb _ _ p, eq-eqb _ _ q) (both _ _ (le-leb _ _ a) (lt-ltb _ _ h))
               | no q ↦
                   simp (ne-eqb _ _ w, ne-eqb _ _ p, ne-eqb _ _ q)
-                  (⊎-elim (λ x. either-left (within (s .start .0) (s .start .0 + s .prefix) k) _ (both _ _ (le-leb _ _ a) (lt-ltb _ _ x))) (λ x. either-right (within (s .start .0) (s .start .0 + s .prefix) k) (within (s .end .0 - s .suffix) (s .end .0) k) (both _ _ (le-leb _ _ x) (lt-ltb _ _ b))) c)
+                  (⊎-elim (λ x. either-left (within (s .start .0) (s .start .0 + s .prefix) k) _ (both _ _ (le-leb _ _ a) (lt-ltb _ _ x)))
+                  (λ x. either-right (within (s .start .0) (s .start .0 + s .prefix) k) (within (s .end .0 - s .suffix) (s .end .0) k)
+                  (both _ _ (le-leb _ _ x) (lt-ltb _ _ b))) c)
             ]
       ]
 ]
@@ -183,7 +192,8 @@ pub record Spans (a : Alignments) (o n : ℕ) (s : Span) : Type 0 where
   pub suffix-is : s .suffix ≡ roundUp (s .end .0 - (o + n)) (lengthAlign a)
   pub suffix-le : s .suffix ≤ s .length
 
-spans-of : (a : Alignments) (o n : ℕ) → Aligned a → paddingFits (a .req) (lengthAlign a) o n ≡ true → Spans a o n (spanOf (a .req) (lengthAlign a) o n)
+spans-of : (a : Alignments) (o n : ℕ) → Aligned a → paddingFits (a .req) (lengthAlign a) o n ≡ true →
+    Spans a o n (spanOf (a .req) (lengthAlign a) o n)
 unfolding spanOf paddingFits
 spans-of a o n k e =
     let r = a .req in
@@ -193,7 +203,8 @@ spans-of a o n k e =
     let m = k .of-req in
     record {
       is = refl;
-      fits = true-fits (paddedEnd r l o n) (and-right (fits (o + n) && fits (o + n + (r - 1)) && fits (roundedEnd r o n - paddedStart r o + (l - 1))) (fits (paddedEnd r l o n)) e);
+      fits = true-fits (paddedEnd r l o n) (and-right (fits (o + n) && fits (o + n + (r - 1)) && fits
+          (roundedEnd r o n - paddedStart r o + (l - 1))) (fits (paddedEnd r l o n)) e);
       end = refl;
       from = omega (arith, start-le r l o n p q m);
       holds = omega (arith, end-ge r l o n p q m, start-le r l o n p q m);
@@ -202,17 +213,20 @@ spans-of a o n k e =
       least = length-least r l o n p q m;
       prefix = prefix-edge r l o n p q m;
       prefix-is = refl;
-      prefix-le = up-least (headOf r o) l (paddedLength r l o n) q (length-multiple r l o n p q m) (omega (arith, end-ge r l o n p q m, start-le r l o n p q m));
+      prefix-le = up-least (headOf r o) l (paddedLength r l o n) q (length-multiple r l o n p q m)
+          (omega (arith, end-ge r l o n p q m, start-le r l o n p q m));
       suffix = suffix-edge r l o n p q m;
       suffix-is = refl;
-      suffix-le = up-least (tailOf r l o n) l (paddedLength r l o n) q (length-multiple r l o n p q m) (omega (arith, end-ge r l o n p q m, start-le r l o n p q m));
+      suffix-le = up-least (tailOf r l o n) l (paddedLength r l o n) q (length-multiple r l o n p q m)
+          (omega (arith, end-ge r l o n p q m, start-le r l o n p q m));
     }
 
 padded-spans : (a : Alignments) (o n : ℕ) (s : Span) → Aligned a → paddedOf (a .req) (lengthAlign a) o n ≡ Padded s → Spans a o n s
 unfolding paddedOf
 padded-spans a o n s k e = go (paddingFits (a .req) (lengthAlign a) o n) refl e
   where
-    go : (y : Bool) → paddingFits (a .req) (lengthAlign a) o n ≡ y → pick y (Padded (spanOf (a .req) (lengthAlign a) o n)) (Refused Overflow) ≡ Padded s → Spans a o n s
+    go : (y : Bool) → paddingFits (a .req) (lengthAlign a) o n ≡ y →
+        pick y (Padded (spanOf (a .req) (lengthAlign a) o n)) (Refused Overflow) ≡ Padded s → Spans a o n s
     go true q e =
         let i : spanOf (a .req) (lengthAlign a) o n ≡ s = cc in
         rw i at (spans-of a o n k q)
@@ -222,7 +236,8 @@ pub spans : (a : Alignments) (o : StoreOffset) (n : ℕ) (s : Span) → paddingO
 unfolding paddingOf
 spans a o n s e = go (alignmentsFit a) refl e
   where
-    go : (x : Bool) → alignmentsFit a ≡ x → pick x (paddedOf (a .req) (lengthAlign a) (o .0) n) (Refused Unfit) ≡ Padded s → Spans a (o .0) n s
+    go : (x : Bool) → alignmentsFit a ≡ x → pick x (paddedOf (a .req) (lengthAlign a) (o .0) n) (Refused Unfit) ≡ Padded s →
+        Spans a (o .0) n s
     go true p e = padded-spans a (o .0) n s (aligned a p) e
     go false p e = let z : _≡_ {A = ℕ} 0 1 = cc in absurd (omega arith)
 
@@ -241,7 +256,8 @@ Transfers a o n (Direct x) = Directs a o n x
 Transfers a o n (Bounced s) = Spans a o n s
 Transfers a o n (NoTransfer r) = Unit {0}
 
-transfers-by : (a : Alignments) (o n : ℕ) → Aligned a → (p : Padding) → paddedOf (a .req) (lengthAlign a) o n ≡ p → Transfers a o n (bounced p)
+transfers-by : (a : Alignments) (o n : ℕ) → Aligned a → (p : Padding) → paddedOf (a .req) (lengthAlign a) o n ≡ p →
+    Transfers a o n (bounced p)
 unfolding Transfers
 transfers-by a o n k (Padded s) e = padded-spans a o n s k e
 transfers-by a o n k (Refused r) e = tt
@@ -251,7 +267,8 @@ unfolding transferOf isDirect Transfers isMultiple
 transfers a o n t = go (alignmentsFit a) (fits (o .0 + n)) (t && eqb (o .0 % a .req) 0 && eqb (n % a .req) 0) refl refl refl
   where
     go : (x y z : Bool) → alignmentsFit a ≡ x → fits (o .0 + n) ≡ y → (t && eqb (o .0 % a .req) 0 && eqb (n % a .req) 0) ≡ z
-        → Transfers a (o .0) n (pick x (pick y (pick z (Direct (rangeOf (o .0) (o .0 + n))) (bounced (paddedOf (a .req) (lengthAlign a) (o .0) n))) (NoTransfer Overflow)) (NoTransfer Unfit))
+        → Transfers a (o .0) n (pick x (pick y (pick z (Direct (rangeOf (o .0) (o .0 + n)))
+        (bounced (paddedOf (a .req) (lengthAlign a) (o .0) n))) (NoTransfer Overflow)) (NoTransfer Unfit))
     go true true true p q d = record {
       is = refl;
       fits = true-fits (o .0 + n) q;
@@ -271,12 +288,14 @@ refused-by r l o n x e = go (paddingFits r l o n) e
     go false e = cc
 
 -- refused: 201 for its alignments, else 207 for a sum
-pub transfer-refused : (a : Alignments) (o : StoreOffset) (n : ℕ) (t : Bool) (x : Refusal) → transferOf a o n t ≡ NoTransfer x → x ≡ paddingRefusal a
+pub transfer-refused : (a : Alignments) (o : StoreOffset) (n : ℕ) (t : Bool) (x : Refusal) → transferOf a o n t ≡ NoTransfer x → x
+    ≡ paddingRefusal a
 unfolding transferOf
 transfer-refused a o n t x e = go (alignmentsFit a) (fits (o .0 + n)) (isDirect (a .req) (o .0) n t) e
   where
     go : (u v w : Bool)
-        → pick u (pick v (pick w (Direct (rangeOf (o .0) (o .0 + n))) (bounced (paddedOf (a .req) (lengthAlign a) (o .0) n))) (NoTransfer Overflow)) (NoTransfer Unfit) ≡ NoTransfer x
+        → pick u (pick v (pick w (Direct (rangeOf (o .0) (o .0 + n))) (bounced (paddedOf (a .req) (lengthAlign a) (o .0) n)))
+        (NoTransfer Overflow)) (NoTransfer Unfit) ≡ NoTransfer x
         → x ≡ pick u Overflow Unfit
     go true true true e = let z : _≡_ {A = ℕ} 0 1 = cc in absurd (omega arith)
     go true true false e = refused-by (a .req) (lengthAlign a) (o .0) n x e

@@ -19,7 +19,8 @@ use Rattle.arithmetic.specs.declared.planner.Planned.the-variants.{Chunk
 unfoldable pub planOutcome : Settings → StoreOffset → ℕ → Outcome
 planOutcome s o n =
     pick (settingsFit s)
-    (pick (isMultiple (o .0) (s .align .req) && isMultiple n (s .align .req)) (pick (fits (o .0 + n)) Done (Refused Overflow)) (Refused Unaligned))
+    (pick (isMultiple (o .0) (s .align .req) && isMultiple n (s .align .req)) (pick (fits (o .0 + n)) Done (Refused Overflow))
+    (Refused Unaligned))
     (Refused Unfit)
 
 -- how many chunks of at most `share` bytes make up n bytes

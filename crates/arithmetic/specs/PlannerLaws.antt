@@ -1,4 +1,5 @@
--- Laws of the planner: chunks are adjacent, at most the share, each of the share but the last, and together the range; past the count they are empty, at the end. Assumes nothing.
+-- Laws of the planner: chunks are adjacent, at most the share, each of the share but the last, and together the range; past the count they
+-- are empty, at the end. Assumes nothing.
 use mathlib.Core.Path.{_≡_, refl, sym}
 use mathlib.Core.Bool.{Bool, true, false, _&&_}
 use Prim.Native.Nat.{ℕ, suc, _+_, _-_, _*_, _/_, _%_, _<_, _≤_, min}
@@ -20,7 +21,8 @@ pub record Plannable (s : Settings) (o : StoreOffset) (n : ℕ) : Type 0 where
 
 pub plan-done : (s : Settings) (o : StoreOffset) (n : ℕ) → planOutcome s o n ≡ Done → Plannable s o n
 unfolding planOutcome
-plan-done s o n e = go (settingsFit s) (isMultiple (o .0) (s .align .req) && isMultiple n (s .align .req)) (fits (o .0 + n)) refl refl refl e
+plan-done s o n e = go (settingsFit s) (isMultiple (o .0) (s .align .req) && isMultiple n (s .align .req))
+    (fits (o .0 + n)) refl refl refl e
   where
     go : (a b c : Bool) → settingsFit s ≡ a → (isMultiple (o .0) (s .align .req) && isMultiple n (s .align .req)) ≡ b → fits (o .0 + n) ≡ c
         → pick a (pick b (pick c Done (Refused Overflow)) (Refused Unaligned)) (Refused Unfit) ≡ Done → Plannable s o n

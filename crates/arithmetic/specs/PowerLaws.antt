@@ -1,9 +1,11 @@
--- Laws of powers of two, for any exponent: the powers up to 2 ^ n are the divisors of 2 ^ n, and the greater of two powers is a multiple of both. Assumes nothing.
+-- Laws of powers of two, for any exponent: the powers up to 2 ^ n are the divisors of 2 ^ n, and the greater of two powers is a multiple of
+-- both. Assumes nothing.
 use mathlib.Core.Path.{_≡_, refl, sym, ap, _∙_}
 use mathlib.Core.Bool.{Bool, true, false, _||_, or-true}
 use mathlib.Core.Logic.{_⊎_, inl, inr, ⊎-elim}
 use Prim.Native.Nat.{ℕ, zero, suc, _+_, _-_, _*_, _/_, _%_, _^_, _≤_, max}
-use native.Mathlib.Nat.{le-refl, le-of-suc-le-suc, eq-or-lt-of-le, mul-assoc, mul-comm, add-mul, one-mul, mul-left-comm, pow-succ', div-add-mod', mul-mod-left, mod-self, max-eq-left, max-eq-right, eq-one-of-dvd-one, dvd-mul-right}
+use native.Mathlib.Nat.{le-refl, le-of-suc-le-suc, eq-or-lt-of-le, mul-assoc, mul-comm, add-mul, one-mul, mul-left-comm, pow-succ'}
+use native.Mathlib.Nat.{div-add-mod', mul-mod-left, mod-self, max-eq-left, max-eq-right, eq-one-of-dvd-one, dvd-mul-right}
 use native.Mathlib.Decide.{decLe, ℕ-discrete}
 use native.Mathlib.Omega.{arith}
 use lib.Dec.{eqb}
@@ -29,7 +31,8 @@ exponent (suc n) x e = go (eqb x (2 ^ suc n)) refl e (exponent n x)
 
 passes : (n k : ℕ) → k ≤ n → isPowerTo n (2 ^ k) ≡ true
 passes zero k h = let e : k ≡ 0 = omega arith in eq-eqb (2 ^ k) 1 (ap (λ (i : ℕ). 2 ^ i) e)
-passes (suc n) k h = ⊎-elim (λ e. last (2 ^ k) (ap (λ (i : ℕ). 2 ^ i) e)) (λ l. other (2 ^ k) (passes n k (le-of-suc-le-suc l))) (eq-or-lt-of-le h)
+passes (suc n) k h = ⊎-elim (λ e. last (2 ^ k) (ap (λ (i : ℕ). 2 ^ i) e)) (λ l. other (2 ^ k) (passes n k (le-of-suc-le-suc l)))
+    (eq-or-lt-of-le h)
   where
     last : (x : ℕ) → x ≡ 2 ^ suc n → (eqb x (2 ^ suc n) || isPowerTo n x) ≡ true
     last x e = rw (eq-eqb x (2 ^ suc n) e)
@@ -57,7 +60,8 @@ halved x q m e = elim (ℕ-discrete (x % 2) 0) [
 
 divisor : (n x q : ℕ) → x * q ≡ 2 ^ n → PowerOf n x
 divisor zero x q e = record { k = 0; most = le-refl 0; is = eq-one-of-dvd-one (rw e at (dvd-mul-right x q)) }
-divisor (suc n) x q e = ⊎-elim (λ h. double (h .0) (divisor n (x / 2) q (h .1))) (λ h. wider (divisor n x (q / 2) h)) (halved x q (2 ^ n) (e ∙ pow-succ' 2 n))
+divisor (suc n) x q e = ⊎-elim (λ h. double (h .0) (divisor n (x / 2) q (h .1))) (λ h. wider (divisor n x (q / 2) h))
+    (halved x q (2 ^ n) (e ∙ pow-succ' 2 n))
   where
     double : x ≡ 2 * (x / 2) → PowerOf n (x / 2) → PowerOf (suc n) x
     double h r = record { k = suc (r .k); most = omega (arith, r .most); is = h ∙ ap (λ (y : ℕ). 2 * y) (r .is) ∙ sym (pow-succ' 2 (r .k)) }

@@ -5,7 +5,8 @@ use Prim.Native.Nat.{ℕ, _<_}
 use native.Mathlib.Omega.{arith}
 use Rattle.arithmetic.specs.declared.refusals.Refusal.{Refusal}
 use Rattle.arithmetic.specs.declared.refusals.Refusal.the-variants.{Unfit, Segment, Overlap, Full, Buffer, TooLong, Overflow, Slot}
-use Rattle.arithmetic.specs.declared.refusals.Refusal.the-variants.{NoAnswer, Unaligned, Table, Row, Saved, Undo, Reservation, Map, Window}
+use Rattle.arithmetic.specs.declared.refusals.Refusal.the-variants.{NoAnswer, Unaligned, Table, Row, Saved, Undo, Reservation, Map}
+use Rattle.arithmetic.specs.declared.refusals.Refusal.the-variants.{Window}
 use Rattle.arithmetic.specs.declared.refusals.Refusal.the-variants.{Script, Output, Sheet}
 use Rattle.arithmetic.specs.declared.refusals.Outcome.{Outcome}
 use Rattle.arithmetic.specs.declared.refusals.Outcome.the-variants.{Done, Refused}

@@ -2,7 +2,8 @@
 use mathlib.Core.Path.{_≡_, refl, sym, _∙_}
 use mathlib.Core.Bool.{Bool, true, false}
 use Prim.Native.Nat.{ℕ, _+_, _-_, _*_, _/_, _%_, _^_, _<_, _≤_}
-use native.Mathlib.Nat.{mod-lt, mod-zero, div-add-mod', mul-mod-left, le-div-iff-mul-le, div-lt-iff-lt-mul, mul-le-mul-right, dvd-of-mod-eq-zero, mod-eq-zero-of-dvd, dvd-trans, dvd-add, dvd-sub, le-of-dvd}
+use native.Mathlib.Nat.{mod-lt, mod-zero, div-add-mod', mul-mod-left, le-div-iff-mul-le, div-lt-iff-lt-mul, mul-le-mul-right}
+use native.Mathlib.Nat.{dvd-of-mod-eq-zero, mod-eq-zero-of-dvd, dvd-trans, dvd-add, dvd-sub, le-of-dvd}
 use native.Mathlib.Omega.{arith}
 use native.Mathlib.Decide.{decLt, ℕ-discrete}
 use lib.Dec.{leb, eqb}

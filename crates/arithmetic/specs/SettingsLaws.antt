@@ -1,4 +1,5 @@
--- What accepted settings give: alignments that are positive and at most 65,536, L a multiple of M and R, a bounce buffer that holds 2Z + 2L bytes; and what an opening that is not refused gives. Assumes nothing.
+-- What accepted settings give: alignments that are positive and at most 65,536, L a multiple of M and R, a bounce buffer that holds 2Z + 2L
+-- bytes; and what an opening that is not refused gives. Assumes nothing.
 use mathlib.Core.Path.{_≡_, refl}
 use mathlib.Core.Bool.{Bool, true, false, _&&_}
 use Prim.Native.Nat.{ℕ, _+_, _*_, _%_, _^_, _<_, _≤_}

@@ -1,4 +1,5 @@
--- Laws of cuts and chunks: head, middle and tail are adjacent and together the range; chunks are not empty, at most the share, adjacent and together the range; every write of a zero job pads to at most the share. Assumes nothing.
+-- Laws of cuts and chunks: head, middle and tail are adjacent and together the range; chunks are not empty, at most the share, adjacent and
+-- together the range; every write of a zero job pads to at most the share. Assumes nothing.
 use mathlib.Core.Path.{_≡_, refl}
 use mathlib.Core.Bool.{true, false}
 use mathlib.Core.List.{List, [], _∷_}
@@ -9,7 +10,8 @@ use native.Mathlib.Omega.{arith}
 use lib.Dec.{eqb}
 use borrow.Author.Tests.{ltb-false, eq-eqb, ne-eqb}
 use Rattle.arithmetic.specs.Rounding.{pick, fits, roundDown, isMultiple}
-use Rattle.arithmetic.specs.RoundingLaws.{true-fits, multiple-add, down-is, down-le, down-near, down-multiple, up-ge, up-near, up-multiple}
+use Rattle.arithmetic.specs.RoundingLaws.{true-fits, multiple-add, down-is, down-le, down-near, down-multiple, up-ge, up-near}
+use Rattle.arithmetic.specs.RoundingLaws.{up-multiple}
 use Rattle.arithmetic.specs.Offsets.{rangeOf}
 use Rattle.arithmetic.specs.Settings.{lengthAlign}
 use Rattle.arithmetic.specs.SettingsLaws.{and-left, and-right, Accepted}
@@ -121,9 +123,11 @@ pub data Tiles (most : ℕ) : ℕ → ℕ → List Range → Type 0 where
 unfoldable pub chunksOf : ℕ → ℕ → ℕ → ℕ → ℕ → List Range
 chunksOf r share zero o n = []
 chunksOf r share (suc turns) o n =
-    pick (eqb n 0) [] (rangeOf o (o + chunkLength r share o n) ∷ chunksOf r share turns (o + chunkLength r share o n) (n - chunkLength r share o n))
+    pick (eqb n 0) [] (rangeOf o (o + chunkLength r share o n) ∷ chunksOf r share turns (o + chunkLength r share o n)
+    (n - chunkLength r share o n))
 
-pub chunks-tile : (r share : ℕ) → 0 < r → 0 < share → r ≤ share → (turns o n : ℕ) → n ≤ turns → Tiles share o (o + n) (chunksOf r share turns o n)
+pub chunks-tile : (r share : ℕ) → 0 < r → 0 < share → r ≤ share → (turns o n : ℕ) → n ≤ turns →
+    Tiles share o (o + n) (chunksOf r share turns o n)
 unfolding chunksOf
 chunks-tile r share hr hs le zero o n h = let e : o + n ≡ o = omega arith in rw e done
 chunks-tile r share hr hs le (suc turns) o n h = elim (ℕ-discrete n 0) [
@@ -134,7 +138,8 @@ chunks-tile r share hr hs le (suc turns) o n h = elim (ℕ-discrete n 0) [
       let q = chunk-le r share o n hr in
       let e : o + c + (n - c) ≡ o + n = omega arith in
       simp (ne-eqb n 0 z)
-      (next {o = o} {m = o + c} (omega arith) (omega (arith, chunk-most r share o n hr le)) (rw e at (chunks-tile r share hr hs le turns (o + c) (n - c) (omega arith))))
+      (next {o = o} {m = o + c} (omega arith) (omega (arith, chunk-most r share o n hr le))
+      (rw e at (chunks-tile r share hr hs le turns (o + c) (n - c) (omega arith))))
 ]
 
 -- ---- every write of a zero job pads to at most the share
@@ -154,7 +159,13 @@ module _ (s : Settings) (k : Accepted s) where
   pads o n h = length-least R L o n (k .align .req .positive) (k .align .positive) (k .align .of-req) (s .bounce) (k .whole) h
 
   short : (o n : ℕ) → n < 2 * Z → paddedLength R L o n ≤ s .bounce
-  short o n h = pads o n (omega (arith, head-below R L o n (k .align .req .positive) (k .align .positive) (k .align .of-req), k .least, k .align .req-le))
+  short o n h = pads o n (omega (
+    arith,
+    head-below R L o n (k .align .req .positive) (k .align .positive)
+        (k .align .of-req),
+    k .least,
+    k .align .req-le,
+  ))
 
   pub head-pads : (o : ℕ) → paddedLength R L o (middleStart Z o - o) ≤ s .bounce
   head-pads o = short o (middleStart Z o - o) (omega (arith, tiled Z o 0 (k .align .zero .positive) .head-short))
@@ -171,5 +182,13 @@ module _ (s : Settings) (k : Accepted s) where
     | yes z ↦ pads o (chunkLength R (s .bounce) o n) (omega (arith, chunk-on R (s .bounce) o n (k .align .req .positive) z))
     | no z ↦
         pads o (chunkLength R (s .bounce) o n)
-        (omega (arith, chunk-off R (s .bounce) o n (k .align .req .positive) z, mod-lt o (k .align .req .positive), mod-le o R, k .align .req-le, k .least))
+        (omega (
+          arith,
+          chunk-off R (s .bounce) o n (k .align .req .positive) z,
+          mod-lt o
+              (k .align .req .positive),
+          mod-le o R,
+          k .align .req-le,
+          k .least,
+        ))
   ]

@@ -5,7 +5,8 @@ ghost use mathlib.Core.Bool.{true};
 ghost use mathlib.Core.Path.{_≡_};
 ghost use Prim.Native.Nat.{_+_};
 ghost use Rattle.arithmetic.specs.Rounding.{fits};
-ghost use Rattle.arithmetic.specs.Settings.{isAlignment, lengthAlign, alignmentsFit, settingsFit, buffersFit, openingOf, alignments, profileOf};
+ghost use Rattle.arithmetic.specs.Settings.{isAlignment, lengthAlign, alignmentsFit, settingsFit, buffersFit, openingOf, alignments};
+ghost use Rattle.arithmetic.specs.Settings.{profileOf};
 use crate::offsets::LARGEST;
 
 // Document 01's mem, req, zero, discard: M, R, Z, D.

@@ -1,4 +1,5 @@
--- Laws of write blockers: what enter and leave change, that both keep `Reached`, who has noted whom, who waits, and that somebody entered is always free. Assumes nothing.
+-- Laws of write blockers: what enter and leave change, that both keep `Reached`, who has noted whom, who waits, and that somebody entered
+-- is always free. Assumes nothing.
 use mathlib.Core.Path.{_≡_, refl, sym, ap, _∙_}
 use mathlib.Core.Bool.{Bool, true, false, _&&_, not, false≢true, and-false, and-comm}
 use mathlib.Core.Logic.{_⊎_, inl, inr, ⊎-elim, _≢_}
@@ -19,7 +20,8 @@ use Rattle.blockers.specs.declared.Kind.the-variants.{Absent, Weak, Stro
 use Rattle.blockers.specs.declared.Blocker.{Blocker}
 use Rattle.blockers.specs.declared.Blockers.{Blockers}
 use Rattle.blockers.specs.declared.Changed.{Changed}
-use Rattle.blockers.specs.Blockers.{overlaps, present, isEntered, conflict, notes, notesOf, vacant, nowhere, blockerAt, noBlockers, refused, changedTo, enteredOf, forgetting, leftOf, hasNoted, waitsOf}
+use Rattle.blockers.specs.Blockers.{overlaps, present, isEntered, conflict, notes, notesOf, vacant, nowhere, blockerAt, noBlockers}
+use Rattle.blockers.specs.Blockers.{refused, changedTo, enteredOf, forgetting, leftOf, hasNoted, waitsOf}
 use Rattle.blockers.specs.Reached.{Meet, Entered, Reached}
 
 -- ---- ranges
@@ -125,11 +127,13 @@ module _ (p : ℕ) (b : Blockers) where
   others q n = getD-set-other (map (forgetting p) (b .slots)) p q vacant nowhere n ∙ List·getD-map (forgetting p) (b .slots) q nowhere
 
   -- what is read of another slot's blocker, where it does not read the note of p
-  unchanged : {A : Type 0} (f : Blocker → A) (q : ℕ) → q ≢ p → f (forgetting p (blockerAt b q)) ≡ f (blockerAt b q) → f (blockerAt (leftOf p b .blockers) q) ≡ f (blockerAt b q)
+  unchanged : {A : Type 0} (f : Blocker → A) (q : ℕ) → q ≢ p → f (forgetting p (blockerAt b q)) ≡ f (blockerAt b q) →
+      f (blockerAt (leftOf p b .blockers) q) ≡ f (blockerAt b q)
   unfolding leftOf
   unchanged f q n same = go (ltb p 8 && isEntered (blockerAt b p))
     where
-      go : (t : Bool) → f (blockerAt (pick t (changedTo (set (map (forgetting p) (b .slots)) p vacant)) (refused b) .blockers) q) ≡ f (blockerAt b q)
+      go : (t : Bool) → f (blockerAt (pick t (changedTo (set (map (forgetting p) (b .slots)) p vacant)) (refused b) .blockers) q)
+          ≡ f (blockerAt b q)
       go true = ap f (others q n) ∙ same
       go false = refl
 
@@ -169,7 +173,8 @@ conflict-there k Weak e = refl
 conflict-there k Strong e = refl
 
 -- p and q meet in b as they do in c where both have there the same kinds and ranges
-met : (b c : Blockers) (p q : ℕ) → blockerAt b p .kind ≡ blockerAt c p .kind → blockerAt b p .range ≡ blockerAt c p .range → blockerAt b q .kind ≡ blockerAt c q .kind → blockerAt b q .range ≡ blockerAt c q .range → Meet c p q → Meet b p q
+met : (b c : Blockers) (p q : ℕ) → blockerAt b p .kind ≡ blockerAt c p .kind → blockerAt b p .range ≡ blockerAt c p .range →
+    blockerAt b q .kind ≡ blockerAt c q .kind → blockerAt b q .range ≡ blockerAt c q .range → Meet c p q → Meet b p q
 unfolding Meet
 met b c p q pk pr qk qr m = (λ i. conflict (pk i) (qk i) && overlaps (qr i) (pr i)) ∙ m
 
@@ -212,7 +217,8 @@ module _ (rank : ℕ → ℕ) (clock p : ℕ) where
   unfolding ranked
   ranked-other q n = simp (ne-eqb q p n)
 
-module _ (k : Kind) (p : ℕ) (r : Range) (b : Blockers) (rank : ℕ → ℕ) (clock : ℕ) (is : present k ≡ true) (R : Reached b rank clock) (h : p < 8) (e : isEntered (blockerAt b p) ≡ false) where
+module _ (k : Kind) (p : ℕ) (r : Range) (b : Blockers) (rank : ℕ → ℕ) (clock : ℕ) (is : present k ≡ true) (R : Reached b rank clock)
+    (h : p < 8) (e : isEntered (blockerAt b p) ≡ false) where
   abbrev after : Blockers
   after = enteredOf k p r b .blockers
 
@@ -266,7 +272,8 @@ module _ (k : Kind) (p : ℕ) (r : Range) (b : Blockers) (rank : ℕ → ℕ) (c
   ]
 
   -- the entered one meets those that it has noted
-  own-meets : (q : ℕ) → q ≢ p → (conflict (blockerAt after p .kind) (blockerAt after q .kind) && overlaps (blockerAt after q .range) (blockerAt after p .range)) ≡ notes k r (blockerAt b q)
+  own-meets : (q : ℕ) → q ≢ p → (conflict (blockerAt after p .kind) (blockerAt after q .kind) && overlaps (blockerAt after q .range)
+      (blockerAt after p .range)) ≡ notes k r (blockerAt b q)
   unfolding notes
   own-meets q n = λ i. conflict (own i .kind) (other q n i .kind) && overlaps (other q n i .range) (own i .range)
 
@@ -282,7 +289,8 @@ module _ (k : Kind) (p : ℕ) (r : Range) (b : Blockers) (rank : ℕ → ℕ) (c
         own-meets q n ∙ m,
       )
 
-  other-noted : (s q : ℕ) → s ≢ p → s < 8 → q < 8 → hasNoted after s q ≡ true → (Entered after s) × (Entered after q) × (rank′ q < rank′ s) × (Meet after s q)
+  other-noted : (s q : ℕ) → s ≢ p → s < 8 → q < 8 → hasNoted after s q ≡ true → (Entered after s) × (Entered after q) × (rank′ q < rank′ s)
+      × (Meet after s q)
   other-noted s q n c g f =
       let o = R .noted s q c g (sym (ap (λ (x : Blocker). getD (x .noted) q false) (other s n)) ∙ f) in
       let m : q ≢ p = vacated q (o .1) in (
@@ -292,7 +300,8 @@ module _ (k : Kind) (p : ℕ) (r : Range) (b : Blockers) (rank : ℕ → ℕ) (c
         met-same after b s q (other s n) (other q m) (o .3),
       )
 
-  all-noted : (s q : ℕ) → s < 8 → q < 8 → hasNoted after s q ≡ true → (Entered after s) × (Entered after q) × (rank′ q < rank′ s) × (Meet after s q)
+  all-noted : (s q : ℕ) → s < 8 → q < 8 → hasNoted after s q ≡ true → (Entered after s) × (Entered after q) × (rank′ q < rank′ s)
+      × (Meet after s q)
   all-noted s q c g f = elim (ℕ-discrete s p) [
     | yes i ↦ rw i (own-noted q g (rw i at f))
     | no n ↦ other-noted s q n c g f
@@ -302,7 +311,8 @@ module _ (k : Kind) (p : ℕ) (r : Range) (b : Blockers) (rank : ℕ → ℕ) (c
   unfolding Meet
   notes-own q n m = entered-notes k p r b (R .slots) h e q ∙ sym (own-meets q n) ∙ m
 
-  notes-each : (s q : ℕ) → s < 8 → q < 8 → Entered after s → Entered after q → rank′ q < rank′ s → Meet after s q → hasNoted after s q ≡ true
+  notes-each : (s q : ℕ) → s < 8 → q < 8 → Entered after s → Entered after q → rank′ q < rank′ s → Meet after s q → hasNoted after s q
+      ≡ true
   notes-each s q c g x y l m = elim (ℕ-discrete s p) [
     | yes u ↦ elim (ℕ-discrete q p) [
       | yes v ↦ absurd (omega (arith, ranked-own rank clock p s u, ranked-own rank clock p q v))
@@ -335,7 +345,8 @@ module _ (p : ℕ) (b : Blockers) (rank : ℕ → ℕ) (clock : ℕ) (R : Reache
   stays q n f = ap present (left-kind p b q n) ∙ f
 
   rest-long : length (rest .slots) ≡ 8
-  rest-long = ap (λ (x : Changed). length (x .blockers .slots)) (leave-done p b h e) ∙ (length-set (map (forgetting p) (b .slots)) p vacant ∙ length-map (b .slots) (forgetting p) ∙ R .slots)
+  rest-long = ap (λ (x : Changed). length (x .blockers .slots)) (leave-done p b h e)
+      ∙ (length-set (map (forgetting p) (b .slots)) p vacant ∙ length-map (b .slots) (forgetting p) ∙ R .slots)
 
   rest-notes : (q : ℕ) → q < 8 → length (blockerAt rest q .noted) ≡ 8
   unfolding forgetting
@@ -348,19 +359,27 @@ module _ (p : ℕ) (b : Blockers) (rank : ℕ → ℕ) (clock : ℕ) (R : Reache
         ∙ R .notes q g
   ]
 
-  rest-noted : (q s : ℕ) → q < 8 → s < 8 → hasNoted rest q s ≡ true → (Entered rest q) × (Entered rest s) × (rank s < rank q) × (Meet rest q s)
+  rest-noted : (q s : ℕ) → q < 8 → s < 8 → hasNoted rest q s ≡ true → (Entered rest q) × (Entered rest s) × (rank s < rank q)
+      × (Meet rest q s)
   rest-noted q s g c f =
-      let n : q ≢ p = λ i. false≢true (sym (getD-replicate 8 s false false c) ∙ sym (ap (λ (x : Blocker). getD (x .noted) s false) (left-own p b h e)) ∙ ap (λ (x : ℕ). hasNoted rest x s) (sym i) ∙ f) in
+      let n : q ≢ p = λ i. false≢true (sym (getD-replicate 8 s false false c)
+      ∙ sym (ap (λ (x : Blocker). getD (x .noted) s false) (left-own p b h e)) ∙ ap (λ (x : ℕ). hasNoted rest x s) (sym i) ∙ f) in
       let m : s ≢ p = λ i. false≢true (sym (left-note p b h e q) ∙ ap (λ (x : ℕ). hasNoted rest q x) (sym i) ∙ f) in
-      let o = R .noted q s g c (sym (left-notes p b q s n m) ∙ f) in
-      (stays q n (o .0), stays s m (o .1), o .2, met rest b q s (left-kind p b q n) (left-range p b q n) (left-kind p b s m) (left-range p b s m) (o .3))
+      let o = R .noted q s g c (sym (left-notes p b q s n m) ∙ f) in (
+        stays q n (o .0),
+        stays s m (o .1),
+        o .2,
+        met rest b q s (left-kind p b q n) (left-range p b q n) (left-kind p b s m)
+            (left-range p b s m) (o .3),
+      )
 
   rest-all : (q s : ℕ) → q < 8 → s < 8 → Entered rest q → Entered rest s → rank s < rank q → Meet rest q s → hasNoted rest q s ≡ true
   rest-all q s g c x y l m =
       let n : q ≢ p = gone q x in
       let o : s ≢ p = gone s y in
       left-notes p b q s n o
-      ∙ R .notes-all q s g c (was q n x) (was s o y) l (met b rest q s (sym (left-kind p b q n)) (sym (left-range p b q n)) (sym (left-kind p b s o)) (sym (left-range p b s o)) m)
+      ∙ R .notes-all q s g c (was q n x) (was s o y) l (met b rest q s (sym (left-kind p b q n)) (sym (left-range p b q n))
+      (sym (left-kind p b s o)) (sym (left-range p b s o)) m)
 
   left-reached : Reached (leftOf p b .blockers) rank clock
   left-reached = record {
@@ -445,12 +464,21 @@ pub data Chain (b : Blockers) : ℕ → ℕ → Type 0 where
 module _ (b : Blockers) where
   pub meet-symmetric : (p q : ℕ) → Meet b p q → Meet b q p
   unfolding Meet
-  meet-symmetric p q m = rw (conflict-symmetric (blockerAt b q .kind) (blockerAt b p .kind), overlaps-symmetric (blockerAt b p .range) (blockerAt b q .range)) m
+  meet-symmetric p q m = rw (
+    conflict-symmetric (blockerAt b q .kind) (blockerAt b p .kind),
+    overlaps-symmetric (blockerAt b p .range)
+        (blockerAt b q .range),
+  ) m
 
   -- two entered blockers that overlap, one of them strong, meet
-  pub strong-meets : (p q : ℕ) → Entered b p → Entered b q → (blockerAt b p .kind ≡ Strong) ⊎ (blockerAt b q .kind ≡ Strong) → overlaps (blockerAt b p .range) (blockerAt b q .range) ≡ true → Meet b p q
+  pub strong-meets : (p q : ℕ) → Entered b p → Entered b q → (blockerAt b p .kind ≡ Strong)
+      ⊎ (blockerAt b q .kind ≡ Strong) → overlaps (blockerAt b p .range) (blockerAt b q .range) ≡ true → Meet b p q
   unfolding Meet
-  strong-meets p q e f s o = rw (strong-conflict (blockerAt b p .kind) (blockerAt b q .kind) e f s, overlaps-symmetric (blockerAt b q .range) (blockerAt b p .range)) o
+  strong-meets p q e f s o = rw (
+    strong-conflict (blockerAt b p .kind) (blockerAt b q .kind) e f s,
+    overlaps-symmetric
+        (blockerAt b q .range) (blockerAt b p .range),
+  ) o
 
   module _ (rank : ℕ → ℕ) (clock : ℕ) (R : Reached b rank clock) where
     -- a slot noted is entered
@@ -476,16 +504,24 @@ module _ (b : Blockers) where
     ]
 
     -- of two entered blockers that meet exactly the later one has noted the other
-    pub later-noted : (p q : ℕ) → p < 8 → q < 8 → Entered b p → Entered b q → Meet b p q → rank q < rank p → (hasNoted b p q ≡ true) × (hasNoted b q p ≡ false)
-    later-noted p q h g e f m l = (R .notes-all p q h g e f l m, not-so (hasNoted b q p) (λ x. let o = noted-earlier q p g h x in omega arith))
+    pub later-noted : (p q : ℕ) → p < 8 → q < 8 → Entered b p → Entered b q → Meet b p q → rank q < rank p → (hasNoted b p q ≡ true)
+        × (hasNoted b q p ≡ false)
+    later-noted p q h g e f m l = (
+      R .notes-all p q h g e f l m,
+      not-so (hasNoted b q p)
+          (λ x. let o = noted-earlier q p g h x in omega arith),
+    )
 
     -- two weak ones never note each other, and so never wait for each other
     pub weak-ignored : (p q : ℕ) → p < 8 → q < 8 → blockerAt b p .kind ≡ Weak → blockerAt b q .kind ≡ Weak → hasNoted b p q ≡ false
     unfolding Meet
-    weak-ignored p q h g e f = not-so (hasNoted b p q) (λ x. false≢true (sym (weak-conflict _ _ e f) ∙ and-left _ _ (R .noted p q h g x .3)))
+    weak-ignored p q h g e f = not-so (hasNoted b p q) (λ x. false≢true (sym (weak-conflict _ _ e f)
+        ∙ and-left _ _ (R .noted p q h g x .3)))
 
     -- two that do not wait, one of them strong, never overlap
-    pub free-apart : (p q : ℕ) → p < 8 → q < 8 → p ≢ q → Entered b p → Entered b q → (blockerAt b p .kind ≡ Strong) ⊎ (blockerAt b q .kind ≡ Strong) → waitsOf p b ≡ false → waitsOf q b ≡ false → overlaps (blockerAt b p .range) (blockerAt b q .range) ≡ false
+    pub free-apart : (p q : ℕ) → p < 8 → q < 8 → p ≢ q → Entered b p → Entered b q → (blockerAt b p .kind ≡ Strong)
+        ⊎ (blockerAt b q .kind ≡ Strong) → waitsOf p b ≡ false → waitsOf q b ≡ false
+        → overlaps (blockerAt b p .range) (blockerAt b q .range) ≡ false
     free-apart p q h g n e f s v w = not-so (overlaps (blockerAt b p .range) (blockerAt b q .range)) (λ o. ⊎-elim
         (λ l. false≢true (sym v ∙ noted-waits p q h g (later-noted p q h g e f (strong-meets p q e f s o) l .0)))
         (λ l. false≢true (sym w ∙ noted-waits q p g h (later-noted q p g h f e (meet-symmetric p q (strong-meets p q e f s o)) l .0)))
@@ -504,7 +540,8 @@ module _ (b : Blockers) where
     search-down zero p l h e = absurd (omega arith)
     search-down (suc n) p l h e = go (waitsOf p b) refl (λ q m g f. search-down n q m g f)
       where
-        go : (t : Bool) → waitsOf p b ≡ t → ((q : ℕ) → rank q < n → q < 8 → Entered b q → (s : ℕ) × (s < 8) × (Entered b s) × (waitsOf s b ≡ false)) → (q : ℕ) × (q < 8) × (Entered b q) × (waitsOf q b ≡ false)
+        go : (t : Bool) → waitsOf p b ≡ t → ((q : ℕ) → rank q < n → q < 8 → Entered b q → (s : ℕ) × (s < 8) × (Entered b s)
+            × (waitsOf s b ≡ false)) → (q : ℕ) × (q < 8) × (Entered b q) × (waitsOf q b ≡ false)
         go false w down = (p, h, e, w)
         go true w down =
             let o = waits-for b p w in

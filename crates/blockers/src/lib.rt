@@ -7,7 +7,8 @@ use arithmetic::refusals::Refusal;
 ghost use mathlib.Core.List.{map};
 ghost use mathlib.Core.Path.{_≡_};
 ghost use Prim.Native.Nat.{_<_};
-ghost use Rattle.blockers.specs.Blockers.{overlaps, isEntered, conflict, notes, notesOf, vacant, noBlockers, forgetting, refused, enteredOf, leftOf, waitsOf};
+ghost use Rattle.blockers.specs.Blockers.{overlaps, isEntered, conflict, notes, notesOf, vacant, noBlockers, forgetting, refused};
+ghost use Rattle.blockers.specs.Blockers.{enteredOf, leftOf, waitsOf};
 
 // What stands in a slot.
 pub enum Kind {

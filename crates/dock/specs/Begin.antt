@@ -26,7 +26,8 @@ use Rattle.stages.specs.Stages.{sizeOf, blockedOf, isBlocking, usesBounce, isSo
 use Rattle.stages.specs.declared.state.Job.{Job}
 use Rattle.stages.specs.declared.state.Job.the-variants.{Read, Write, Zeroes, AllocatedZeroes, Discard}
 use Rattle.stages.specs.declared.state.Phase.{Phase}
-use Rattle.stages.specs.declared.state.Phase.the-variants.{Free, Ended, DirectRead, BouncedRead, FirstRead, SecondRead, BouncedWrite, DirectWrite, ZeroRequest, DiscardRequest}
+use Rattle.stages.specs.declared.state.Phase.the-variants.{Free, Ended, DirectRead, BouncedRead, FirstRead, SecondRead, BouncedWrite}
+use Rattle.stages.specs.declared.state.Phase.the-variants.{DirectWrite, ZeroRequest, DiscardRequest}
 use Rattle.stages.specs.declared.state.State.{State}
 use Rattle.stages.specs.declared.plan.Plan.{Plan}
 use Rattle.stages.specs.declared.plan.Plan.the-variants.{Done as NothingToDo, Started, Refused as PlanRefused}
@@ -100,11 +101,14 @@ abbrev pub strength : Bool → Kind
 strength true = Strong
 strength false = Weak
 
--- "Direct writes, zero requests and discard requests enter a weak blocker over their range, padded writes a strong one over the padded range;
--- reads enter none."
+-- "Direct writes, zero requests and discard requests enter a weak blocker over their range, padded writes a strong one over the padded
+-- range; reads enter none."
 unfoldable pub blockersWith : Blockers → ℕ → State → Changed
 blockersWith b p x =
-    pick (isBlocking (x .phase)) (enteredOf (strength (x .stage .strong)) p (blockedOf (x .stage)) b) (record { blockers = b; outcome = Done })
+    pick (isBlocking (x .phase)) (enteredOf (strength (x .stage .strong)) p (blockedOf (x .stage)) b) (record {
+      blockers = b;
+      outcome = Done;
+    })
 
 -- ---- a job comes to its stage: its blocker enters, its scratch is filled
 
@@ -119,7 +123,11 @@ enters c s = record { blockers = c .blockers; outcome = c .outcome; scratch = s 
 unfoldable pub enterAt : Blockers → ℕ → ℕ → State → IoVector → List ℕ → List ℕ → Entered
 enterAt b p share x v memory scratch =
     whenDone (blockersWith b p x .outcome)
-    (record { blockers = blockersWith b p x .blockers; outcome = filled share x v memory scratch .outcome; scratch = filled share x v memory scratch .scratch })
+    (record {
+      blockers = blockersWith b p x .blockers;
+      outcome = filled share x v memory scratch .outcome;
+      scratch = filled share x v memory scratch .scratch;
+    })
     (λ r. enters (blockersWith b p x) scratch)
 
 -- ---- what is asked of a begin
@@ -167,8 +175,8 @@ planFor s b q = planOf (q .job) s b (q .offset) (q .length) (q .vector)
 
 -- ---- begin, as far as one slot goes
 
--- The one place that has the order of refusals at begin: "201, 205" by what is lent, "202", the plan's own ("empty read, write or zero job done, 207
--- [..], a discard with nothing to do done, 206"), "203, 204". Zeroes and discards never meet 202: law `empty-valid`.
+-- The one place that has the order of refusals at begin: "201, 205" by what is lent, "202", the plan's own ("empty read, write or zero job
+-- done, 207 [..], a discard with nothing to do done, 206"), "203, 204". Zeroes and discards never meet 202: law `empty-valid`.
 abbrev pub allowedBy : Plan → Bool → ℕ → Plan
 allowedBy NothingToDo met free = NothingToDo
 allowedBy (PlanRefused r) met free = PlanRefused r
@@ -195,7 +203,12 @@ unplaced b a = record { answer = a; blockers = b; state = vacant }
 -- made is refused so: MadeLaws of crate histories.
 abbrev pub admitBy : Outcome → Blockers → ℕ → State → Entered → Admitted
 admitBy o b p x e =
-    whenDone o (record { answer = Placed p; blockers = e .blockers; state = x; scratch = e .scratch }) (λ r. admits (unplaced b (BeginRefused r)) (e .scratch))
+    whenDone o (record {
+      answer = Placed p;
+      blockers = e .blockers;
+      state = x;
+      scratch = e .scratch;
+    }) (λ r. admits (unplaced b (BeginRefused r)) (e .scratch))
 
 abbrev pub admitAt : Blockers → ℕ → ℕ → IoVector → List ℕ → List ℕ → Plan → Admitted
 admitAt b p bounce v memory scratch NothingToDo = admits (unplaced b NoRequest) scratch
@@ -222,7 +235,13 @@ abbrev pub begins : Beginning → List ℕ → Begins
 begins r s = record { dock = r .dock; answer = r .answer; scratch = s }
 
 abbrev pub withJob : Dock → ℕ → Blockers → State → IoVector → Dock
-withJob d p b x v = record { settings = d .settings; buffers = d .buffers; blockers = b; states = set (d .states) p x; vectors = set (d .vectors) p v }
+withJob d p b x v = record {
+  settings = d .settings;
+  buffers = d .buffers;
+  blockers = b;
+  states = set (d .states) p x;
+  vectors = set (d .vectors) p v;
+}
 
 -- stored in the dock where it is placed
 abbrev pub seatedBy : Begun → Dock → IoVector → Admitted → Begins

@@ -40,7 +40,14 @@ noState = record {
   range = rangeOf 0 0;
   middle = rangeOf 0 0;
   course = Last;
-  stage = record { asked = rangeOf 0 0; request = rangeOf 0 0; first = rangeOf 0 0; second = rangeOf 0 0; head = bufferAt 0; strong = false };
+  stage = record {
+    asked = rangeOf 0 0;
+    request = rangeOf 0 0;
+    first = rangeOf 0 0;
+    second = rangeOf 0 0;
+    head = bufferAt 0;
+    strong = false;
+  };
 }
 
 abbrev pub noVector : IoVector

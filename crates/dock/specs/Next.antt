@@ -14,7 +14,8 @@ use Rattle.blockers.specs.Blockers.{waitsOf}
 use Rattle.blockers.specs.declared.Blockers.{Blockers}
 use Rattle.stages.specs.Stages.{sizeOf, isFree, hasEnded, isSound, requestOf, secondAt}
 use Rattle.stages.specs.declared.state.Phase.{Phase}
-use Rattle.stages.specs.declared.state.Phase.the-variants.{Free, Ended, DirectRead, BouncedRead, FirstRead, SecondRead, BouncedWrite, DirectWrite, ZeroRequest, DiscardRequest}
+use Rattle.stages.specs.declared.state.Phase.the-variants.{Free, Ended, DirectRead, BouncedRead, FirstRead, SecondRead, BouncedWrite}
+use Rattle.stages.specs.declared.state.Phase.the-variants.{DirectWrite, ZeroRequest, DiscardRequest}
 use Rattle.stages.specs.declared.state.State.{State}
 use Rattle.dock.specs.Dock.{stateAt, vectorAt, lentFits, isOutBy, isOut, shareAt}
 use Rattle.dock.specs.declared.dock.Dock.{Dock}

@@ -1,4 +1,5 @@
--- Document 01's number and values for each case of an answer: "Where an answer is an enum, a definition gives this paper's number and values".
+-- Document 01's number and values for each case of an answer: "Where an answer is an enum, a definition gives this paper's number and
+-- values".
 use mathlib.Core.List.{List, [], _∷_}
 use Prim.Native.Nat.{ℕ}
 use Rattle.arithmetic.specs.Refusals.{numberOf, outcomeNumber}

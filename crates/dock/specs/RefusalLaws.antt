@@ -25,9 +25,12 @@ use Rattle.stages.specs.declared.plan.Plan.the-variants.{Done as NothingToDo, S
 use Rattle.stages.specs.declared.told.Step.{Step}
 use Rattle.stages.specs.declared.told.Step.the-variants.{Stays, Ends, Enters}
 use Rattle.dock.specs.Dock.{vacant, stateAt, vectorAt, lentFits, isOutBy, firstFree}
-use Rattle.dock.specs.Begin.{fills, isBouncedWrite, sourceOf, sourceFits, mergedAt, filled, blockersWith, Entered, enterAt, admitBy, admitAt, Begins, withJob, seated, vectorFor, decidedFor, beginOf}
+use Rattle.dock.specs.Begin.{fills, isBouncedWrite, sourceOf, sourceFits, mergedAt, filled, blockersWith, Entered, enterAt, admitBy}
+use Rattle.dock.specs.Begin.{admitAt, Begins, withJob, seated, vectorFor, decidedFor, beginOf}
 use Rattle.dock.specs.Next.{isSoundIn}
-use Rattle.dock.specs.Tell.{hands, isBouncedRead, copiedAt, handed, blockersWithout, Stepped, steps, unstepped, endsAt, entersBy, entersAt, steppedAt, answeredOf, answeredBy, toldAt, Told, refusedTell, storedBy, stored, tellOf, collectOf}
+use Rattle.dock.specs.Tell.{hands, isBouncedRead, copiedAt, handed, blockersWithout, Stepped, steps, unstepped, endsAt, entersBy}
+use Rattle.dock.specs.Tell.{entersAt, steppedAt, answeredOf, answeredBy, toldAt, Told, refusedTell, storedBy, stored, tellOf}
+use Rattle.dock.specs.Tell.{collectOf}
 use Rattle.dock.specs.declared.dock.Dock.{Dock}
 use Rattle.dock.specs.declared.begin.Asked.{Asked}
 use Rattle.dock.specs.declared.begin.Begun.the-variants.{Refused as BeginRefused}
@@ -41,13 +44,16 @@ other e = absurd (omega arith)
 -- ---- the bytes of one slot
 
 -- a fill that is refused leaves the scratch
-filled-refused : (share : ℕ) (x : State) (v : IoVector) (memory scratch : List ℕ) (r : Refusal) → filled share x v memory scratch .outcome ≡ Refused r → filled share x v memory scratch .scratch ≡ scratch
+filled-refused : (share : ℕ) (x : State) (v : IoVector) (memory scratch : List ℕ) (r : Refusal) → filled share x v memory scratch .outcome
+    ≡ Refused r → filled share x v memory scratch .scratch ≡ scratch
 unfolding filled mergedAt
 filled-refused share x v memory scratch r = go (isBouncedWrite (x .phase)) (sourceFits (x .job) v (sizeOf (x .stage .asked)) memory)
   where
     go : (b t : Bool)
-        → pick b (pick t (fills Done (put scratch (share + x .stage .head .0) (sourceOf (x .job) v (sizeOf (x .stage .asked)) memory))) (fills (Refused Segment) scratch)) (fills Done scratch) .outcome ≡ Refused r
-        → pick b (pick t (fills Done (put scratch (share + x .stage .head .0) (sourceOf (x .job) v (sizeOf (x .stage .asked)) memory))) (fills (Refused Segment) scratch)) (fills Done scratch) .scratch ≡ scratch
+        → pick b (pick t (fills Done (put scratch (share + x .stage .head .0) (sourceOf (x .job) v (sizeOf (x .stage .asked)) memory)))
+        (fills (Refused Segment) scratch)) (fills Done scratch) .outcome ≡ Refused r
+        → pick b (pick t (fills Done (put scratch (share + x .stage .head .0) (sourceOf (x .job) v (sizeOf (x .stage .asked)) memory)))
+        (fills (Refused Segment) scratch)) (fills Done scratch) .scratch ≡ scratch
     go true true e = other cc
     go true false e = refl
     go false t e = refl
@@ -59,8 +65,12 @@ unfolding handed copiedAt
 handed-refused share x code v memory scratch r = go (isBouncedRead (x .phase) && eqb code 0) (copies memory v (sizeOf (x .stage .asked)))
   where
     go : (b t : Bool)
-        → pick b (pick t (hands Done (scatterOf memory (segmentsOf v) (take (sizeOf (x .stage .asked)) (drop (share + x .stage .head .0) scratch)))) (hands (Refused Segment) memory)) (hands Done memory) .outcome ≡ Refused r
-        → pick b (pick t (hands Done (scatterOf memory (segmentsOf v) (take (sizeOf (x .stage .asked)) (drop (share + x .stage .head .0) scratch)))) (hands (Refused Segment) memory)) (hands Done memory) .memory ≡ memory
+        → pick b (pick t (hands Done (scatterOf memory (segmentsOf v)
+        (take (sizeOf (x .stage .asked)) (drop (share + x .stage .head .0) scratch)))) (hands (Refused Segment) memory))
+        (hands Done memory) .outcome ≡ Refused r
+        → pick b (pick t (hands Done (scatterOf memory (segmentsOf v)
+        (take (sizeOf (x .stage .asked)) (drop (share + x .stage .head .0) scratch)))) (hands (Refused Segment) memory))
+        (hands Done memory) .memory ≡ memory
     go true true e = other cc
     go true false e = refl
     go false t e = refl
@@ -75,11 +85,16 @@ admit-unchanged : (d : Dock) (v : IoVector) (memory scratch : List ℕ) (p n : �
 unfolding enterAt
 admit-unchanged d v memory scratch p n NothingToDo = λ r e. (refl, refl)
 admit-unchanged d v memory scratch p n (PlanRefused q) = λ r e. (refl, refl)
-admit-unchanged d v memory scratch p n (Started x) = go (blockersWith (d .blockers) p x .outcome) (filled (p * n) x v memory scratch .outcome) refl
+admit-unchanged d v memory scratch p n (Started x) = go (blockersWith (d .blockers) p x .outcome)
+    (filled (p * n) x v memory scratch .outcome) refl
   where
     there : Outcome → Outcome → Entered
     there q o =
-        whenDone q (record { blockers = blockersWith (d .blockers) p x .blockers; outcome = o; scratch = filled (p * n) x v memory scratch .scratch })
+        whenDone q (record {
+          blockers = blockersWith (d .blockers) p x .blockers;
+          outcome = o;
+          scratch = filled (p * n) x v memory scratch .scratch;
+        })
         (λ r. record { blockers = blockersWith (d .blockers) p x .blockers; outcome = q; scratch = scratch })
 
     go : (q o : Outcome) → filled (p * n) x v memory scratch .outcome ≡ o
@@ -90,7 +105,8 @@ admit-unchanged d v memory scratch p n (Started x) = go (blockersWith (d .blocke
 
 pub begin-unchanged : (d : Dock) (q : Asked) (memory scratch : List ℕ) → BeginUnchanged d scratch (beginOf d q memory scratch)
 unfolding beginOf
-begin-unchanged d q memory scratch = admit-unchanged d (vectorFor q) memory scratch (firstFree (d .states)) (d .settings .bounce) (decidedFor d q (length memory) (length scratch))
+begin-unchanged d q memory scratch = admit-unchanged d (vectorFor q) memory scratch (firstFree (d .states)) (d .settings .bounce)
+    (decidedFor d q (length memory) (length scratch))
 
 -- the empty vector is one over any data
 pub empty-valid : (n : ℕ) → isValid n (vectorOf []) ≡ true
@@ -110,7 +126,13 @@ module _ (b : Blockers) (p share : ℕ) (x : State) (code : ℕ) (v : IoVector) 
     where
       go : (q : Outcome)
           → StepUnchanged memory scratch (whenDone q
-          (record { outcome = handed share x code v memory scratch .outcome; blockers = blockersWithout b p x .blockers; state = y; memory = handed share x code v memory scratch .memory; scratch = scratch })
+          (record {
+            outcome = handed share x code v memory scratch .outcome;
+            blockers = blockersWithout b p x .blockers;
+            state = y;
+            memory = handed share x code v memory scratch .memory;
+            scratch = scratch;
+          })
           (λ s. steps (unstepped b x s) memory scratch))
       go Done = λ r e. (handed-refused share x code v memory scratch r e, refl)
       go (Refused s) = λ r e. (refl, refl)
@@ -121,19 +143,26 @@ module _ (b : Blockers) (p share : ℕ) (x : State) (code : ℕ) (v : IoVector) 
 
       go : (q n : Outcome)
           → StepUnchanged memory scratch (whenDone q
-          (entersBy (whenDone n (record { blockers = blockersWith B p y .blockers; outcome = filled share y v memory scratch .outcome; scratch = filled share y v memory scratch .scratch })
+          (entersBy (whenDone n (record {
+            blockers = blockersWith B p y .blockers;
+            outcome = filled share y v memory scratch .outcome;
+            scratch = filled share y v memory scratch .scratch;
+          })
           (λ s. record { blockers = blockersWith B p y .blockers; outcome = n; scratch = scratch })) y memory)
           (λ s. steps (unstepped b x s) memory scratch))
       go Done Done = λ r e. (refl, filled-refused share y v memory scratch r e)
       go Done (Refused s) = λ r e. (refl, refl)
       go (Refused s) n = λ r e. (refl, refl)
 
-  told-unchanged : (s : Settings) (l : Buffers) → share ≡ p * s .bounce → StepUnchanged memory scratch (toldAt b p s l x v code memory scratch)
+  told-unchanged : (s : Settings) (l : Buffers) → share ≡ p * s .bounce →
+      StepUnchanged memory scratch (toldAt b p s l x v code memory scratch)
   unfolding toldAt answeredOf
   told-unchanged s l h = rw (sym h) (go (isOutBy b x p && isSoundIn x s l) (ltb code 200))
     where
       go : (a u : Bool)
-          → StepUnchanged memory scratch (pick a (answeredBy (pick u (Leads (toldOf s x code)) (NoLead NoAnswer)) b p share x code v memory scratch) (steps (unstepped b x Slot) memory scratch))
+          → StepUnchanged memory scratch (pick a (answeredBy
+          (pick u (Leads (toldOf s x code)) (NoLead NoAnswer)) b p share x code v memory scratch)
+          (steps (unstepped b x Slot) memory scratch))
       go true true = step-unchanged (toldOf s x code)
       go true false = λ r e. (refl, refl)
       go false u = λ r e. (refl, refl)
@@ -141,7 +170,8 @@ module _ (b : Blockers) (p share : ℕ) (x : State) (code : ℕ) (v : IoVector) 
 abbrev pub TellUnchanged : Dock → List ℕ → List ℕ → Told → Type 0
 TellUnchanged d memory scratch t = (r : Refusal) → t .outcome ≡ Refused r → (t .dock ≡ d) × (t .memory ≡ memory) × (t .scratch ≡ scratch)
 
-stored-unchanged : (d : Dock) (p : ℕ) (memory scratch : List ℕ) (t : Stepped) → StepUnchanged memory scratch t → TellUnchanged d memory scratch (stored d p t)
+stored-unchanged : (d : Dock) (p : ℕ) (memory scratch : List ℕ) (t : Stepped) → StepUnchanged memory scratch t →
+    TellUnchanged d memory scratch (stored d p t)
 stored-unchanged d p memory scratch t u = go (t .outcome) refl
   where
     go : (o : Outcome) → t .outcome ≡ o → TellUnchanged d memory scratch (storedBy o d p t)
@@ -155,8 +185,10 @@ tell-unchanged d p code memory scratch = go (lentFits (d .buffers) (length memor
     T : Stepped
     T = toldAt (d .blockers) p (d .settings) (d .buffers) (stateAt d p) (vectorAt d p) code memory scratch
 
-    go : (a b : Bool) → TellUnchanged d memory scratch (pick a (pick b (stored d p T) (refusedTell d memory scratch Slot)) (refusedTell d memory scratch Buffer))
-    go true true = stored-unchanged d p memory scratch T (told-unchanged (d .blockers) p (p * d .settings .bounce) (stateAt d p) code (vectorAt d p) memory scratch (d .settings) (d .buffers) refl)
+    go : (a b : Bool) → TellUnchanged d memory scratch (pick a (pick b (stored d p T) (refusedTell d memory scratch Slot))
+        (refusedTell d memory scratch Buffer))
+    go true true = stored-unchanged d p memory scratch T (told-unchanged (d .blockers) p (p * d .settings .bounce) (stateAt d p) code
+        (vectorAt d p) memory scratch (d .settings) (d .buffers) refl)
     go true false = λ r e. (refl, refl, refl)
     go false b = λ r e. (refl, refl, refl)
 
@@ -172,7 +204,8 @@ collect-unchanged d p m n r e = go (lentFits (d .buffers) m n) (ltb p 8 && hasEn
     lacks : Refusal → Collects
     lacks s = record { dock = d; answer = NotCollected s }
 
-    go : (a b : Bool) → pick a (pick b found (lacks Slot)) (lacks Buffer) .answer ≡ NotCollected r → pick a (pick b found (lacks Slot)) (lacks Buffer) .dock ≡ d
+    go : (a b : Bool) → pick a (pick b found (lacks Slot)) (lacks Buffer) .answer ≡ NotCollected r →
+        pick a (pick b found (lacks Slot)) (lacks Buffer) .dock ≡ d
     go true true e = other cc
     go true false e = refl
     go false b e = refl

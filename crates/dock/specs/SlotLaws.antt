@@ -1,4 +1,5 @@
--- What the calls on a slot rely on: which jobs are sound there, what is filled and copied out then, the lowest free slot, and how a begin is decided. Assumes nothing.
+-- What the calls on a slot rely on: which jobs are sound there, what is filled and copied out then, the lowest free slot, and how a begin
+-- is decided. Assumes nothing.
 use mathlib.Core.Path.{_≡_, refl, sym, ap, _∙_}
 use mathlib.Core.Bool.{Bool, true, false, _&&_, _||_}
 use mathlib.Core.List.{List, [], _∷_}
@@ -41,25 +42,30 @@ use Rattle.dock.specs.declared.tell.Answered.the-variants.{Leads, Refuse
 
 -- ---- a sound job is sound in each of the eight slots, over the buffers of opening
 
-pub sound-here : (p : ℕ) (x : State) (s : Settings) (b : Buffers) (m n : ℕ) → p < 8 → lentFits b m n ≡ true → isSoundIn x s b ≡ true → isSoundAt p x s b n ≡ true
+pub sound-here : (p : ℕ) (x : State) (s : Settings) (b : Buffers) (m n : ℕ) → p < 8 → lentFits b m n ≡ true → isSoundIn x s b ≡ true →
+    isSoundAt p x s b n ≡ true
 unfolding isSoundAt lentFits
 sound-here p x s b m n h l k = simp (lt-ltb p 8 h, k) (and-right (eqb m (b .«data» .length)) (eqb n (b .scratch .length)) l)
 
 -- ---- what is filled, and copied out, then
 
-pub filled-share : (p : ℕ) (s : Settings) (b : Buffers) (x : State) (v : IoVector) (memory scratch : List ℕ) → isSoundAt p x s b (length scratch) ≡ true
+pub filled-share : (p : ℕ) (s : Settings) (b : Buffers) (x : State) (v : IoVector) (memory scratch : List ℕ) →
+    isSoundAt p x s b (length scratch) ≡ true
     → filledShare p s b x v memory scratch ≡ filled (p * s .bounce) x v memory scratch
 unfolding filledShare filled
-filled-share p s b x v memory scratch e = rw e (go (isBouncedWrite (x .phase)) (merged (p * s .bounce) x v memory scratch) (fills Done scratch))
+filled-share p s b x v memory scratch e = rw e (go (isBouncedWrite (x .phase)) (merged (p * s .bounce) x v memory scratch)
+    (fills Done scratch))
   where
     go : (t : Bool) (k z : Filled) → pick t (pick t k z) z ≡ pick t k z
     go true k z = refl
     go false k z = refl
 
-pub handed-share : (p : ℕ) (s : Settings) (b : Buffers) (x : State) (code : ℕ) (v : IoVector) (memory scratch : List ℕ) → isSoundAt p x s b (length scratch) ≡ true
+pub handed-share : (p : ℕ) (s : Settings) (b : Buffers) (x : State) (code : ℕ) (v : IoVector) (memory scratch : List ℕ) →
+    isSoundAt p x s b (length scratch) ≡ true
     → handedShare p s b x code v memory scratch ≡ handed (p * s .bounce) x code v memory scratch
 unfolding handedShare handed
-handed-share p s b x code v memory scratch e = rw e (go (isBouncedRead (x .phase) && eqb code 0) (copiedOut (p * s .bounce) x v memory scratch) (hands Done memory))
+handed-share p s b x code v memory scratch e = rw e (go (isBouncedRead (x .phase) && eqb code 0)
+    (copiedOut (p * s .bounce) x v memory scratch) (hands Done memory))
   where
     go : (t : Bool) (k z : Handed) → pick t (pick t k z) z ≡ pick t k z
     go true k z = refl
@@ -85,7 +91,8 @@ sound-share : (x : State) (s : Settings) (b : Buffers) → isSoundIn x s b ≡ t
 unfolding isSoundIn
 sound-share x s b k = and-left (isSound (s .bounce) x) (leb (8 * s .bounce) (b .scratch .length)) k
 
-pub leads-sound : (p : ℕ) (s : Settings) (b : Buffers) (x : State) (code m n : ℕ) → p < 8 → lentFits b m n ≡ true → isSoundIn x s b ≡ true → (t : Step) → answeredOf s x code ≡ Leads t
+pub leads-sound : (p : ℕ) (s : Settings) (b : Buffers) (x : State) (code m n : ℕ) → p < 8 → lentFits b m n ≡ true → isSoundIn x s b ≡ true →
+    (t : Step) → answeredOf s x code ≡ Leads t
     → StepSound p s b x n t
 leads-sound p s b x code m n h l k t e = by t (leads-told s x code t e)
   where
@@ -101,7 +108,8 @@ unfolding anyBelow
 met-none true f = refl
 met-none false f = refl
 
-pub met-more : (met m : Bool) (i : ℕ) (a : Bool) (f : ℕ → Bool) → met ≡ (a || anyBelow i f) → m ≡ f i → (met || m) ≡ (a || anyBelow (i + 1) f)
+pub met-more : (met m : Bool) (i : ℕ) (a : Bool) (f : ℕ → Bool) → met ≡ (a || anyBelow i f) → m ≡ f i → (met || m)
+    ≡ (a || anyBelow (i + 1) f)
 unfolding anyBelow
 met-more met m i a f p q = rw (p, q, add-one) (assoc a (anyBelow i f) (f i))
   where
@@ -109,7 +117,8 @@ met-more met m i a f p q = rw (p, q, add-one) (assoc a (anyBelow i f) (f i))
     assoc true b c = refl
     assoc false b c = refl
 
-pub met-all : (xs : List State) (vs : List IoVector) (j : Job) (v : IoVector) (met : Bool) (i : ℕ) → i ≡ 8 → met ≡ (meetsItself j v || anyBelow i (meetsAt xs vs j v)) → met ≡ overlapsOf xs vs j v
+pub met-all : (xs : List State) (vs : List IoVector) (j : Job) (v : IoVector) (met : Bool) (i : ℕ) → i ≡ 8 → met
+    ≡ (meetsItself j v || anyBelow i (meetsAt xs vs j v)) → met ≡ overlapsOf xs vs j v
 unfolding overlapsOf
 met-all xs vs j v met i h e = e ∙ ap (λ (n : ℕ). meetsItself j v || anyBelow n (meetsAt xs vs j v)) h
 
@@ -123,7 +132,8 @@ pub lowest-here : (xs : List State) (i : ℕ) → NoneFree xs i → i < length x
 unfolding firstFree
 lowest-here [] i f h e = absurd (omega arith)
 lowest-here (x ∷ xs) zero f h e = simp e
-lowest-here (x ∷ xs) (suc i) f h e = simp (f 0 (omega arith)) (omega (arith, lowest-here xs i (λ k l. f (suc k) (omega arith)) (omega arith) e))
+lowest-here (x ∷ xs) (suc i) f h e = simp (f 0 (omega arith))
+    (omega (arith, lowest-here xs i (λ k l. f (suc k) (omega arith)) (omega arith) e))
 
 pub lowest-none : (xs : List State) → NoneFree xs (length xs) → length xs ≡ firstFree xs
 unfolding firstFree
@@ -145,7 +155,8 @@ lowest-free (x ∷ xs) h = go (isFree (x .phase)) refl h (λ l. lowest-free xs l
 -- ---- a begin is decided
 
 -- the first stage of a plan is sound
-pub plan-sound : (j : Job) (s : Settings) (b : Buffers) (o : StoreOffset) (n : ℕ) (v : IoVector) (x : State) → planOf j s b o n v ≡ Started x → isSound (s .bounce) x ≡ true
+pub plan-sound : (j : Job) (s : Settings) (b : Buffers) (o : StoreOffset) (n : ℕ) (v : IoVector) (x : State) → planOf j s b o n v
+    ≡ Started x → isSound (s .bounce) x ≡ true
 plan-sound Read s b o n v x e = read-opens s o (v .total) _ x e .sound
 plan-sound Write s b o n v x e = write-opens s o (v .total) _ x e .sound
 plan-sound Zeroes s b o n v x e = zero-opens s o n false x e .sound
@@ -160,14 +171,16 @@ pub record Allowed (l : Outcome) (t : Bool) (plan : Plan) (met : Bool) (f : ℕ)
   pub apart : met ≡ false
   pub slot : f < 8
 
-pub started : (l : Outcome) (t : Bool) (plan : Plan) (met : Bool) (f : ℕ) (x : State) → decidedOf l t plan met f ≡ Started x → Allowed l t plan met f x
+pub started : (l : Outcome) (t : Bool) (plan : Plan) (met : Bool) (f : ℕ) (x : State) → decidedOf l t plan met f ≡ Started x →
+    Allowed l t plan met f x
 started (Refused r) t plan met f x e = absurd (let z : _≡_ {A = ℕ} 0 1 = cc in omega arith)
 started Done false plan met f x e = absurd (let z : _≡_ {A = ℕ} 0 1 = cc in omega arith)
 started Done true NothingToDo met f x e = absurd (let z : _≡_ {A = ℕ} 0 1 = cc in omega arith)
 started Done true (PlanRefused r) met f x e = absurd (let z : _≡_ {A = ℕ} 0 1 = cc in omega arith)
 started Done true (Started y) met f x e = go met (ltb f 8) refl e
   where
-    go : (a u : Bool) → ltb f 8 ≡ u → pick a (PlanRefused Overlap) (pick u (Started y) (PlanRefused Full)) ≡ Started x → Allowed Done true (Started y) a f x
+    go : (a u : Bool) → ltb f 8 ≡ u → pick a (PlanRefused Overlap) (pick u (Started y) (PlanRefused Full)) ≡ Started x →
+        Allowed Done true (Started y) a f x
     go true u h e = absurd (let z : _≡_ {A = ℕ} 0 1 = cc in omega arith)
     go false true h e = record { lent = refl; valid = refl; planned = e; apart = refl; slot = ltb-true f 8 h }
     go false false h e = absurd (let z : _≡_ {A = ℕ} 0 1 = cc in omega arith)
@@ -183,13 +196,15 @@ lent-done s b m n e = go (openingOf s b) (lentFits b m n) e
     go (Refused r) t e = let z : _≡_ {A = ℕ} 0 1 = cc in absurd (omega arith)
 
 -- over what a begin is lent, a job whose stage is sound is sound in a slot of the eight
-lent-sound : (s : Settings) (b : Buffers) (m n p : ℕ) (x : State) → lentOf s b m n ≡ Done → p < 8 → isSound (s .bounce) x ≡ true → isSoundAt p x s b n ≡ true
+lent-sound : (s : Settings) (b : Buffers) (m n p : ℕ) (x : State) → lentOf s b m n ≡ Done → p < 8 → isSound (s .bounce) x ≡ true →
+    isSoundAt p x s b n ≡ true
 unfolding isSoundAt isSoundIn
 lent-sound s b m n p x d h w =
     let k = lent-done s b m n d in
     sound-here p x s b m n h (k .1) (simp w (le-leb (8 * s .bounce) (b .scratch .length) (omega (arith, opened s b (k .0) .room))))
 
-pub decided-sound : (j : Job) (s : Settings) (b : Buffers) (o : StoreOffset) (k : ℕ) (v : IoVector) (m n : ℕ) (l : Outcome) → l ≡ lentOf s b m n → (t : Bool) (plan : Plan) → plan ≡ planOf j s b o k v
+pub decided-sound : (j : Job) (s : Settings) (b : Buffers) (o : StoreOffset) (k : ℕ) (v : IoVector) (m n : ℕ) (l : Outcome) → l
+    ≡ lentOf s b m n → (t : Bool) (plan : Plan) → plan ≡ planOf j s b o k v
     → (met : Bool) (f : ℕ) (q : Plan) → q ≡ decidedOf l t plan met f → PlanSound f s b n q
 decided-sound j s b o k v m n l le t plan pe met f NothingToDo e = tt
 decided-sound j s b o k v m n l le t plan pe met f (PlanRefused r) e = tt
@@ -198,9 +213,11 @@ decided-sound j s b o k v m n l le t plan pe met f (Started x) e =
     lent-sound s b m n f x (sym le ∙ w .lent) (w .slot) (plan-sound j s b o k v x (sym pe ∙ w .planned))
 
 -- what is asked, planned, decided and admitted, each as its definition says, is begun
-module _ (d : Dock) (q : Asked) (memory scratch : List ℕ) (v : IoVector) (ve : v ≡ movedOf (q .job) (q .vector)) (met : Bool) (me : met ≡ overlapsOf (d .states) (d .vectors) (q .job) v)
+module _ (d : Dock) (q : Asked) (memory scratch : List ℕ) (v : IoVector) (ve : v ≡ movedOf (q .job) (q .vector)) (met : Bool)
+    (me : met ≡ overlapsOf (d .states) (d .vectors) (q .job) v)
     (l : Outcome) (le : l ≡ lentOf (d .settings) (d .buffers) (length memory) (length scratch)) (f : ℕ) (fe : f ≡ firstFree (d .states))
-    (plan : Plan) (pe : plan ≡ planOf (q .job) (d .settings) (d .buffers) (q .offset) (q .length) (q .vector)) (t : Bool) (te : t ≡ isValid (length memory) v)
+    (plan : Plan) (pe : plan ≡ planOf (q .job) (d .settings) (d .buffers) (q .offset) (q .length) (q .vector)) (t : Bool)
+    (te : t ≡ isValid (length memory) v)
     (r : Plan) (re : r ≡ decidedOf l t plan met f) where
   pub begin-whole : seated d v (admitAt (d .blockers) f (d .settings .bounce) v memory scratch r) ≡ beginOf d q memory scratch
   unfolding beginOf

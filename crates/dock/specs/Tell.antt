@@ -19,7 +19,8 @@ use Rattle.blockers.specs.declared.Blockers.{Blockers}
 use Rattle.blockers.specs.declared.Changed.{Changed}
 use Rattle.stages.specs.Stages.{sizeOf, hasEnded, isBlocking, toldOf}
 use Rattle.stages.specs.declared.state.Phase.{Phase}
-use Rattle.stages.specs.declared.state.Phase.the-variants.{Free, Ended, DirectRead, BouncedRead, FirstRead, SecondRead, BouncedWrite, DirectWrite, ZeroRequest, DiscardRequest}
+use Rattle.stages.specs.declared.state.Phase.the-variants.{Free, Ended, DirectRead, BouncedRead, FirstRead, SecondRead, BouncedWrite}
+use Rattle.stages.specs.declared.state.Phase.the-variants.{DirectWrite, ZeroRequest, DiscardRequest}
 use Rattle.stages.specs.declared.state.State.{State}
 use Rattle.stages.specs.declared.told.Step.{Step}
 use Rattle.stages.specs.declared.told.Step.the-variants.{Stays, Ends, Enters}
@@ -85,13 +86,19 @@ steps t m s = record { outcome = t .outcome; blockers = t .blockers; state = t .
 abbrev pub unstepped : Blockers → State → Refusal → Stepping
 unstepped b x r = record { outcome = Refused r; blockers = b; state = x }
 
--- A dock of no call's making may lack the blocker that leaves, have one where another enters, or a vector of other bytes than the stage's: the
--- tell is then refused, and changes nothing. Law `made-tell` of crate histories: no dock that calls made is refused so.
+-- A dock of no call's making may lack the blocker that leaves, have one where another enters, or a vector of other bytes than the stage's:
+-- the tell is then refused, and changes nothing. Law `made-tell` of crate histories: no dock that calls made is refused so.
 
 -- the job goes on in its stage, its blocker too; "scratch is filled at the last read's tell"
 abbrev pub staysAt : Blockers → ℕ → State → IoVector → List ℕ → List ℕ → Stepped
 staysAt b share y v memory scratch =
-    record { outcome = filled share y v memory scratch .outcome; blockers = b; state = y; memory = memory; scratch = filled share y v memory scratch .scratch }
+    record {
+      outcome = filled share y v memory scratch .outcome;
+      blockers = b;
+      state = y;
+      memory = memory;
+      scratch = filled share y v memory scratch .scratch;
+    }
 
 -- it ends: its blocker "leaves when its piece ends", and the bytes of a padded read are handed out
 unfoldable pub endsAt : Blockers → ℕ → ℕ → State → ℕ → State → IoVector → List ℕ → List ℕ → Stepped
@@ -156,14 +163,24 @@ tells r m s = record { dock = r .dock; outcome = r .outcome; memory = m; scratch
 -- the dock with the job y in slot p and the blockers b; its vector stays
 abbrev pub accepted : Dock → ℕ → Blockers → State → Telling
 accepted d p b y =
-    record { dock = record { settings = d .settings; buffers = d .buffers; blockers = b; states = set (d .states) p y; vectors = d .vectors }; outcome = Done }
+    record {
+      dock = record {
+        settings = d .settings;
+        buffers = d .buffers;
+        blockers = b;
+        states = set (d .states) p y;
+        vectors = d .vectors;
+      };
+      outcome = Done;
+    }
 
 abbrev pub refusedTell : Dock → List ℕ → List ℕ → Refusal → Told
 refusedTell d memory scratch r = record { dock = d; outcome = Refused r; memory = memory; scratch = scratch }
 
 -- stored in the dock where it is done
 abbrev pub storedBy : Outcome → Dock → ℕ → Stepped → Told
-storedBy o d p t = whenDone o (tells (accepted d p (t .blockers) (t .state)) (t .memory) (t .scratch)) (refusedTell d (t .memory) (t .scratch))
+storedBy o d p t = whenDone o (tells (accepted d p (t .blockers) (t .state)) (t .memory) (t .scratch))
+    (refusedTell d (t .memory) (t .scratch))
 
 abbrev pub stored : Dock → ℕ → Stepped → Told
 stored d p t = storedBy (t .outcome) d p t

@@ -29,7 +29,8 @@ use vectors::vector::Alignment;
 use vectors::vector::IoVector;
 ghost use mathlib.Core.Path.{_≡_};
 ghost use lib.ListN.{length};
-ghost use Rattle.dock.specs.Begin.{InShare, begins, blockersWith, isAligned, readOf, writeOf, zeroesOf, discardOf, movedOf, planOf, beginOf, enters, enterAt, decidedOf, PlanInShare, unplaced, admits, admitAt};
+ghost use Rattle.dock.specs.Begin.{InShare, begins, blockersWith, isAligned, readOf, writeOf, zeroesOf, discardOf, movedOf, planOf};
+ghost use Rattle.dock.specs.Begin.{beginOf, enters, enterAt, decidedOf, PlanInShare, unplaced, admits, admitAt};
 ghost use Rattle.vectors.specs.Vectors.{alignmentOf};
 
 // What is asked of a begin: the job, and where on the store. A read and a write have the length of their vector, the others

@@ -168,7 +168,8 @@ pub fn hand_out_share(
     data: &mut [u8],
     scratch: &[u8],
 ) -> Outcome
-    ensures { λ r. ⌜ hands r (now («data» .exit)) ≡ handedShare slot settings buffers x code v (now («data» .entry)) (now (scratch .entry)) ⌝ }
+    ensures { λ r. ⌜ hands r (now («data» .exit)) ≡ handedShare slot settings buffers x code v (now («data» .entry))
+        (now (scratch .entry)) ⌝ }
 {
     let phase = x.phase;
     let read = is_bounced_read(phase) & (code == 0);

@@ -20,7 +20,8 @@ ghost use Prim.Native.Nat.{_+_, _<_, _^_};
 ghost use lib.ListN.{length};
 ghost use Rattle.stages.specs.Stages.{isSound};
 ghost use Rattle.dock.specs.Dock.{isOutBy};
-ghost use Rattle.dock.specs.Next.{dueIn, nextOf, isSoundIn, isSoundAt, inScratch, inData, pieceBy, pieceIn, pieceAt, pieceOf, partOf, bytesAt, pieceBytes};
+ghost use Rattle.dock.specs.Next.{dueIn, nextOf, isSoundIn, isSoundAt, inScratch, inData, pieceBy, pieceIn, pieceAt, pieceOf, partOf};
+ghost use Rattle.dock.specs.Next.{bytesAt, pieceBytes};
 
 // What next tells.
 pub enum Due {

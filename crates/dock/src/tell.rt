@@ -24,7 +24,8 @@ ghost use mathlib.Core.Bool.{true};
 ghost use Prim.Native.Nat.{_<_};
 ghost use lib.ListN.{length};
 ghost use Rattle.dock.specs.Begin.{InShare};
-ghost use Rattle.dock.specs.Tell.{tells, blockersWithout, tellOf, collectOf, steps, StepInShare, unstepped, staysAt, endsAt, entersAt, steppedAt, answeredOf, toldAt};
+ghost use Rattle.dock.specs.Tell.{tells, blockersWithout, tellOf, collectOf, steps, StepInShare, unstepped, staysAt, endsAt};
+ghost use Rattle.dock.specs.Tell.{entersAt, steppedAt, answeredOf, toldAt};
 ghost use Rattle.dock.specs.Dock.{lentFits};
 
 pub struct Telling {
@@ -89,7 +90,8 @@ fn stays(
     scratch: &mut [u8],
 ) -> Stepping
     requires { ⌜ InShare share y (length (now scratch)) ⌝ }
-    ensures { λ r. ⌜ steps r (now («data» .entry)) (now (scratch .exit)) ≡ staysAt b share y v (now («data» .entry)) (now (scratch .entry)) ⌝ }
+    ensures { λ r. ⌜ steps r (now («data» .entry)) (now (scratch .exit))
+        ≡ staysAt b share y v (now («data» .entry)) (now (scratch .entry)) ⌝ }
 {
     let outcome = fill(share, y, v, data, scratch);
     Stepping {
@@ -112,7 +114,8 @@ fn ends(
     scratch: &[u8],
 ) -> Stepping
     requires { ⌜ InShare share x (length (now scratch)) ⌝ }
-    ensures { λ r. ⌜ steps r (now («data» .exit)) (now (scratch .entry)) ≡ endsAt b slot share x code y v (now («data» .entry)) (now (scratch .entry)) ⌝ }
+    ensures { λ r. ⌜ steps r (now («data» .exit)) (now (scratch .entry))
+        ≡ endsAt b slot share x code y v (now («data» .entry)) (now (scratch .entry)) ⌝ }
 {
     let left = without_blocker(b, slot, x);
     let gone = left.outcome;
@@ -140,7 +143,8 @@ fn enters(
     scratch: &mut [u8],
 ) -> Stepping
     requires { ⌜ InShare share y (length (now scratch)) ⌝ }
-    ensures { λ r. ⌜ steps r (now («data» .entry)) (now (scratch .exit)) ≡ entersAt b slot share x y v (now («data» .entry)) (now (scratch .entry)) ⌝ }
+    ensures { λ r. ⌜ steps r (now («data» .entry)) (now (scratch .exit))
+        ≡ entersAt b slot share x y v (now («data» .entry)) (now (scratch .entry)) ⌝ }
 {
     let left = without_blocker(b, slot, x);
     let gone = left.outcome;
@@ -170,7 +174,8 @@ fn step(
     scratch: &mut [u8],
 ) -> Stepping
     requires { ⌜ InShare share x (length (now scratch)) × StepInShare share (length (now scratch)) step ⌝ }
-    ensures { λ r. ⌜ steps r (now («data» .exit)) (now (scratch .exit)) ≡ steppedAt b slot share x code v (now («data» .entry)) (now (scratch .entry)) step ⌝ }
+    ensures { λ r. ⌜ steps r (now («data» .exit)) (now (scratch .exit))
+        ≡ steppedAt b slot share x code v (now («data» .entry)) (now (scratch .entry)) step ⌝ }
 {
     match step {
         Step::Stays(y) => stays(b, share, y, v, data, scratch),
@@ -204,7 +209,8 @@ fn told_at(
     scratch: &mut [u8],
 ) -> Stepping
     requires { ⌜ (slot < 8) × (lentFits buffers (length (now «data»)) (length (now scratch)) ≡ true) ⌝ }
-    ensures { λ r. ⌜ steps r (now («data» .exit)) (now (scratch .exit)) ≡ toldAt b slot settings buffers x v code (now («data» .entry)) (now (scratch .entry)) ⌝ }
+    ensures { λ r. ⌜ steps r (now («data» .exit)) (now (scratch .exit))
+        ≡ toldAt b slot settings buffers x v code (now («data» .entry)) (now (scratch .entry)) ⌝ }
 {
     if !is_out(b, x, slot) {
         return unstepped(b, x, Refusal::Slot);
@@ -225,7 +231,8 @@ fn told_at(
 impl Dock {
     // Hand in the code of the request that is out.
     pub fn tell(mut self, slot: usize, code: u8, data: &mut [u8], scratch: &mut [u8]) -> Telling
-        ensures { λ r. ⌜ tells r (now («data» .exit)) (now (scratch .exit)) ≡ tellOf self slot code (now («data» .entry)) (now (scratch .entry)) ⌝ }
+        ensures { λ r. ⌜ tells r (now («data» .exit)) (now (scratch .exit))
+            ≡ tellOf self slot code (now («data» .entry)) (now (scratch .entry)) ⌝ }
     {
         let settings = self.settings;
         let buffers = self.buffers;

@@ -1,4 +1,5 @@
-// The boundary: what C or Rust calls. The arrays have the lengths declared here; data and scratch are a pointer and a length. For any words.
+// The boundary: what C or Rust calls. The arrays have the lengths declared here; data and scratch are a pointer and a length. For any
+// words.
 mod replies; // answers, as they cross
 pub mod parts; // vectors and blockers alone
 
@@ -235,7 +236,8 @@ pub extern "C" fn dock_words_next(
     data_len: usize,
     scratch_len: usize,
 ) -> Reply
-    ensures { λ r. ⌜ r ≡ replyOf (duePaper (nextOf (dockOf (now (settings .entry)) (now (blockers .entry)) (now (states .entry)) (now (vectors .entry))) slot data_len «scratch_len»)) ⌝ }
+    ensures { λ r. ⌜ r ≡ replyOf (duePaper (nextOf (dockOf (now (settings .entry)) (now (blockers .entry)) (now (states .entry))
+        (now (vectors .entry))) slot data_len «scratch_len»)) ⌝ }
 {
     due_reply(next(
         settings,
@@ -260,7 +262,8 @@ pub extern "C" fn dock_words_piece(
     data_len: usize,
     scratch_len: usize,
 ) -> Reply
-    ensures { λ r. ⌜ r ≡ replyOf (piecePaper (pieceOf (dockOf (now (settings .entry)) (now (blockers .entry)) (now (states .entry)) (now (vectors .entry))) slot i data_len «scratch_len»)) ⌝ }
+    ensures { λ r. ⌜ r ≡ replyOf (piecePaper (pieceOf (dockOf (now (settings .entry)) (now (blockers .entry)) (now (states .entry))
+        (now (vectors .entry))) slot i data_len «scratch_len»)) ⌝ }
 {
     piece_reply(piece(
         settings,

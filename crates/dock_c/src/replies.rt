@@ -76,7 +76,14 @@ pub(crate) fn begun_reply(b: Begun) -> Reply
 }
 
 fn request_reply(q: Request) -> Reply
-    ensures { λ r. ⌜ r ≡ record { number = 256; count = 4; first = kindNumber (q .kind); second = q .offset .0; third = q .length; fourth = q .segments } ⌝ }
+    ensures { λ r. ⌜ r ≡ record {
+      number = 256;
+      count = 4;
+      first = kindNumber (q .kind);
+      second = q .offset .0;
+      third = q .length;
+      fourth = q .segments;
+    } ⌝ }
 {
     let kind = q.kind;
     let offset = q.offset;

@@ -72,7 +72,13 @@ keeps o b x memory scratch = record { outcome = o; blockers = blockersOf b; stat
 
 -- a step of slot p, kept where it is done
 abbrev pub keptBy : Outcome → Blockers → List State → ℕ → Stepped → Kept
-keptBy Done b xs p t = record { outcome = Done; blockers = t .blockers; states = set xs p (t .state); memory = t .memory; scratch = t .scratch }
+keptBy Done b xs p t = record {
+  outcome = Done;
+  blockers = t .blockers;
+  states = set xs p (t .state);
+  memory = t .memory;
+  scratch = t .scratch;
+}
 keptBy (Refused r) b xs p t = record { outcome = Refused r; blockers = b; states = xs; memory = t .memory; scratch = t .scratch }
 
 abbrev pub kept : Blockers → List State → ℕ → Stepped → Kept
@@ -93,7 +99,13 @@ seats a b x v scratch = record { answer = a; blockers = blockersOf b; states = s
 -- a job with the vector v, in the slot that it is placed in
 abbrev pub placedBy : Begun → Blockers → List State → List IoVector → IoVector → Admitted → Seats
 placedBy NoRequest b xs vs v a = record { answer = NoRequest; blockers = b; states = xs; vectors = vs; scratch = a .scratch }
-placedBy (Placed p) b xs vs v a = record { answer = Placed p; blockers = a .blockers; states = set xs p (a .state); vectors = set vs p v; scratch = a .scratch }
+placedBy (Placed p) b xs vs v a = record {
+  answer = Placed p;
+  blockers = a .blockers;
+  states = set xs p (a .state);
+  vectors = set vs p v;
+  scratch = a .scratch;
+}
 placedBy (BeginRefused r) b xs vs v a = record { answer = BeginRefused r; blockers = b; states = xs; vectors = vs; scratch = a .scratch }
 
 abbrev pub placedIn : Blockers → List State → List IoVector → IoVector → Admitted → Seats

@@ -1,4 +1,5 @@
--- A step kept in words, and a job placed there, are what Tell and Begin say of the dock; when a blocker can leave, enter or change. Assumes nothing.
+-- A step kept in words, and a job placed there, are what Tell and Begin say of the dock; when a blocker can leave, enter or change. Assumes
+-- nothing.
 use mathlib.Core.Path.{_≡_, refl, sym, ap, _∙_}
 use mathlib.Core.Bool.{Bool, true, false, not, _&&_}
 use mathlib.Core.List.{List}
@@ -72,23 +73,43 @@ module _ (made : Opened) (o : Outcome) (e : o ≡ made .outcome) (s b x v : List
 -- ---- what a call left, held beside the dock
 
 module _ (s b x v : List ℕ) where
-  pub told-kept : (p : ℕ) (o : Outcome) (b′ x′ memory scratch : List ℕ) (t : Stepped) → keeps o b′ x′ memory scratch ≡ kept (blockersOf b) (statesOf x) p t
+  pub told-kept : (p : ℕ) (o : Outcome) (b′ x′ memory scratch : List ℕ) (t : Stepped) → keeps o b′ x′ memory scratch
+      ≡ kept (blockersOf b) (statesOf x) p t
       → tells (record { outcome = o; dock = dockOf s b′ x′ v }) memory scratch ≡ stored (dockOf s b x v) p t
   told-kept p o b′ x′ memory scratch t e = ap by e ∙ go (t .outcome)
     where
       by : Kept → Told
-      by k = tells (record { outcome = k .outcome; dock = record { settings = settingsOf s; buffers = buffersOf s; blockers = k .blockers; states = k .states; vectors = vectorsOf v } }) (k .memory) (k .scratch)
+      by k = tells (record {
+        outcome = k .outcome;
+        dock = record {
+          settings = settingsOf s;
+          buffers = buffersOf s;
+          blockers = k .blockers;
+          states = k .states;
+          vectors = vectorsOf v;
+        };
+      }) (k .memory) (k .scratch)
 
       go : (o : Outcome) → by (keptBy o (blockersOf b) (statesOf x) p t) ≡ storedBy o (dockOf s b x v) p t
       go Done = refl
       go (Refused r) = refl
 
-  pub begun-placed : (r : Begun) (b′ x′ v′ scratch : List ℕ) (w : IoVector) (a : Admitted) → seats r b′ x′ v′ scratch ≡ placedIn (blockersOf b) (statesOf x) (vectorsOf v) w a
+  pub begun-placed : (r : Begun) (b′ x′ v′ scratch : List ℕ) (w : IoVector) (a : Admitted) → seats r b′ x′ v′ scratch
+      ≡ placedIn (blockersOf b) (statesOf x) (vectorsOf v) w a
       → begins (record { answer = r; dock = dockOf s b′ x′ v′ }) scratch ≡ seated (dockOf s b x v) w a
   begun-placed r b′ x′ v′ scratch w a e = ap by e ∙ go (a .answer)
     where
       by : Seats → Begins
-      by k = begins (record { answer = k .answer; dock = record { settings = settingsOf s; buffers = buffersOf s; blockers = k .blockers; states = k .states; vectors = k .vectors } }) (k .scratch)
+      by k = begins (record {
+        answer = k .answer;
+        dock = record {
+          settings = settingsOf s;
+          buffers = buffersOf s;
+          blockers = k .blockers;
+          states = k .states;
+          vectors = k .vectors;
+        };
+      }) (k .scratch)
 
       go : (z : Begun) → by (placedBy z (blockersOf b) (statesOf x) (vectorsOf v) w a) ≡ seatedBy z (dockOf s b x v) w a
       go NoRequest = refl
@@ -97,10 +118,12 @@ module _ (s b x v : List ℕ) where
 
 -- a step that is done is kept; one that is refused leaves blockers and states
 module _ (B : Blockers) (xs : List State) (p : ℕ) (t : Stepped) (b x memory scratch : List ℕ) where
-  pub kept-done : t .outcome ≡ Done → blockersOf b ≡ t .blockers → statesOf x ≡ set xs p (t .state) → memory ≡ t .memory → scratch ≡ t .scratch → keeps Done b x memory scratch ≡ kept B xs p t
+  pub kept-done : t .outcome ≡ Done → blockersOf b ≡ t .blockers → statesOf x ≡ set xs p (t .state) → memory ≡ t .memory → scratch
+      ≡ t .scratch → keeps Done b x memory scratch ≡ kept B xs p t
   kept-done o e f m n = rw (e, f, m, n) (sym (ap (λ (z : Outcome). keptBy z B xs p t) o))
 
-  pub kept-refused : (r : Refusal) → t .outcome ≡ Refused r → blockersOf b ≡ B → statesOf x ≡ xs → memory ≡ t .memory → scratch ≡ t .scratch → keeps (Refused r) b x memory scratch ≡ kept B xs p t
+  pub kept-refused : (r : Refusal) → t .outcome ≡ Refused r → blockersOf b ≡ B → statesOf x ≡ xs → memory ≡ t .memory → scratch ≡ t .scratch
+      → keeps (Refused r) b x memory scratch ≡ kept B xs p t
   kept-refused r o e f m n = rw (e, f, m, n) (sym (ap (λ (z : Outcome). keptBy z B xs p t) o))
 
 -- ---- when a blocker can leave, enter or change
@@ -137,7 +160,10 @@ module _ (b : Blockers) (p : ℕ) where
     unfolding blockersWithout leftOf
     leaves-not = go (isBlocking (x .phase)) (ltb p 8 && isEntered (blockerAt b p)) _
       where
-        go : (u t : Bool) (l : List Blocker) → isDone (pick u (pick t (changedTo l) (refused b)) (record { blockers = b; outcome = Done }) .outcome) ≡ false
+        go : (u t : Bool) (l : List Blocker) → isDone (pick u (pick t (changedTo l) (refused b)) (record {
+          blockers = b;
+          outcome = Done;
+        }) .outcome) ≡ false
             → pick u (pick t (changedTo l) (refused b)) (record { blockers = b; outcome = Done }) .outcome ≡ Refused Slot
         go true true l e = let z : _≡_ {A = ℕ} 0 1 = cc in absurd (omega arith)
         go true false l e = refl
@@ -152,22 +178,28 @@ module _ (b : Blockers) (p : ℕ) where
     unfolding blockersWith
     enters-past e h = simp e (sym (enter-is (strength (x .stage .strong)) (x .stage .request) ∙ simp (le-ltb p 8 h)))
 
-    pub enters-vacant : isBlocking (x .phase) ≡ true → p < 8 → not (ltb p 8 && isEntered (blockerAt b p)) ≡ isDone (blockersWith b p x .outcome)
+    pub enters-vacant : isBlocking (x .phase) ≡ true → p < 8 → not (ltb p 8 && isEntered (blockerAt b p))
+        ≡ isDone (blockersWith b p x .outcome)
     unfolding blockersWith
-    enters-vacant e h = simp e (simp (lt-ltb p 8 h) (sym (enter-is (strength (x .stage .strong)) (x .stage .request) ∙ simp (lt-ltb p 8 h))))
+    enters-vacant e h = simp e (simp (lt-ltb p 8 h) (sym (enter-is (strength (x .stage .strong)) (x .stage .request)
+        ∙ simp (lt-ltb p 8 h))))
 
     pub enters-not : isDone (blockersWith b p x .outcome) ≡ false → blockersWith b p x .outcome ≡ Refused Slot
     unfolding blockersWith enteredOf
     enters-not = go (isBlocking (x .phase)) (ltb p 8 && not (isEntered (blockerAt b p))) _
       where
-        go : (u t : Bool) (l : List Blocker) → isDone (pick u (pick t (changedTo l) (refused b)) (record { blockers = b; outcome = Done }) .outcome) ≡ false
+        go : (u t : Bool) (l : List Blocker) → isDone (pick u (pick t (changedTo l) (refused b)) (record {
+          blockers = b;
+          outcome = Done;
+        }) .outcome) ≡ false
             → pick u (pick t (changedTo l) (refused b)) (record { blockers = b; outcome = Done }) .outcome ≡ Refused Slot
         go true true l e = let z : _≡_ {A = ℕ} 0 1 = cc in absurd (omega arith)
         go true false l e = refl
         go false t l e = let z : _≡_ {A = ℕ} 0 1 = cc in absurd (omega arith)
 
 -- where a blocker has left, the next one enters
-after-left : (b : Blockers) (p : ℕ) (y : State) → isDone (leftOf p b .outcome) ≡ true → blockersWith (leftOf p b .blockers) p y .outcome ≡ Done
+after-left : (b : Blockers) (p : ℕ) (y : State) → isDone (leftOf p b .outcome) ≡ true → blockersWith (leftOf p b .blockers) p y .outcome
+    ≡ Done
 unfolding blockersWith
 after-left b p y e = go (isBlocking (y .phase))
   where
@@ -180,7 +212,8 @@ after-left b p y e = go (isBlocking (y .phase))
     own : isEntered (blockerAt (leftOf p b .blockers) p) ≡ false
     own = ap isEntered (left-own p b h (and-right (ltb p 8) (isEntered (blockerAt b p)) there))
 
-    go : (t : Bool) → pick t (enteredOf (strength (y .stage .strong)) p (y .stage .request) (leftOf p b .blockers)) (record { blockers = leftOf p b .blockers; outcome = Done }) .outcome ≡ Done
+    go : (t : Bool) → pick t (enteredOf (strength (y .stage .strong)) p (y .stage .request) (leftOf p b .blockers))
+        (record { blockers = leftOf p b .blockers; outcome = Done }) .outcome ≡ Done
     go true = ap (λ (c : Changed). c .outcome) (enter-done (strength (y .stage .strong)) p (y .stage .request) (leftOf p b .blockers) h own)
     go false = refl
 
@@ -190,7 +223,8 @@ module _ (b : Blockers) (p : ℕ) (x y : State) where
   unfolding blockersWithout
   changes-blocking e = simp e (go (leftOf p b .outcome) refl)
     where
-      go : (o : Outcome) → leftOf p b .outcome ≡ o → isDone o ≡ isDone (whenDone o (blockersWith (leftOf p b .blockers) p y .outcome) Refused)
+      go : (o : Outcome) → leftOf p b .outcome ≡ o → isDone o
+          ≡ isDone (whenDone o (blockersWith (leftOf p b .blockers) p y .outcome) Refused)
       go Done q = sym (ap isDone (after-left b p y (ap isDone q)))
       go (Refused r) q = refl
 
@@ -203,18 +237,31 @@ module _ (b : Blockers) (p : ℕ) (x y : State) where
 
 module _ (b : Blockers) (p share : ℕ) (x : State) (code : ℕ) (y : State) (v : IoVector) (memory scratch : List ℕ) where
   pub ends-left : isDone (blockersWithout b p x .outcome) ≡ true
-      → endsAt b p share x code y v memory scratch ≡ record { outcome = handed share x code v memory scratch .outcome; blockers = blockersWithout b p x .blockers; state = y; memory = handed share x code v memory scratch .memory; scratch = scratch }
+      → endsAt b p share x code y v memory scratch ≡ record {
+        outcome = handed share x code v memory scratch .outcome;
+        blockers = blockersWithout b p x .blockers;
+        state = y;
+        memory = handed share x code v memory scratch .memory;
+        scratch = scratch;
+      }
   unfolding endsAt
   ends-left e = simp (is-done (blockersWithout b p x .outcome) e)
 
-  pub ends-stuck : isDone (blockersWithout b p x .outcome) ≡ false → endsAt b p share x code y v memory scratch ≡ steps (unstepped b x Slot) memory scratch
+  pub ends-stuck : isDone (blockersWithout b p x .outcome) ≡ false → endsAt b p share x code y v memory scratch
+      ≡ steps (unstepped b x Slot) memory scratch
   unfolding endsAt
   ends-stuck e = simp (leaves-not b p x e)
 
 module _ (b : Blockers) (p share : ℕ) (x y : State) (v : IoVector) (memory scratch : List ℕ) where
   pub enters-changed : isDone (changes b p x y) ≡ true
       → entersAt b p share x y v memory scratch
-      ≡ record { outcome = filled share y v memory scratch .outcome; blockers = blockersWith (blockersWithout b p x .blockers) p y .blockers; state = y; memory = memory; scratch = filled share y v memory scratch .scratch }
+      ≡ record {
+        outcome = filled share y v memory scratch .outcome;
+        blockers = blockersWith (blockersWithout b p x .blockers) p y .blockers;
+        state = y;
+        memory = memory;
+        scratch = filled share y v memory scratch .scratch;
+      }
   unfolding entersAt enterAt
   enters-changed = go (blockersWithout b p x .outcome) (blockersWith (blockersWithout b p x .blockers) p y .outcome)
     where
@@ -222,27 +269,44 @@ module _ (b : Blockers) (p share : ℕ) (x y : State) (v : IoVector) (memory scr
       B = blockersWith (blockersWithout b p x .blockers) p y .blockers
 
       go : (q n : Outcome) → isDone (whenDone q n Refused) ≡ true
-          → whenDone q (entersBy (whenDone n (record { blockers = B; outcome = filled share y v memory scratch .outcome; scratch = filled share y v memory scratch .scratch })
+          → whenDone q (entersBy (whenDone n (record {
+            blockers = B;
+            outcome = filled share y v memory scratch .outcome;
+            scratch = filled share y v memory scratch .scratch;
+          })
           (λ r. record { blockers = B; outcome = n; scratch = scratch })) y memory) (λ r. steps (unstepped b x r) memory scratch)
-          ≡ record { outcome = filled share y v memory scratch .outcome; blockers = B; state = y; memory = memory; scratch = filled share y v memory scratch .scratch }
+          ≡ record {
+            outcome = filled share y v memory scratch .outcome;
+            blockers = B;
+            state = y;
+            memory = memory;
+            scratch = filled share y v memory scratch .scratch;
+          }
       go Done Done e = refl
       go Done (Refused r) e = let z : _≡_ {A = ℕ} 0 1 = cc in absurd (omega arith)
       go (Refused r) n e = let z : _≡_ {A = ℕ} 0 1 = cc in absurd (omega arith)
 
   -- where it cannot change, that is 208, and nothing moves
   pub enters-stuck : isDone (changes b p x y) ≡ false
-      → (entersAt b p share x y v memory scratch .outcome ≡ Refused Slot) × (memory ≡ entersAt b p share x y v memory scratch .memory) × (scratch ≡ entersAt b p share x y v memory scratch .scratch)
+      → (entersAt b p share x y v memory scratch .outcome ≡ Refused Slot) × (memory ≡ entersAt b p share x y v memory scratch .memory)
+      × (scratch ≡ entersAt b p share x y v memory scratch .scratch)
   unfolding entersAt enterAt
-  enters-stuck = go (blockersWithout b p x .outcome) (leaves-not b p x) (blockersWith (blockersWithout b p x .blockers) p y .outcome) (enters-not (blockersWithout b p x .blockers) p y)
+  enters-stuck = go (blockersWithout b p x .outcome) (leaves-not b p x) (blockersWith (blockersWithout b p x .blockers) p y .outcome)
+      (enters-not (blockersWithout b p x .blockers) p y)
     where
       B : Blockers
       B = blockersWith (blockersWithout b p x .blockers) p y .blockers
 
       there : Outcome → Outcome → Stepped
-      there q n = whenDone q (entersBy (whenDone n (record { blockers = B; outcome = filled share y v memory scratch .outcome; scratch = filled share y v memory scratch .scratch })
+      there q n = whenDone q (entersBy (whenDone n (record {
+        blockers = B;
+        outcome = filled share y v memory scratch .outcome;
+        scratch = filled share y v memory scratch .scratch;
+      })
           (λ r. record { blockers = B; outcome = n; scratch = scratch })) y memory) (λ r. steps (unstepped b x r) memory scratch)
 
-      go : (q : Outcome) → (isDone q ≡ false → q ≡ Refused Slot) → (n : Outcome) → (isDone n ≡ false → n ≡ Refused Slot) → isDone (whenDone q n Refused) ≡ false
+      go : (q : Outcome) → (isDone q ≡ false → q ≡ Refused Slot) → (n : Outcome) → (isDone n ≡ false → n ≡ Refused Slot) →
+          isDone (whenDone q n Refused) ≡ false
           → (there q n .outcome ≡ Refused Slot) × (memory ≡ there q n .memory) × (scratch ≡ there q n .scratch)
       go Done f Done g e = let z : _≡_ {A = ℕ} 0 1 = cc in absurd (omega arith)
       go Done f (Refused r) g e = (g refl, refl, refl)

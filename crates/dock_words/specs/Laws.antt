@@ -18,7 +18,8 @@ use Rattle.blockers.specs.declared.Kind.{Kind}
 use Rattle.blockers.specs.declared.Kind.the-variants.{Absent, Weak, Strong}
 use Rattle.blockers.specs.declared.Blocker.{Blocker}
 use Rattle.stages.specs.declared.state.Phase.{Phase}
-use Rattle.stages.specs.declared.state.Phase.the-variants.{Free, Ended, DirectRead, BouncedRead, FirstRead, SecondRead, BouncedWrite, DirectWrite, ZeroRequest, DiscardRequest}
+use Rattle.stages.specs.declared.state.Phase.the-variants.{Free, Ended, DirectRead, BouncedRead, FirstRead, SecondRead, BouncedWrite}
+use Rattle.stages.specs.declared.state.Phase.the-variants.{DirectWrite, ZeroRequest, DiscardRequest}
 use Rattle.stages.specs.declared.state.Job.{Job}
 use Rattle.stages.specs.declared.state.Job.the-variants.{Read, Write, Zeroes, AllocatedZeroes, Discard}
 use Rattle.stages.specs.declared.state.Course.{Course}
@@ -26,7 +27,9 @@ use Rattle.stages.specs.declared.state.Course.the-variants.{Last, Middle, Head,
 use Rattle.stages.specs.declared.state.State.{State}
 use Rattle.dock.specs.Dock.{noState, noVector}
 use Rattle.dock_words.specs.Rows.{rows, row, put, rows-get, rows-put, row-word, row-length, row-set, part-put}
-use Rattle.dock_words.specs.View.{flagOf, flagWord, phaseOf, phaseTag, jobOf, jobTag, courseOf, courseTag, kindOf, kindTag, stageOf, stateOf, stateWords, blockerOf, blockerWords, segmentOf, segmentWords, vectorFrom, vectorWords, blockersOf, statesOf, vectorsOf}
+use Rattle.dock_words.specs.View.{flagOf, flagWord, phaseOf, phaseTag, jobOf, jobTag, courseOf, courseTag, kindOf, kindTag, stageOf}
+use Rattle.dock_words.specs.View.{stateOf, stateWords, blockerOf, blockerWords, segmentOf, segmentWords, vectorFrom, vectorWords}
+use Rattle.dock_words.specs.View.{blockersOf, statesOf, vectorsOf}
 
 -- ---- one word
 
@@ -105,12 +108,22 @@ pub vector-width : (v : IoVector) → length (v .segments) ≡ 16 → length (ve
 vector-width v h = omega (arith, segment-width 16 (v .segments) h)
 
 -- segment i of a vector's row, by its two words
-pub segment-words : (w : List ℕ) (i : ℕ) → i < 16 → segment (getD w (2 + 2 * i) 0) (getD w (3 + 2 * i) 0) ≡ getD (vectorFrom w .segments) i none
+pub segment-words : (w : List ℕ) (i : ℕ) → i < 16 → segment (getD w (2 + 2 * i) 0) (getD w (3 + 2 * i) 0)
+    ≡ getD (vectorFrom w .segments) i none
 unfolding vectorFrom
 segment-words w i h =
     let e : 2 + 2 * i ≡ 2 + (i * 2 + 0) = omega arith in
     let f : 3 + 2 * i ≡ 2 + (i * 2 + 1) = omega arith in
-    rw (rows-get segmentOf 2 16 i (drop 2 w) none h, row-word 2 i (drop 2 w) 0 (omega arith), row-word 2 i (drop 2 w) 1 (omega arith), getD-drop 2 w (i * 2 + 0) 0, getD-drop 2 w (i * 2 + 1) 0, e, f)
+    rw (
+      rows-get segmentOf 2 16 i (drop 2 w) none h,
+      row-word 2 i (drop 2 w) 0 (omega arith),
+      row-word 2 i (drop 2 w) 1
+          (omega arith),
+      getD-drop 2 w (i * 2 + 0) 0,
+      getD-drop 2 w (i * 2 + 1) 0,
+      e,
+      f,
+    )
 
 -- and the two words of segment i, as they are written
 start-word : (l : List Segment) (i : ℕ) → getD (segmentWords l) (2 * i) 0 ≡ getD l i none .start
@@ -134,7 +147,8 @@ vector-length v i = let e : 3 + 2 * i ≡ suc (suc (suc (2 * i))) = omega arith 
 pub state-row : (w : List ℕ) (p : ℕ) → p < 8 → getD (statesOf w) p noState ≡ stateOf (row 18 p w)
 state-row w p h = rows-get stateOf 18 8 p w noState h
 
-pub state-put : (w : List ℕ) (p : ℕ) (x : State) → p < 8 → length w ≡ 144 → x .answer < 256 → statesOf (put 18 p w (stateWords x)) ≡ set (statesOf w) p x
+pub state-put : (w : List ℕ) (p : ℕ) (x : State) → p < 8 → length w ≡ 144 → x .answer < 256 → statesOf (put 18 p w (stateWords x))
+    ≡ set (statesOf w) p x
 state-put w p x h l a = rows-put stateOf 18 8 p w (stateWords x) h (omega arith) refl ∙ rw (state-back x a)
 
 -- as code puts it: the words, of which the part that was lent has come back as b
@@ -152,7 +166,8 @@ phase-word w p h = rw (state-row w p h, row-word 18 p w 0 (omega arith), add-zer
 pub vector-row : (w : List ℕ) (p : ℕ) → p < 8 → getD (vectorsOf w) p noVector ≡ vectorFrom (row 34 p w)
 vector-row w p h = rows-get vectorFrom 34 8 p w noVector h
 
-pub vector-put : (w : List ℕ) (p : ℕ) (v : IoVector) → p < 8 → length w ≡ 272 → length (v .segments) ≡ 16 → vectorsOf (put 34 p w (vectorWords v)) ≡ set (vectorsOf w) p v
+pub vector-put : (w : List ℕ) (p : ℕ) (v : IoVector) → p < 8 → length w ≡ 272 → length (v .segments) ≡ 16 →
+    vectorsOf (put 34 p w (vectorWords v)) ≡ set (vectorsOf w) p v
 vector-put w p v h l n = rows-put vectorFrom 34 8 p w (vectorWords v) h (omega arith) (vector-width v n) ∙ rw (vector-back v n)
 
 pub vector-part : (w : List ℕ) (p : ℕ) (v : IoVector) (b : List ℕ) → p < 8 → length w ≡ 272 → length (v .segments) ≡ 16 → b ≡ vectorWords v
@@ -170,11 +185,13 @@ pub blocker-row : (w : List ℕ) (p : ℕ) → p < 8 → blockerAt (blockersOf w
 blocker-row w p h = rows-get blockerOf 11 8 p w nowhere h
 
 -- any words of a row, decoded
-pub blocker-put : (w : List ℕ) (p : ℕ) (b : List ℕ) → p < 8 → length w ≡ 88 → length b ≡ 11 → blockersOf (put 11 p w b) ≡ record { slots = set (blockersOf w .slots) p (blockerOf b) }
+pub blocker-put : (w : List ℕ) (p : ℕ) (b : List ℕ) → p < 8 → length w ≡ 88 → length b ≡ 11 → blockersOf (put 11 p w b)
+    ≡ record { slots = set (blockersOf w .slots) p (blockerOf b) }
 blocker-put w p b h l e = rw (rows-put blockerOf 11 8 p w b h (omega arith) e)
 
 pub blocker-part : (w : List ℕ) (p : ℕ) (x : Blocker) (b : List ℕ) → p < 8 → length w ≡ 88 → length b ≡ 11 → b ≡ blockerWords x
-    → blockersOf (take (p * 11) w ++ (b ++ drop (p * 11 + 11 - p * 11) (drop (p * 11) w))) ≡ record { slots = set (blockersOf w .slots) p x }
+    → blockersOf (take (p * 11) w ++ (b ++ drop (p * 11 + 11 - p * 11) (drop (p * 11) w)))
+    ≡ record { slots = set (blockersOf w .slots) p x }
 blocker-part w p x b h l n e = ap blockersOf (part-put 11 p w b) ∙ blocker-put w p b h l n ∙ rw (e, blocker-back x)
 
 -- the kind of slot p stands in word 11 p
@@ -183,7 +200,8 @@ unfolding blockerOf
 kind-word w p h = rw (blocker-row w p h, row-word 11 p w 0 (omega arith), add-zero)
 
 -- so whether one is entered
-pub entered-word : (w : List ℕ) (p : ℕ) (t : Bool) → p < 8 → t ≡ present (kindOf (getD w (p * 11) 0)) → t ≡ (ltb p 8 && isEntered (blockerAt (blockersOf w) p))
+pub entered-word : (w : List ℕ) (p : ℕ) (t : Bool) → p < 8 → t ≡ present (kindOf (getD w (p * 11) 0)) → t
+    ≡ (ltb p 8 && isEntered (blockerAt (blockersOf w) p))
 entered-word w p t h e = simp (lt-ltb p 8 h) (e ∙ sym (ap present (kind-word w p h)))
 
 -- whether it has noted slot q, in word 11 p + 3 + q
@@ -191,7 +209,8 @@ pub note-word : (w : List ℕ) (p q : ℕ) → p < 8 → q < 8 → hasNoted (blo
 unfolding blockerOf
 note-word w p q h g =
     let e : p * 11 + (3 + q) ≡ p * 11 + 3 + q = omega arith in
-    rw (blocker-row w p h) (List·getD-map flagOf (drop 3 (row 11 p w)) q 0 ∙ rw (getD-drop 3 (row 11 p w) q 0, row-word 11 p w (3 + q) (omega arith), e))
+    rw (blocker-row w p h) (List·getD-map flagOf (drop 3 (row 11 p w)) q 0
+    ∙ rw (getD-drop 3 (row 11 p w) q 0, row-word 11 p w (3 + q) (omega arith), e))
 
 cleared : (l : List ℕ) (i : ℕ) → map flagOf (set l i 0) ≡ set (map flagOf l) i false
 cleared [] i = refl
@@ -201,20 +220,36 @@ cleared (x ∷ l) (suc i) = rw (cleared l i)
 row-forgets : (r : List ℕ) (q : ℕ) → blockerOf (set r (3 + q) 0) ≡ forgetting q (blockerOf r)
 unfolding blockerOf forgetting
 row-forgets r q =
-    rw (getD-set-other r (3 + q) 0 0 0 (λ e. omega (arith, e)), getD-set-other r (3 + q) 1 0 0 (λ e. omega (arith, e)), getD-set-other r (3 + q) 2 0 0 (λ e. omega (arith, e)), drop-set-add 3 r q 0, cleared (drop 3 r) q)
+    rw (
+      getD-set-other r (3 + q) 0 0 0 (λ e. omega (arith, e)),
+      getD-set-other r (3 + q) 1 0 0 (λ e. omega (arith, e)),
+      getD-set-other r
+          (3 + q) 2 0 0 (λ e. omega (arith, e)),
+      drop-set-add 3 r q 0,
+      cleared (drop 3 r) q,
+    )
 
 -- with that word 0 the slot has forgotten q
-pub note-cleared : (w : List ℕ) (p q : ℕ) → p < 8 → q < 8 → length w ≡ 88 → blockersOf (set w (p * 11 + 3 + q) 0) ≡ record { slots = set (blockersOf w .slots) p (forgetting q (blockerAt (blockersOf w) p)) }
+pub note-cleared : (w : List ℕ) (p q : ℕ) → p < 8 → q < 8 → length w ≡ 88 → blockersOf (set w (p * 11 + 3 + q) 0)
+    ≡ record { slots = set (blockersOf w .slots) p (forgetting q (blockerAt (blockersOf w) p)) }
 note-cleared w p q h g l =
     let e : p * 11 + 3 + q ≡ p * 11 + (3 + q) = omega arith in
     let n : length (row 11 p w) ≡ 11 = row-length 11 p w (omega arith) in
-    rw (e, row-set 11 p w (3 + q) 0 (omega arith) (omega arith), blocker-put w p (set (row 11 p w) (3 + q) 0) h l (length-set (row 11 p w) (3 + q) 0 ∙ n), row-forgets (row 11 p w) q, blocker-row w p h)
+    rw (
+      e,
+      row-set 11 p w (3 + q) 0 (omega arith) (omega arith),
+      blocker-put w p (set (row 11 p w) (3 + q) 0) h l
+          (length-set (row 11 p w) (3 + q) 0 ∙ n),
+      row-forgets (row 11 p w) q,
+      blocker-row w p h,
+    )
 
 -- note i of a blocker, as it is written
 pub blocker-note : (b : Blocker) (i : ℕ) → flagWord (getD (b .noted) i false) ≡ getD (blockerWords b) (3 + i) 0
 blocker-note b i = let e : 3 + i ≡ suc (suc (suc i)) = omega arith in rw e (sym (List·getD-map flagWord (b .noted) i false))
 
 -- what slot i's note would be in one that enters
-pub note-at : (k : Kind) (r : Range) (w : List ℕ) (i : ℕ) → i < 8 → notes k r (blockerOf (row 11 i w)) ≡ getD (notesOf k r (blockersOf w)) i (notes k r nowhere)
+pub note-at : (k : Kind) (r : Range) (w : List ℕ) (i : ℕ) → i < 8 → notes k r (blockerOf (row 11 i w))
+    ≡ getD (notesOf k r (blockersOf w)) i (notes k r nowhere)
 unfolding notesOf
 note-at k r w i h = sym (List·getD-map (notes k r) (blockersOf w .slots) i nowhere ∙ ap (notes k r) (blocker-row w i h))

@@ -1,4 +1,5 @@
--- Words that stand in n rows of k words each, every row read by a decoder: what row i is, and what a row put in its place changes. Assumes nothing.
+-- Words that stand in n rows of k words each, every row read by a decoder: what row i is, and what a row put in its place changes. Assumes
+-- nothing.
 use Prim.Native.Nat.{ℕ, zero, suc, _+_, _-_, _*_, _≤_, _<_}
 use native.Mathlib.Nat.{suc-mul, zero-mul, add-comm}
 use native.Mathlib.Omega.{arith}
@@ -70,7 +71,8 @@ module _ {A : Type 0} (dec : List ℕ → A) (k : ℕ) where
   put-later i w b = rw (swap i, take-add k (i * k) w, ← drop-drop (i * k) k w, append-assoc)
 
   -- a row put in its place is that row, and the others stay
-  pub rows-put : (n i : ℕ) (w b : List ℕ) → i < n → n * k ≤ length w → length b ≡ k → rows dec k n (put k i w b) ≡ set (rows dec k n w) i (dec b)
+  pub rows-put : (n i : ℕ) (w b : List ℕ) → i < n → n * k ≤ length w → length b ≡ k → rows dec k n (put k i w b)
+      ≡ set (rows dec k n w) i (dec b)
   unfolding rows
   rows-put zero i w b h l e = absurd (omega arith)
   rows-put (suc n) zero w b h l e = rw (put-first w b, take-at b (drop k w) k e, drop-at b (drop k w) k e)
@@ -78,12 +80,25 @@ module _ {A : Type 0} (dec : List ℕ → A) (k : ℕ) where
       let m : n * k + k ≤ length w = rw (suc-mul n k) at l in
       let t : length (take k w) ≡ k = length-take-le k w (omega arith) in
       let q = put k i (drop k w) b in
-      rw (put-later i w b, take-at (take k w) q k t, drop-at (take k w) q k t, rows-put n i (drop k w) b (omega arith) (rw length-drop (omega arith)) e)
+      rw (
+        put-later i w b,
+        take-at (take k w) q k t,
+        drop-at (take k w) q k t,
+        rows-put n i (drop k w) b (omega arith)
+            (rw length-drop (omega arith)) e,
+      )
 
 -- where all words are 0, all rows are the same
 pub rows-same : {A : Type 0} (dec : List ℕ → A) (k n : ℕ) → rows dec k n (replicate (n * k) 0) ≡ replicate n (dec (replicate k 0))
 unfolding rows
 rows-same dec k zero = refl
 rows-same dec k (suc n) =
-    let e : replicate {A = ℕ} (suc n * k) 0 ≡ replicate {A = ℕ} k 0 ++ replicate {A = ℕ} (n * k) 0 = ap (λ (m : ℕ). replicate {A = ℕ} m 0) (suc-mul n k ∙ add-comm (n * k) k) ∙ sym (replicate-append-replicate {A = ℕ} k (n * k) 0) in
-    rw (e, take-at (replicate {A = ℕ} k 0) (replicate {A = ℕ} (n * k) 0) k (length-replicate {A = ℕ} k 0), drop-at (replicate {A = ℕ} k 0) (replicate {A = ℕ} (n * k) 0) k (length-replicate {A = ℕ} k 0), rows-same dec k n)
+    let e : replicate {A = ℕ} (suc n * k) 0 ≡ replicate {A = ℕ} k 0 ++ replicate {A = ℕ} (n * k) 0 =
+    ap (λ (m : ℕ). replicate {A = ℕ} m 0) (suc-mul n k ∙ add-comm (n * k) k) ∙ sym (replicate-append-replicate {A = ℕ} k (n * k) 0) in
+    rw (
+      e,
+      take-at (replicate {A = ℕ} k 0) (replicate {A = ℕ} (n * k) 0) k (length-replicate {A = ℕ} k 0),
+      drop-at (replicate {A = ℕ} k 0)
+          (replicate {A = ℕ} (n * k) 0) k (length-replicate {A = ℕ} k 0),
+      rows-same dec k n,
+    )

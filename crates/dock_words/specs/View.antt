@@ -18,7 +18,8 @@ use Rattle.blockers.specs.declared.Kind.the-variants.{Absent, Weak, Strong}
 use Rattle.blockers.specs.declared.Blocker.{Blocker}
 use Rattle.blockers.specs.declared.Blockers.{Blockers}
 use Rattle.stages.specs.declared.state.Phase.{Phase}
-use Rattle.stages.specs.declared.state.Phase.the-variants.{Free, Ended, DirectRead, BouncedRead, FirstRead, SecondRead, BouncedWrite, DirectWrite, ZeroRequest, DiscardRequest}
+use Rattle.stages.specs.declared.state.Phase.the-variants.{Free, Ended, DirectRead, BouncedRead, FirstRead, SecondRead, BouncedWrite}
+use Rattle.stages.specs.declared.state.Phase.the-variants.{DirectWrite, ZeroRequest, DiscardRequest}
 use Rattle.stages.specs.declared.state.Job.{Job}
 use Rattle.stages.specs.declared.state.Job.the-variants.{Read, Write, Zeroes, AllocatedZeroes, Discard}
 use Rattle.stages.specs.declared.state.Course.{Course}
@@ -98,10 +99,16 @@ rangeWords r = r .start .0 ∷ r .end .0 ∷ []
 -- ---- settings and buffers: 9 words. Alignments, bounce buffer length; address and length of the data, then of the scratch
 
 abbrev pub settingsOf : List ℕ → Settings
-settingsOf w = record { align = record { mem = getD w 0 0; req = getD w 1 0; zero = getD w 2 0; discard = getD w 3 0 }; bounce = getD w 4 0 }
+settingsOf w = record {
+  align = record { mem = getD w 0 0; req = getD w 1 0; zero = getD w 2 0; discard = getD w 3 0 };
+  bounce = getD w 4 0;
+}
 
 abbrev pub buffersOf : List ℕ → Buffers
-buffersOf w = record { «data» = record { address = getD w 5 0; length = getD w 6 0 }; scratch = record { address = getD w 7 0; length = getD w 8 0 } }
+buffersOf w = record {
+  «data» = record { address = getD w 5 0; length = getD w 6 0 };
+  scratch = record { address = getD w 7 0; length = getD w 8 0 };
+}
 
 abbrev pub settingsWords : Settings → Buffers → List ℕ
 settingsWords s b =
@@ -123,7 +130,8 @@ stageOf w =
     }
 
 abbrev pub stageWords : Stage → List ℕ
-stageWords g = rangeWords (g .asked) ++ rangeWords (g .request) ++ rangeWords (g .first) ++ rangeWords (g .second) ++ g .head .0 ∷ flagWord (g .strong) ∷ []
+stageWords g = rangeWords (g .asked) ++ rangeWords (g .request) ++ rangeWords (g .first) ++ rangeWords (g .second) ++ g .head .0 ∷ flagWord
+    (g .strong) ∷ []
 
 unfoldable pub stateOf : List ℕ → State
 stateOf w =
@@ -138,7 +146,8 @@ stateOf w =
     }
 
 abbrev pub stateWords : State → List ℕ
-stateWords x = phaseTag (x .phase) ∷ x .answer ∷ jobTag (x .job) ∷ courseTag (x .course) ∷ rangeWords (x .range) ++ rangeWords (x .middle) ++ stageWords (x .stage)
+stateWords x = phaseTag (x .phase) ∷ x .answer ∷ jobTag (x .job) ∷ courseTag (x .course) ∷ rangeWords (x .range) ++ rangeWords
+    (x .middle) ++ stageWords (x .stage)
 
 -- ---- a blocker: 11 words. Kind, range, the 8 notes
 

@@ -80,8 +80,13 @@ pub fn begin(
     data: &[u8],
     scratch: &mut [u8],
 ) -> Begun
-    ensures dock { λ r. ⌜ begins (record { answer = r; dock = dockOf (now (settings .entry)) (now (blockers .exit)) (now (states .exit)) (now (vectors .exit)) }) (now (scratch .exit))
-        ≡ beginOf (dockOf (now (settings .entry)) (now (blockers .entry)) (now (states .entry)) (now (vectors .entry))) asked (now («data» .entry)) (now (scratch .entry)) ⌝ }
+    ensures dock { λ r. ⌜ begins (record {
+      answer = r;
+      dock = dockOf (now (settings .entry)) (now (blockers .exit)) (now (states .exit))
+          (now (vectors .exit));
+    }) (now (scratch .exit))
+        ≡ beginOf (dockOf (now (settings .entry)) (now (blockers .entry)) (now (states .entry)) (now (vectors .entry))) asked
+        (now («data» .entry)) (now (scratch .entry)) ⌝ }
     ensures words { λ r. ⌜ sameThree (isPlaced r) (now (blockers .entry)) (now (states .entry)) (now (vectors .entry))
         (now (blockers .exit)) (now (states .exit)) (now (vectors .exit)) ⌝ }
 {
@@ -98,7 +103,8 @@ pub fn next(
     data_len: usize,
     scratch_len: usize,
 ) -> Due
-    ensures { λ r. ⌜ r ≡ nextOf (dockOf (now (settings .entry)) (now (blockers .entry)) (now (states .entry)) (now (vectors .entry))) slot data_len «scratch_len» ⌝ }
+    ensures { λ r. ⌜ r ≡ nextOf (dockOf (now (settings .entry)) (now (blockers .entry)) (now (states .entry)) (now (vectors .entry))) slot
+        data_len «scratch_len» ⌝ }
 {
     crate::calls::next(
         settings,
@@ -122,7 +128,8 @@ pub fn piece(
     data_len: usize,
     scratch_len: usize,
 ) -> Piece
-    ensures { λ r. ⌜ r ≡ pieceOf (dockOf (now (settings .entry)) (now (blockers .entry)) (now (states .entry)) (now (vectors .entry))) slot i data_len «scratch_len» ⌝ }
+    ensures { λ r. ⌜ r ≡ pieceOf (dockOf (now (settings .entry)) (now (blockers .entry)) (now (states .entry)) (now (vectors .entry))) slot
+        i data_len «scratch_len» ⌝ }
 {
     crate::calls::piece(
         settings,
@@ -147,8 +154,13 @@ pub fn tell(
     data: &mut [u8],
     scratch: &mut [u8],
 ) -> Outcome
-    ensures dock { λ r. ⌜ tells (record { outcome = r; dock = dockOf (now (settings .entry)) (now (blockers .exit)) (now (states .exit)) (now (vectors .entry)) }) (now («data» .exit)) (now (scratch .exit))
-        ≡ tellOf (dockOf (now (settings .entry)) (now (blockers .entry)) (now (states .entry)) (now (vectors .entry))) slot code (now («data» .entry)) (now (scratch .entry)) ⌝ }
+    ensures dock { λ r. ⌜ tells (record {
+      outcome = r;
+      dock = dockOf (now (settings .entry)) (now (blockers .exit)) (now (states .exit))
+          (now (vectors .entry));
+    }) (now («data» .exit)) (now (scratch .exit))
+        ≡ tellOf (dockOf (now (settings .entry)) (now (blockers .entry)) (now (states .entry)) (now (vectors .entry))) slot code
+        (now («data» .entry)) (now (scratch .entry)) ⌝ }
     ensures words { λ r. ⌜ sameTwo (isDone r) (now (blockers .entry)) (now (states .entry)) (now (blockers .exit)) (now (states .exit)) ⌝ }
 {
     crate::calls::tell(
@@ -173,8 +185,11 @@ pub fn collect(
     data_len: usize,
     scratch_len: usize,
 ) -> Collected
-    ensures dock { λ r. ⌜ (r ≡ collectOf (dockOf (now (settings .entry)) (now (blockers .entry)) (now (states .entry)) (now (vectors .entry))) slot data_len «scratch_len» .answer)
-        × (dockOf (now (settings .entry)) (now (blockers .entry)) (now (states .exit)) (now (vectors .exit)) ≡ collectOf (dockOf (now (settings .entry)) (now (blockers .entry)) (now (states .entry)) (now (vectors .entry))) slot data_len «scratch_len» .dock) ⌝ }
+    ensures dock { λ r. ⌜ (r ≡ collectOf (dockOf (now (settings .entry)) (now (blockers .entry)) (now (states .entry))
+        (now (vectors .entry))) slot data_len «scratch_len» .answer)
+        × (dockOf (now (settings .entry)) (now (blockers .entry)) (now (states .exit)) (now (vectors .exit))
+        ≡ collectOf (dockOf (now (settings .entry)) (now (blockers .entry)) (now (states .entry)) (now (vectors .entry))) slot data_len
+        «scratch_len» .dock) ⌝ }
     ensures words { λ r. ⌜ sameTwo (isFinal r) (now (states .entry)) (now (vectors .entry)) (now (states .exit)) (now (vectors .exit)) ⌝ }
 {
     crate::calls::collect(

@@ -73,9 +73,12 @@ fn seat(
     data: &[u8],
     scratch: &mut [u8],
 ) -> Begun
-    requires { ⌜ (length (now blockers) ≡ 88) × (length (now states) ≡ 144) × (length (now vectors) ≡ 272) × (slot < 8) × (isSoundAt slot x settings buffers (length (now scratch)) ≡ true) ⌝ }
+    requires { ⌜ (length (now blockers) ≡ 88) × (length (now states) ≡ 144) × (length (now vectors) ≡ 272) × (slot < 8)
+        × (isSoundAt slot x settings buffers (length (now scratch)) ≡ true) ⌝ }
     ensures dock { λ r. ⌜ seats r (now (blockers .exit)) (now (states .exit)) (now (vectors .exit)) (now (scratch .exit))
-        ≡ placedIn (blockersOf (now (blockers .entry))) (statesOf (now (states .entry))) (vectorsOf (now (vectors .entry))) v (admitAt (blockersOf (now (blockers .entry))) slot (settings .bounce) v (now («data» .entry)) (now (scratch .entry)) (Started x)) ⌝ }
+        ≡ placedIn (blockersOf (now (blockers .entry))) (statesOf (now (states .entry))) (vectorsOf (now (vectors .entry))) v
+        (admitAt (blockersOf (now (blockers .entry))) slot (settings .bounce) v (now («data» .entry)) (now (scratch .entry))
+        (Started x)) ⌝ }
     ensures words { λ r. ⌜ sameThree (isPlaced r) (now (blockers .entry)) (now (states .entry)) (now (vectors .entry))
         (now (blockers .exit)) (now (states .exit)) (now (vectors .exit)) ⌝ }
 {
@@ -105,9 +108,11 @@ pub(crate) fn admit(
     data: &[u8],
     scratch: &mut [u8],
 ) -> Begun
-    requires { ⌜ (length (now blockers) ≡ 88) × (length (now states) ≡ 144) × (length (now vectors) ≡ 272) × PlanSound slot settings buffers (length (now scratch)) plan ⌝ }
+    requires { ⌜ (length (now blockers) ≡ 88) × (length (now states) ≡ 144) × (length (now vectors) ≡ 272)
+        × PlanSound slot settings buffers (length (now scratch)) plan ⌝ }
     ensures dock { λ r. ⌜ seats r (now (blockers .exit)) (now (states .exit)) (now (vectors .exit)) (now (scratch .exit))
-        ≡ placedIn (blockersOf (now (blockers .entry))) (statesOf (now (states .entry))) (vectorsOf (now (vectors .entry))) v (admitAt (blockersOf (now (blockers .entry))) slot (settings .bounce) v (now («data» .entry)) (now (scratch .entry)) plan) ⌝ }
+        ≡ placedIn (blockersOf (now (blockers .entry))) (statesOf (now (states .entry))) (vectorsOf (now (vectors .entry))) v
+        (admitAt (blockersOf (now (blockers .entry))) slot (settings .bounce) v (now («data» .entry)) (now (scratch .entry)) plan) ⌝ }
     ensures words { λ r. ⌜ sameThree (isPlaced r) (now (blockers .entry)) (now (states .entry)) (now (vectors .entry))
         (now (blockers .exit)) (now (states .exit)) (now (vectors .exit)) ⌝ }
 {

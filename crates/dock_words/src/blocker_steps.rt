@@ -91,7 +91,8 @@ pub(crate) fn may_change(blockers: &[u64], slot: usize, x: State, y: State) -> b
 // It leaves, then enters.
 pub(crate) fn change_blocker(blockers: &mut [u64], slot: usize, x: State, y: State)
     requires { ⌜ length (now blockers) ≡ 88 ⌝ }
-    ensures { λ t. ⌜ blockersOf (now (blockers .exit)) ≡ blockersWith (blockersWithout (blockersOf (now (blockers .entry))) slot x .blockers) slot y .blockers ⌝ }
+    ensures { λ t. ⌜ blockersOf (now (blockers .exit)) ≡ blockersWith
+        (blockersWithout (blockersOf (now (blockers .entry))) slot x .blockers) slot y .blockers ⌝ }
 {
     let left = without_blocker(blockers, slot, x);
     let entered = with_blocker(blockers, slot, y);

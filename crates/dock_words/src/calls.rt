@@ -122,8 +122,13 @@ pub(crate) fn begin(
     scratch: &mut [u8],
 ) -> Begun
     requires { ⌜ DockWords (now settings) (now blockers) (now states) (now vectors) ⌝ }
-    ensures dock { λ r. ⌜ begins (record { answer = r; dock = dockOf (now (settings .entry)) (now (blockers .exit)) (now (states .exit)) (now (vectors .exit)) }) (now (scratch .exit))
-        ≡ beginOf (dockOf (now (settings .entry)) (now (blockers .entry)) (now (states .entry)) (now (vectors .entry))) asked (now («data» .entry)) (now (scratch .entry)) ⌝ }
+    ensures dock { λ r. ⌜ begins (record {
+      answer = r;
+      dock = dockOf (now (settings .entry)) (now (blockers .exit)) (now (states .exit))
+          (now (vectors .exit));
+    }) (now (scratch .exit))
+        ≡ beginOf (dockOf (now (settings .entry)) (now (blockers .entry)) (now (states .entry)) (now (vectors .entry))) asked
+        (now («data» .entry)) (now (scratch .entry)) ⌝ }
     ensures words { λ r. ⌜ sameThree (isPlaced r) (now (blockers .entry)) (now (states .entry)) (now (vectors .entry))
         (now (blockers .exit)) (now (states .exit)) (now (vectors .exit)) ⌝ }
 {
@@ -161,7 +166,8 @@ pub(crate) fn next(
     scratch_len: usize,
 ) -> Due
     requires { ⌜ DockWords (now settings) (now blockers) (now states) (now vectors) ⌝ }
-    ensures { λ r. ⌜ r ≡ nextOf (dockOf (now (settings .entry)) (now (blockers .entry)) (now (states .entry)) (now (vectors .entry))) slot data_len «scratch_len» ⌝ }
+    ensures { λ r. ⌜ r ≡ nextOf (dockOf (now (settings .entry)) (now (blockers .entry)) (now (states .entry)) (now (vectors .entry))) slot
+        data_len «scratch_len» ⌝ }
 {
     let lent = get_buffers(settings);
     if !lent_fits(lent, data_len, scratch_len) {
@@ -188,7 +194,8 @@ pub(crate) fn piece(
     scratch_len: usize,
 ) -> Piece
     requires { ⌜ DockWords (now settings) (now blockers) (now states) (now vectors) ⌝ }
-    ensures { λ r. ⌜ r ≡ pieceOf (dockOf (now (settings .entry)) (now (blockers .entry)) (now (states .entry)) (now (vectors .entry))) slot i data_len «scratch_len» ⌝ }
+    ensures { λ r. ⌜ r ≡ pieceOf (dockOf (now (settings .entry)) (now (blockers .entry)) (now (states .entry)) (now (vectors .entry))) slot
+        i data_len «scratch_len» ⌝ }
 {
     let lent = get_buffers(settings);
     if !lent_fits(lent, data_len, scratch_len) {
@@ -218,8 +225,13 @@ pub(crate) fn tell(
     scratch: &mut [u8],
 ) -> Outcome
     requires { ⌜ DockWords (now settings) (now blockers) (now states) (now vectors) ⌝ }
-    ensures dock { λ r. ⌜ tells (record { outcome = r; dock = dockOf (now (settings .entry)) (now (blockers .exit)) (now (states .exit)) (now (vectors .entry)) }) (now («data» .exit)) (now (scratch .exit))
-        ≡ tellOf (dockOf (now (settings .entry)) (now (blockers .entry)) (now (states .entry)) (now (vectors .entry))) slot code (now («data» .entry)) (now (scratch .entry)) ⌝ }
+    ensures dock { λ r. ⌜ tells (record {
+      outcome = r;
+      dock = dockOf (now (settings .entry)) (now (blockers .exit)) (now (states .exit))
+          (now (vectors .entry));
+    }) (now («data» .exit)) (now (scratch .exit))
+        ≡ tellOf (dockOf (now (settings .entry)) (now (blockers .entry)) (now (states .entry)) (now (vectors .entry))) slot code
+        (now («data» .entry)) (now (scratch .entry)) ⌝ }
     ensures words { λ r. ⌜ sameTwo (isDone r) (now (blockers .entry)) (now (states .entry)) (now (blockers .exit)) (now (states .exit)) ⌝ }
 {
     let b = get_buffers(settings);
@@ -256,8 +268,11 @@ pub(crate) fn collect(
     scratch_len: usize,
 ) -> Collected
     requires { ⌜ (length (now settings) ≡ 9) × (length (now states) ≡ 144) × (length (now vectors) ≡ 272) ⌝ }
-    ensures dock { λ r. ⌜ (r ≡ collectOf (dockOf (now (settings .entry)) (now (blockers .entry)) (now (states .entry)) (now (vectors .entry))) slot data_len «scratch_len» .answer)
-        × (dockOf (now (settings .entry)) (now (blockers .entry)) (now (states .exit)) (now (vectors .exit)) ≡ collectOf (dockOf (now (settings .entry)) (now (blockers .entry)) (now (states .entry)) (now (vectors .entry))) slot data_len «scratch_len» .dock) ⌝ }
+    ensures dock { λ r. ⌜ (r ≡ collectOf (dockOf (now (settings .entry)) (now (blockers .entry)) (now (states .entry))
+        (now (vectors .entry))) slot data_len «scratch_len» .answer)
+        × (dockOf (now (settings .entry)) (now (blockers .entry)) (now (states .exit)) (now (vectors .exit))
+        ≡ collectOf (dockOf (now (settings .entry)) (now (blockers .entry)) (now (states .entry)) (now (vectors .entry))) slot data_len
+        «scratch_len» .dock) ⌝ }
     ensures words { λ r. ⌜ sameTwo (isFinal r) (now (states .entry)) (now (vectors .entry)) (now (states .exit)) (now (vectors .exit)) ⌝ }
 {
     let lent = get_buffers(settings);

@@ -60,7 +60,8 @@ fn fill(
     scratch: &mut [u8],
 ) -> Outcome
     requires { ⌜ (length (now vectors) ≡ 272) × (slot < 8) ⌝ }
-    ensures { λ r. ⌜ fills r (now (scratch .exit)) ≡ filledShare slot settings buffers x (getD (vectorsOf (now (vectors .entry))) slot noVector) (now («data» .entry)) (now (scratch .entry)) ⌝ }
+    ensures { λ r. ⌜ fills r (now (scratch .exit)) ≡ filledShare slot settings buffers x
+        (getD (vectorsOf (now (vectors .entry))) slot noVector) (now («data» .entry)) (now (scratch .entry)) ⌝ }
 {
     let phase = x.phase;
     if !is_bounced_write(phase) {
@@ -82,7 +83,8 @@ fn hand_out(
     scratch: &[u8],
 ) -> Outcome
     requires { ⌜ (length (now vectors) ≡ 272) × (slot < 8) ⌝ }
-    ensures { λ r. ⌜ hands r (now («data» .exit)) ≡ handedShare slot settings buffers x code (getD (vectorsOf (now (vectors .entry))) slot noVector) (now («data» .entry)) (now (scratch .entry)) ⌝ }
+    ensures { λ r. ⌜ hands r (now («data» .exit)) ≡ handedShare slot settings buffers x code
+        (getD (vectorsOf (now (vectors .entry))) slot noVector) (now («data» .entry)) (now (scratch .entry)) ⌝ }
 {
     let phase = x.phase;
     if !is_bounced_read(phase) {
@@ -104,9 +106,12 @@ fn stays(
     data: &[u8],
     scratch: &mut [u8],
 ) -> Outcome
-    requires { ⌜ (length (now states) ≡ 144) × (length (now vectors) ≡ 272) × (slot < 8) × (isSoundAt slot y settings buffers (length (now scratch)) ≡ true) ⌝ }
+    requires { ⌜ (length (now states) ≡ 144) × (length (now vectors) ≡ 272) × (slot < 8)
+        × (isSoundAt slot y settings buffers (length (now scratch)) ≡ true) ⌝ }
     ensures dock { λ r. ⌜ keeps r (now (blockers .entry)) (now (states .exit)) (now («data» .entry)) (now (scratch .exit))
-        ≡ kept (blockersOf (now (blockers .entry))) (statesOf (now (states .entry))) slot (staysAt (blockersOf (now (blockers .entry))) (slot * settings .bounce) y (getD (vectorsOf (now (vectors .entry))) slot noVector) (now («data» .entry)) (now (scratch .entry))) ⌝ }
+        ≡ kept (blockersOf (now (blockers .entry))) (statesOf (now (states .entry))) slot
+        (staysAt (blockersOf (now (blockers .entry))) (slot * settings .bounce) y
+        (getD (vectorsOf (now (vectors .entry))) slot noVector) (now («data» .entry)) (now (scratch .entry))) ⌝ }
     ensures words { λ r. ⌜ sameUnless (isDone r) (now (states .entry)) (now (states .exit)) ⌝ }
 {
     let outcome = fill(vectors, slot, settings, buffers, y, data, scratch);
@@ -131,9 +136,12 @@ fn ends(
     data: &mut [u8],
     scratch: &[u8],
 ) -> Outcome
-    requires { ⌜ (length (now blockers) ≡ 88) × (length (now states) ≡ 144) × (length (now vectors) ≡ 272) × (slot < 8) × (isSoundAt slot x settings buffers (length (now scratch)) ≡ true) ⌝ }
+    requires { ⌜ (length (now blockers) ≡ 88) × (length (now states) ≡ 144) × (length (now vectors) ≡ 272) × (slot < 8)
+        × (isSoundAt slot x settings buffers (length (now scratch)) ≡ true) ⌝ }
     ensures dock { λ r. ⌜ keeps r (now (blockers .exit)) (now (states .exit)) (now («data» .exit)) (now (scratch .entry))
-        ≡ kept (blockersOf (now (blockers .entry))) (statesOf (now (states .entry))) slot (endsAt (blockersOf (now (blockers .entry))) slot (slot * settings .bounce) x code y (getD (vectorsOf (now (vectors .entry))) slot noVector) (now («data» .entry)) (now (scratch .entry))) ⌝ }
+        ≡ kept (blockersOf (now (blockers .entry))) (statesOf (now (states .entry))) slot
+        (endsAt (blockersOf (now (blockers .entry))) slot (slot * settings .bounce) x code y
+        (getD (vectorsOf (now (vectors .entry))) slot noVector) (now («data» .entry)) (now (scratch .entry))) ⌝ }
     ensures words { λ r. ⌜ sameTwo (isDone r) (now (blockers .entry)) (now (states .entry)) (now (blockers .exit)) (now (states .exit)) ⌝ }
 {
     if !may_leave(blockers, slot, x) {
@@ -161,9 +169,12 @@ fn enters(
     data: &[u8],
     scratch: &mut [u8],
 ) -> Outcome
-    requires { ⌜ (length (now blockers) ≡ 88) × (length (now states) ≡ 144) × (length (now vectors) ≡ 272) × (slot < 8) × (isSoundAt slot y settings buffers (length (now scratch)) ≡ true) ⌝ }
+    requires { ⌜ (length (now blockers) ≡ 88) × (length (now states) ≡ 144) × (length (now vectors) ≡ 272) × (slot < 8)
+        × (isSoundAt slot y settings buffers (length (now scratch)) ≡ true) ⌝ }
     ensures dock { λ r. ⌜ keeps r (now (blockers .exit)) (now (states .exit)) (now («data» .entry)) (now (scratch .exit))
-        ≡ kept (blockersOf (now (blockers .entry))) (statesOf (now (states .entry))) slot (entersAt (blockersOf (now (blockers .entry))) slot (slot * settings .bounce) x y (getD (vectorsOf (now (vectors .entry))) slot noVector) (now («data» .entry)) (now (scratch .entry))) ⌝ }
+        ≡ kept (blockersOf (now (blockers .entry))) (statesOf (now (states .entry))) slot
+        (entersAt (blockersOf (now (blockers .entry))) slot (slot * settings .bounce) x y
+        (getD (vectorsOf (now (vectors .entry))) slot noVector) (now («data» .entry)) (now (scratch .entry))) ⌝ }
     ensures words { λ r. ⌜ sameTwo (isDone r) (now (blockers .entry)) (now (states .entry)) (now (blockers .exit)) (now (states .exit)) ⌝ }
 {
     if !may_change(blockers, slot, x, y) {
@@ -192,9 +203,12 @@ fn step(
     data: &mut [u8],
     scratch: &mut [u8],
 ) -> Outcome
-    requires { ⌜ (length (now b) ≡ 88) × (length (now xs) ≡ 144) × (length (now vs) ≡ 272) × (slot < 8) × StepSound slot s l x (length (now scratch)) step ⌝ }
+    requires { ⌜ (length (now b) ≡ 88) × (length (now xs) ≡ 144) × (length (now vs) ≡ 272) × (slot < 8)
+        × StepSound slot s l x (length (now scratch)) step ⌝ }
     ensures dock { λ r. ⌜ keeps r (now (b .exit)) (now (xs .exit)) (now («data» .exit)) (now (scratch .exit))
-        ≡ kept (blockersOf (now (b .entry))) (statesOf (now (xs .entry))) slot (steppedAt (blockersOf (now (b .entry))) slot (slot * s .bounce) x code (getD (vectorsOf (now (vs .entry))) slot noVector) (now («data» .entry)) (now (scratch .entry)) step) ⌝ }
+        ≡ kept (blockersOf (now (b .entry))) (statesOf (now (xs .entry))) slot
+        (steppedAt (blockersOf (now (b .entry))) slot (slot * s .bounce) x code (getD (vectorsOf (now (vs .entry))) slot noVector)
+        (now («data» .entry)) (now (scratch .entry)) step) ⌝ }
     ensures words { λ r. ⌜ sameTwo (isDone r) (now (b .entry)) (now (xs .entry)) (now (b .exit)) (now (xs .exit)) ⌝ }
 {
     match step {
@@ -217,9 +231,12 @@ pub(crate) fn told_at(
     data: &mut [u8],
     scratch: &mut [u8],
 ) -> Outcome
-    requires { ⌜ (length (now b) ≡ 88) × (length (now xs) ≡ 144) × (length (now vs) ≡ 272) × (slot < 8) × (lentFits l (length (now «data»)) (length (now scratch)) ≡ true) ⌝ }
+    requires { ⌜ (length (now b) ≡ 88) × (length (now xs) ≡ 144) × (length (now vs) ≡ 272) × (slot < 8)
+        × (lentFits l (length (now «data»)) (length (now scratch)) ≡ true) ⌝ }
     ensures dock { λ r. ⌜ keeps r (now (b .exit)) (now (xs .exit)) (now («data» .exit)) (now (scratch .exit))
-        ≡ kept (blockersOf (now (b .entry))) (statesOf (now (xs .entry))) slot (toldAt (blockersOf (now (b .entry))) slot s l x (getD (vectorsOf (now (vs .entry))) slot noVector) code (now («data» .entry)) (now (scratch .entry))) ⌝ }
+        ≡ kept (blockersOf (now (b .entry))) (statesOf (now (xs .entry))) slot
+        (toldAt (blockersOf (now (b .entry))) slot s l x (getD (vectorsOf (now (vs .entry))) slot noVector) code (now («data» .entry))
+        (now (scratch .entry))) ⌝ }
     ensures words { λ r. ⌜ sameTwo (isDone r) (now (b .entry)) (now (xs .entry)) (now (b .exit)) (now (xs .exit)) ⌝ }
 {
     if !is_out(b, x, slot) {

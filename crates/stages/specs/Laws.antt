@@ -1,4 +1,5 @@
--- Laws of stages: a stage that a job begins with or enters is sound, pending and on the store, and keeps the job and its range; a told code keeps what it must; reads never enter a stage; a zero job never meets 206. Assumes nothing.
+-- Laws of stages: a stage that a job begins with or enters is sound, pending and on the store, and keeps the job and its range; a told code
+-- keeps what it must; reads never enter a stage; a zero job never meets 206. Assumes nothing.
 use mathlib.Core.Path.{_≡_, refl, sym, ap, subst, _∙_}
 use mathlib.Core.Bool.{Bool, true, false, _||_, not}
 use mathlib.Core.Logic.{_⊎_, inl, inr, ⊎-elim}
@@ -25,20 +26,26 @@ use Rattle.arithmetic.specs.declared.settings.Alignments.{Alignments}
 use Rattle.arithmetic.specs.declared.settings.Settings.{Settings}
 use Rattle.arithmetic.specs.declared.padding.Span.{Span}
 use Rattle.arithmetic.specs.declared.padding.Padding.the-variants.{Padded, Refused as NoPadding}
-use Rattle.arithmetic.specs.declared.padding.Reads.the-variants.{Nothing as NoReads, Whole as ReadWhole, Head as ReadHead, Tail as ReadTail, HeadThenTail}
+use Rattle.arithmetic.specs.declared.padding.Reads.the-variants.{Nothing as NoReads, Whole as ReadWhole, Head as ReadHead, Tail as ReadTail}
+use Rattle.arithmetic.specs.declared.padding.Reads.the-variants.{HeadThenTail}
 use Rattle.arithmetic.specs.declared.padding.Transfer.{Transfer}
 use Rattle.arithmetic.specs.declared.padding.Transfer.the-variants.{Direct, Bounced, Refused as NoTransfer}
 use Rattle.arithmetic.specs.declared.zeroes.ZeroCut.{ZeroCut}
 use Rattle.arithmetic.specs.declared.zeroes.ZeroCut.the-variants.{Nothing as NoCut, Whole, Split, Refused as CutRefused}
 use Rattle.arithmetic.specs.declared.zeroes.DiscardCut.{DiscardCut}
-use Rattle.arithmetic.specs.declared.zeroes.DiscardCut.the-variants.{Nothing as NoDiscard, Middle as DiscardMiddle, Refused as DiscardRefused}
+use Rattle.arithmetic.specs.declared.zeroes.DiscardCut.the-variants.{Nothing as NoDiscard, Middle as DiscardMiddle}
+use Rattle.arithmetic.specs.declared.zeroes.DiscardCut.the-variants.{Refused as DiscardRefused}
 use Rattle.arithmetic.specs.declared.zeroes.Chunk.the-variants.{Nothing as NoChunk, Next, Refused as ChunkRefused}
-use Rattle.stages.specs.Stages.{sizeOf, directStage, firstOf, secondOf, paddedStage, firstPhase, stateOf, asked, bouncedPhase, vectorBy, vectorPlan, readPlan, writePlan, zeroesBy, zeroesPlan, zeroBy, zeroJob, zeroPlan, discardBy, discardPlan, inPhase, endedWith, laterStage, zeroesNext, chunkBy, chunkNext, tailNext, headNext, stageDone, doneNext, unsupportedNext, toldOf, isPending, usesBounce, secondAt, liesIn, isSound}
+use Rattle.stages.specs.Stages.{sizeOf, directStage, firstOf, secondOf, paddedStage, firstPhase, stateOf, asked, bouncedPhase}
+use Rattle.stages.specs.Stages.{vectorBy, vectorPlan, readPlan, writePlan, zeroesBy, zeroesPlan, zeroBy, zeroJob, zeroPlan, discardBy}
+use Rattle.stages.specs.Stages.{discardPlan, inPhase, endedWith, laterStage, zeroesNext, chunkBy, chunkNext, tailNext, headNext}
+use Rattle.stages.specs.Stages.{stageDone, doneNext, unsupportedNext, toldOf, isPending, usesBounce, secondAt, liesIn, isSound}
 use Rattle.stages.specs.Transfers.{splits, wholes, discards}
 use Rattle.stages.specs.declared.state.Job.{Job}
 use Rattle.stages.specs.declared.state.Job.the-variants.{Read, Write, Zeroes, AllocatedZeroes, Discard}
 use Rattle.stages.specs.declared.state.Phase.{Phase}
-use Rattle.stages.specs.declared.state.Phase.the-variants.{Free, Ended, DirectRead, BouncedRead, FirstRead, SecondRead, BouncedWrite, DirectWrite, ZeroRequest, DiscardRequest}
+use Rattle.stages.specs.declared.state.Phase.the-variants.{Free, Ended, DirectRead, BouncedRead, FirstRead, SecondRead, BouncedWrite}
+use Rattle.stages.specs.declared.state.Phase.the-variants.{DirectWrite, ZeroRequest, DiscardRequest}
 use Rattle.stages.specs.declared.state.Course.{Course}
 use Rattle.stages.specs.declared.state.Course.the-variants.{Last, Middle, Head, Chunks}
 use Rattle.stages.specs.declared.state.Stage.{Stage}
@@ -88,23 +95,61 @@ record Reading (s : Span) (f g : Range) : Type 0 where
   second-ends : 0 < sizeOf g → g .end .0 ≡ s .end .0
   second-short : g .start .0 - s .start .0 + sizeOf g ≤ s .length
 
-reading : (s : Span) → s .end .0 ≡ s .start .0 + s .length → s .prefix ≤ s .length → s .suffix ≤ s .length → Reading s (firstOf s (readsOf s)) (secondOf s (readsOf s))
+reading : (s : Span) → s .end .0 ≡ s .start .0 + s .length → s .prefix ≤ s .length → s .suffix ≤ s .length →
+    Reading s (firstOf s (readsOf s)) (secondOf s (readsOf s))
 unfolding readsOf
 reading s e p q = go (eqb (s .prefix + s .suffix) (s .length)) (eqb (s .prefix) 0) (eqb (s .suffix) 0)
   where
     go : (x y z : Bool) →
-        let k = pick x ReadWhole (pick y (pick z NoReads (ReadTail (s .suffix))) (pick z (ReadHead (s .prefix)) (HeadThenTail (s .prefix) (s .suffix)))) in
+        let k = pick x ReadWhole (pick y (pick z NoReads (ReadTail (s .suffix)))
+        (pick z (ReadHead (s .prefix)) (HeadThenTail (s .prefix) (s .suffix)))) in
         Reading s (firstOf s k) (secondOf s k)
-    go true y z = record { first-starts = λ h. refl; first-ends = λ h. omega arith; first-short = omega arith; second-starts = λ h. absurd (omega arith); second-ends = λ h. absurd (omega arith); second-short = omega arith }
-    go false true true = record { first-starts = λ h. absurd (omega arith); first-ends = λ h. absurd (omega arith); first-short = omega arith; second-starts = λ h. absurd (omega arith); second-ends = λ h. absurd (omega arith); second-short = omega arith }
-    go false true false = record { first-starts = λ h. absurd (omega arith); first-ends = λ h. absurd (omega arith); first-short = omega arith; second-starts = λ h. omega arith; second-ends = λ h. refl; second-short = omega arith }
-    go false false true = record { first-starts = λ h. refl; first-ends = λ h. omega arith; first-short = omega arith; second-starts = λ h. absurd (omega arith); second-ends = λ h. absurd (omega arith); second-short = omega arith }
-    go false false false = record { first-starts = λ h. refl; first-ends = λ h. omega arith; first-short = omega arith; second-starts = λ h. omega arith; second-ends = λ h. refl; second-short = omega arith }
+    go true y z = record {
+      first-starts = λ h. refl;
+      first-ends = λ h. omega arith;
+      first-short = omega arith;
+      second-starts = λ h. absurd (omega arith);
+      second-ends = λ h. absurd (omega arith);
+      second-short = omega arith;
+    }
+    go false true true = record {
+      first-starts = λ h. absurd (omega arith);
+      first-ends = λ h. absurd (omega arith);
+      first-short = omega arith;
+      second-starts = λ h. absurd (omega arith);
+      second-ends = λ h. absurd (omega arith);
+      second-short = omega arith;
+    }
+    go false true false = record {
+      first-starts = λ h. absurd (omega arith);
+      first-ends = λ h. absurd (omega arith);
+      first-short = omega arith;
+      second-starts = λ h. omega arith;
+      second-ends = λ h. refl;
+      second-short = omega arith;
+    }
+    go false false true = record {
+      first-starts = λ h. refl;
+      first-ends = λ h. omega arith;
+      first-short = omega arith;
+      second-starts = λ h. absurd (omega arith);
+      second-ends = λ h. absurd (omega arith);
+      second-short = omega arith;
+    }
+    go false false false = record {
+      first-starts = λ h. refl;
+      first-ends = λ h. omega arith;
+      first-short = omega arith;
+      second-starts = λ h. omega arith;
+      second-ends = λ h. refl;
+      second-short = omega arith;
+    }
 
 read-at : {a : Alignments} {o n : ℕ} {x : Span} → Spans a o n x → Reading x (firstOf x (readsOf x)) (secondOf x (readsOf x))
 read-at {x = x} k = reading x (k .end) (k .prefix-le) (k .suffix-le)
 
-padded-on-store : {a : Alignments} {n : ℕ} (x : Span) (r : Range) → Spans a (r .start .0) n x → sizeOf r ≡ n → 0 < n → OnStore (paddedStage x r)
+padded-on-store : {a : Alignments} {n : ℕ} (x : Span) (r : Range) → Spans a (r .start .0) n x → sizeOf r ≡ n → 0 < n →
+    OnStore (paddedStage x r)
 unfolding paddedStage
 padded-on-store x r k e p =
     let d = read-at k in
@@ -122,7 +167,8 @@ padded-on-store x r k e p =
 
 -- ---- what lies in the bounce buffer
 
-lies : (n : ℕ) (g : Stage) → g .head .0 + sizeOf (g .asked) ≤ n → sizeOf (g .request) ≤ n → sizeOf (g .first) ≤ n → secondAt g + sizeOf (g .second) ≤ n → liesIn n g ≡ true
+lies : (n : ℕ) (g : Stage) → g .head .0 + sizeOf (g .asked) ≤ n → sizeOf (g .request) ≤ n → sizeOf (g .first) ≤ n →
+    secondAt g + sizeOf (g .second) ≤ n → liesIn n g ≡ true
 unfolding liesIn
 lies n g a b c d = simp (le-leb _ _ a, le-leb _ _ b, le-leb _ _ c, le-leb _ _ d)
 
@@ -130,11 +176,13 @@ direct-lies : (n : ℕ) (r : Range) → sizeOf r ≤ n → liesIn n (directStage
 unfolding directStage
 direct-lies n r h = lies n (directStage r) (omega arith) h (omega arith) (omega arith)
 
-padded-lies : {a : Alignments} {m : ℕ} (n : ℕ) (x : Span) (r : Range) → Spans a (r .start .0) m x → sizeOf r ≡ m → x .length ≤ n → liesIn n (paddedStage x r) ≡ true
+padded-lies : {a : Alignments} {m : ℕ} (n : ℕ) (x : Span) (r : Range) → Spans a (r .start .0) m x → sizeOf r ≡ m → x .length ≤ n →
+    liesIn n (paddedStage x r) ≡ true
 unfolding paddedStage
 padded-lies n x r k e h =
     let d = read-at k in
-    lies n (paddedStage x r) (omega (arith, k .holds)) (omega (arith, k .end)) (omega (arith, d .first-short)) (omega (arith, d .second-short))
+    lies n (paddedStage x r) (omega (arith, k .holds)) (omega (arith, k .end)) (omega (arith, d .first-short))
+    (omega (arith, d .second-short))
 
 stage-sound : (n : ℕ) (x : State) → (usesBounce (x .phase) ≡ true → liesIn n (x .stage) ≡ true) → isSound n x ≡ true
 unfolding isSound
@@ -228,15 +276,18 @@ module _ (s : Settings) (j : Job) (d : Phase) (o : StoreOffset) (n : ℕ) where
   vector-by : isPending d ≡ true → usesBounce d ≡ false → 0 < n → (x : Transfer) → Transfers (s .align) (o .0) n x
       → Starts (Opens s j (asked o n)) (vectorBy s j d o n x)
   unfolding Transfers
-  vector-by e u p (Direct r) k = rw (k .is) (opens-direct s j (asked o n) _ _ (asked o n) d e (λ v. never (sym u ∙ v)) (omega arith) (k .fits))
+  vector-by e u p (Direct r) k = rw (k .is) (opens-direct s j (asked o n) _ _ (asked o n) d e (λ v. never (sym u ∙ v)) (omega arith)
+      (k .fits))
   vector-by e u p (Bounced x) k =
       starts-within (Opens s j (asked o n)) (x .length) (s .bounce) _
       (λ h. opens-padded s j (asked o n) _ _ x (asked o n) _ k (size-asked o n) (bounced-pending j (paddedStage x (asked o n))) h p)
   vector-by e u p (NoTransfer r) k = tt
 
-  vector-opens : isPending d ≡ true → usesBounce d ≡ false → (t : Bool) (x : State) → vectorPlan s j d o n t ≡ Started x → Opens s j (asked o n) x
+  vector-opens : isPending d ≡ true → usesBounce d ≡ false → (t : Bool) (x : State) → vectorPlan s j d o n t ≡ Started x →
+      Opens s j (asked o n) x
   vector-opens e u t x q =
-      rw q at (starts-some (Opens s j (asked o n)) n (vectorBy s j d o n (transferOf (s .align) o n t)) (λ p. vector-by e u p (transferOf (s .align) o n t) (transfers (s .align) o n t)))
+      rw q at (starts-some (Opens s j (asked o n)) n (vectorBy s j d o n (transferOf (s .align) o n t))
+      (λ p. vector-by e u p (transferOf (s .align) o n t) (transfers (s .align) o n t)))
 
 module _ (s : Settings) (o : StoreOffset) (n : ℕ) where
   pub read-opens : (t : Bool) (x : State) → readPlan s o n t ≡ Started x → Opens s Read (asked o n) x
@@ -252,7 +303,8 @@ module _ (s : Settings) (o : StoreOffset) (n : ℕ) where
   pub read-phase : (t : Bool) (x : State) → readPlan s o n t ≡ Started x → (x .phase ≡ DirectRead) ⊎ (x .phase ≡ BouncedRead)
   unfolding readPlan
   read-phase t x e =
-      rw e at (starts-some (λ y. (y .phase ≡ DirectRead) ⊎ (y .phase ≡ BouncedRead)) n (vectorBy s Read DirectRead o n (transferOf (s .align) o n t)) (λ p. phase-by (transferOf (s .align) o n t)))
+      rw e at (starts-some (λ y. (y .phase ≡ DirectRead) ⊎ (y .phase ≡ BouncedRead)) n
+      (vectorBy s Read DirectRead o n (transferOf (s .align) o n t)) (λ p. phase-by (transferOf (s .align) o n t)))
 
   pub write-opens : (t : Bool) (x : State) → writePlan s o n t ≡ Started x → Opens s Write (asked o n) x
   unfolding writePlan
@@ -263,20 +315,26 @@ module _ (s : Settings) (j : Job) (w m : Range) (c : Course) (r : Range) where
   abbrev zeroesTransfer : Transfer
   zeroesTransfer = transferOf (s .align) (r .start) (sizeOf r) (isMultiple (sizeOf r) (lengthAlign (s .align)))
 
-  sound-by : (x : Transfer) → Transfers (s .align) (r .start .0) (sizeOf r) x → Starts (λ x. isSound (s .bounce) x ≡ true) (zeroesBy s j w m c r x)
+  sound-by : (x : Transfer) → Transfers (s .align) (r .start .0) (sizeOf r) x →
+      Starts (λ x. isSound (s .bounce) x ≡ true) (zeroesBy s j w m c r x)
   unfolding Transfers
-  sound-by (Direct x) k = starts-within (λ x. isSound (s .bounce) x ≡ true) (sizeOf r) (s .bounce) _ (λ h. stage-sound (s .bounce) _ (λ u. direct-lies (s .bounce) r h))
-  sound-by (Bounced x) k = starts-within (λ x. isSound (s .bounce) x ≡ true) (x .length) (s .bounce) _ (λ h. stage-sound (s .bounce) _ (λ u. padded-lies (s .bounce) x r k refl h))
+  sound-by (Direct x) k = starts-within (λ x. isSound (s .bounce) x ≡ true) (sizeOf r) (s .bounce) _
+      (λ h. stage-sound (s .bounce) _ (λ u. direct-lies (s .bounce) r h))
+  sound-by (Bounced x) k = starts-within (λ x. isSound (s .bounce) x ≡ true) (x .length) (s .bounce) _
+      (λ h. stage-sound (s .bounce) _ (λ u. padded-lies (s .bounce) x r k refl h))
   sound-by (NoTransfer x) k = tt
 
   pub zeroes-sound : (x : State) → zeroesPlan s j w m c r ≡ Started x → isSound (s .bounce) x ≡ true
   unfolding zeroesPlan
   zeroes-sound x e = rw e at (sound-by zeroesTransfer (transfers (s .align) (r .start) (sizeOf r) _))
 
-  zeroes-by : 0 < sizeOf r → (x : Transfer) → Transfers (s .align) (r .start .0) (sizeOf r) x → Starts (Opens s j w) (zeroesBy s j w m c r x)
+  zeroes-by : 0 < sizeOf r → (x : Transfer) → Transfers (s .align) (r .start .0) (sizeOf r) x →
+      Starts (Opens s j w) (zeroesBy s j w m c r x)
   unfolding Transfers
-  zeroes-by p (Direct x) k = starts-within (Opens s j w) (sizeOf r) (s .bounce) _ (λ h. opens-direct s j w m c r BouncedWrite refl (λ u. h) p (omega (arith, k .fits)))
-  zeroes-by p (Bounced x) k = starts-within (Opens s j w) (x .length) (s .bounce) _ (λ h. opens-padded s j w m c x r _ k refl (first-pending (paddedStage x r)) h p)
+  zeroes-by p (Direct x) k = starts-within (Opens s j w) (sizeOf r) (s .bounce) _
+      (λ h. opens-direct s j w m c r BouncedWrite refl (λ u. h) p (omega (arith, k .fits)))
+  zeroes-by p (Bounced x) k = starts-within (Opens s j w) (x .length) (s .bounce) _
+      (λ h. opens-padded s j w m c x r _ k refl (first-pending (paddedStage x r)) h p)
   zeroes-by p (NoTransfer x) k = tt
 
   zeroes-start : 0 < sizeOf r → Starts (Opens s j w) (zeroesPlan s j w m c r)
@@ -296,7 +354,8 @@ module _ (s : Settings) (o : StoreOffset) (n : ℕ) where
   zero-by t (Split c) e =
       let k = splits (s .align) o n c e in
       let l = ltb-true (middleStart (s .align .zero) (o .0)) (middleEnd (s .align .zero) (o .0) n) (k .middles .some) in
-      rw (k .is) (opens-direct s (zeroJob t) (asked o n) _ _ (cutOf (s .align .zero) (o .0) n .middle) ZeroRequest refl never (omega (arith, l)) (omega (arith, down-le (o .0 + n) (s .align .zero), k .middles .sums .end)))
+      rw (k .is) (opens-direct s (zeroJob t) (asked o n) _ _ (cutOf (s .align .zero) (o .0) n .middle) ZeroRequest refl never
+      (omega (arith, l)) (omega (arith, down-le (o .0 + n) (s .align .zero), k .middles .sums .end)))
   zero-by t (CutRefused r) e = tt
 
   pub zero-opens : (t : Bool) (x : State) → zeroPlan s t o n ≡ Started x → Opens s (zeroJob t) (asked o n) x
@@ -309,7 +368,8 @@ module _ (s : Settings) (o : StoreOffset) (n : ℕ) where
   discard-by (DiscardMiddle r) e =
       let k = discards (s .align) o n r e in
       let l = ltb-true (middleStart (s .align .discard) (o .0)) (middleEnd (s .align .discard) (o .0) n) (k .middles .some) in
-      rw (k .is) (opens-direct s Discard (asked o n) _ _ (cutOf (s .align .discard) (o .0) n .middle) DiscardRequest refl never (omega (arith, l)) (omega (arith, down-le (o .0 + n) (s .align .discard), k .middles .sums .end)))
+      rw (k .is) (opens-direct s Discard (asked o n) _ _ (cutOf (s .align .discard) (o .0) n .middle) DiscardRequest refl never
+      (omega (arith, l)) (omega (arith, down-le (o .0 + n) (s .align .discard), k .middles .sums .end)))
   discard-by (DiscardRefused r) e = tt
 
   pub discard-opens : (x : State) → discardPlan s o n ≡ Started x → Opens s Discard (asked o n) x
@@ -398,7 +458,11 @@ module _ (s : Settings) (x : State) where
           let k = accepted s p in
           let l = ltb-true (o .0) (x .range .end .0) q in
           zeroes-steps Chunks (chunkAt s x o)
-          (omega (arith, chunk-some (s .align .req) (s .bounce) (o .0) (x .range .end .0 - o .0) (k .align .req .positive) (k .positive) (omega (arith, l))))
+          (omega (
+            arith,
+            chunk-some (s .align .req) (s .bounce) (o .0) (x .range .end .0 - o .0) (k .align .req .positive) (k .positive)
+                (omega (arith, l)),
+          ))
       go true false p q = finishes 0
       go false g p q = finishes (numberOf Unfit)
 
@@ -417,7 +481,8 @@ module _ (s : Settings) (x : State) where
   done-by Ended e = finishes 0
   done-by DirectRead e = finishes 0
   done-by BouncedRead e = finishes 0
-  done-by FirstRead e = continues (pick (ltb 0 (sizeOf (x .stage .second))) SecondRead BouncedWrite) (ap usesBounce e) (second-pending (ltb 0 (sizeOf (x .stage .second))))
+  done-by FirstRead e = continues (pick (ltb 0 (sizeOf (x .stage .second))) SecondRead BouncedWrite) (ap usesBounce e)
+      (second-pending (ltb 0 (sizeOf (x .stage .second))))
   done-by SecondRead e = continues BouncedWrite (ap usesBounce e) refl
   done-by BouncedWrite e = done-steps (x .course)
   done-by DirectWrite e = finishes 0
@@ -491,11 +556,18 @@ module _ (s : Settings) (fit : settingsFit s ≡ true) (j : Job) (w m : Range) (
       let k = accepted s fit in
       let n = sizeOf r in
       let a : alignmentsFit (s .align) ≡ true = and-left (alignmentsFit (s .align)) (bounceFits (s .align) (s .bounce)) fit in
-      let q : sizeOf r ≤ s .bounce = omega (arith, h, end-ge R L (r .start .0) n (k .align .req .positive) (k .align .positive) (k .align .of-req), start-le R L (r .start .0) n (k .align .req .positive) (k .align .positive) (k .align .of-req)) in
+      let q : sizeOf r ≤ s .bounce = omega (
+        arith,
+        h,
+        end-ge R L (r .start .0) n (k .align .req .positive) (k .align .positive)
+            (k .align .of-req),
+        start-le R L (r .start .0) n (k .align .req .positive) (k .align .positive) (k .align .of-req),
+      ) in
       simp a (go q (fits (r .start .0 + n)) (isDirect R (r .start .0) n (isMultiple n L)) (paddingFits R L (r .start .0) n))
     where
       go : sizeOf r ≤ s .bounce → (x y z : Bool)
-          → Refuses (zeroesBy s j w m c r (pick x (pick y (Direct (rangeOf (r .start .0) (r .start .0 + sizeOf r))) (bounced (pick z (Padded (spanOf R L (r .start .0) (sizeOf r))) (NoPadding Overflow)))) (NoTransfer Overflow)))
+          → Refuses (zeroesBy s j w m c r (pick x (pick y (Direct (rangeOf (r .start .0) (r .start .0 + sizeOf r)))
+          (bounced (pick z (Padded (spanOf R L (r .start .0) (sizeOf r))) (NoPadding Overflow)))) (NoTransfer Overflow)))
       go q true true z = simp (le-leb (sizeOf r) (s .bounce) q) tt
       go q true false true = simp (le-leb (paddedLength R L (r .start .0) (sizeOf r)) (s .bounce) h) tt
       go q true false false = refl
@@ -506,21 +578,25 @@ module _ (s : Settings) (fit : settingsFit s ≡ true) (j : Job) (w m : Range) (
   Z = s .align .zero
 
   pub head-refused : (o : ℕ) (r : Refusal) → zeroesPlan s j w m c (rangeOf o (middleStart Z o)) ≡ Refused r → r ≡ Overflow
-  head-refused o r e = refused-for (zeroesPlan s j w m c (rangeOf o (middleStart Z o))) r (short-by (rangeOf o (middleStart Z o)) (head-pads s (accepted s fit) o)) e
+  head-refused o r e = refused-for (zeroesPlan s j w m c (rangeOf o (middleStart Z o))) r
+      (short-by (rangeOf o (middleStart Z o)) (head-pads s (accepted s fit) o)) e
 
   pub tail-refused : (o n : ℕ) (r : Refusal) → zeroesPlan s j w m c (rangeOf (middleEnd Z o n) (o + n)) ≡ Refused r → r ≡ Overflow
   tail-refused o n r e =
-      refused-for (zeroesPlan s j w m c (rangeOf (middleEnd Z o n) (o + n))) r (short-by (rangeOf (middleEnd Z o n) (o + n)) (tail-pads s (accepted s fit) o n)) e
+      refused-for (zeroesPlan s j w m c (rangeOf (middleEnd Z o n) (o + n))) r
+      (short-by (rangeOf (middleEnd Z o n) (o + n)) (tail-pads s (accepted s fit) o n)) e
 
   whole-short : (o n : ℕ) → hasMiddle Z o n ≡ false → Refuses (zeroesPlan s j w m c (rangeOf o (o + n)))
   whole-short o n h =
       let z : n ≡ o + n - o = omega arith in
       short-by (rangeOf o (o + n)) (subst (λ (k : ℕ). paddedLength R L o k ≤ s .bounce) z (whole-pads s (accepted s fit) o n h))
 
-  pub whole-refused : (o n : ℕ) → hasMiddle Z o n ≡ false → (r : Refusal) → zeroesPlan s j w m c (rangeOf o (o + n)) ≡ Refused r → r ≡ Overflow
+  pub whole-refused : (o n : ℕ) → hasMiddle Z o n ≡ false → (r : Refusal) → zeroesPlan s j w m c (rangeOf o (o + n)) ≡ Refused r → r
+      ≡ Overflow
   whole-refused o n h r e = refused-for (zeroesPlan s j w m c (rangeOf o (o + n))) r (whole-short o n h) e
 
-  pub chunk-refused : (o n : ℕ) (r : Refusal) → zeroesPlan s j w m c (rangeOf o (o + chunkLength R (s .bounce) o n)) ≡ Refused r → r ≡ Overflow
+  pub chunk-refused : (o n : ℕ) (r : Refusal) → zeroesPlan s j w m c (rangeOf o (o + chunkLength R (s .bounce) o n)) ≡ Refused r → r
+      ≡ Overflow
   chunk-refused o n r e =
       let k = chunkLength R (s .bounce) o n in
       let z : k ≡ o + k - o = omega arith in
@@ -535,7 +611,8 @@ module _ (s : Settings) (fit : settingsFit s ≡ true) (t : Bool) (o : StoreOffs
       let a : alignmentsFit (s .align) ≡ true = and-left (alignmentsFit (s .align)) (bounceFits (s .align) (s .bounce)) fit in
       go (eqb n 0) (cutFits (s .align .zero) (o .0) n) (hasMiddle (s .align .zero) (o .0) n) (simp a at e)
     where
-      go : (y z w : Bool) → pick y NoCut (pick z (pick w (Split (cutOf (s .align .zero) (o .0) n)) (Whole (rangeOf (o .0) (o .0 + n)))) (CutRefused Overflow)) ≡ CutRefused r → r ≡ Overflow
+      go : (y z w : Bool) → pick y NoCut (pick z (pick w (Split (cutOf (s .align .zero) (o .0) n)) (Whole (rangeOf (o .0) (o .0 + n))))
+          (CutRefused Overflow)) ≡ CutRefused r → r ≡ Overflow
       go true z w e = let z : _≡_ {A = ℕ} 0 1 = cc in absurd (omega arith)
       go false true true e = let z : _≡_ {A = ℕ} 0 1 = cc in absurd (omega arith)
       go false true false e = let z : _≡_ {A = ℕ} 0 1 = cc in absurd (omega arith)

@@ -14,25 +14,29 @@ use Rattle.arithmetic.specs.declared.offsets.Range.{Range}
 use Rattle.arithmetic.specs.declared.settings.Settings.{Settings}
 use Rattle.arithmetic.specs.declared.padding.Span.{Span}
 use Rattle.arithmetic.specs.declared.padding.Reads.{Reads}
-use Rattle.arithmetic.specs.declared.padding.Reads.the-variants.{Nothing as NoReads, Whole as ReadWhole, Head as ReadHead, Tail as ReadTail, HeadThenTail}
+use Rattle.arithmetic.specs.declared.padding.Reads.the-variants.{Nothing as NoReads, Whole as ReadWhole, Head as ReadHead, Tail as ReadTail}
+use Rattle.arithmetic.specs.declared.padding.Reads.the-variants.{HeadThenTail}
 use Rattle.arithmetic.specs.declared.padding.Transfer.{Transfer}
 use Rattle.arithmetic.specs.declared.padding.Transfer.the-variants.{Direct, Bounced, Refused as NoTransfer}
 use Rattle.arithmetic.specs.declared.zeroes.ZeroCut.{ZeroCut}
 use Rattle.arithmetic.specs.declared.zeroes.ZeroCut.the-variants.{Nothing as NoCut, Whole, Split, Refused as CutRefused}
 use Rattle.arithmetic.specs.declared.zeroes.DiscardCut.{DiscardCut}
-use Rattle.arithmetic.specs.declared.zeroes.DiscardCut.the-variants.{Nothing as NoDiscard, Middle as DiscardMiddle, Refused as DiscardRefused}
+use Rattle.arithmetic.specs.declared.zeroes.DiscardCut.the-variants.{Nothing as NoDiscard, Middle as DiscardMiddle}
+use Rattle.arithmetic.specs.declared.zeroes.DiscardCut.the-variants.{Refused as DiscardRefused}
 use Rattle.arithmetic.specs.declared.zeroes.Chunk.{Chunk}
 use Rattle.arithmetic.specs.declared.zeroes.Chunk.the-variants.{Nothing as NoChunk, Next, Refused as ChunkRefused}
 use Rattle.stages.specs.declared.state.Job.{Job}
 use Rattle.stages.specs.declared.state.Job.the-variants.{Read, Write, Zeroes, AllocatedZeroes, Discard}
 use Rattle.stages.specs.declared.state.Phase.{Phase}
-use Rattle.stages.specs.declared.state.Phase.the-variants.{Free, Ended, DirectRead, BouncedRead, FirstRead, SecondRead, BouncedWrite, DirectWrite, ZeroRequest, DiscardRequest}
+use Rattle.stages.specs.declared.state.Phase.the-variants.{Free, Ended, DirectRead, BouncedRead, FirstRead, SecondRead, BouncedWrite}
+use Rattle.stages.specs.declared.state.Phase.the-variants.{DirectWrite, ZeroRequest, DiscardRequest}
 use Rattle.stages.specs.declared.state.Course.{Course}
 use Rattle.stages.specs.declared.state.Course.the-variants.{Last, Middle, Head, Chunks}
 use Rattle.stages.specs.declared.state.Stage.{Stage}
 use Rattle.stages.specs.declared.state.State.{State}
 use Rattle.stages.specs.declared.state.Kind.{Kind}
-use Rattle.stages.specs.declared.state.Kind.the-variants.{Read as KRead, Write as KWrite, Zero as KZero, AllocatedZero as KAllocatedZero, Discard as KDiscard}
+use Rattle.stages.specs.declared.state.Kind.the-variants.{Read as KRead, Write as KWrite, Zero as KZero}
+use Rattle.stages.specs.declared.state.Kind.the-variants.{AllocatedZero as KAllocatedZero, Discard as KDiscard}
 use Rattle.stages.specs.declared.state.Request.{Request}
 use Rattle.stages.specs.declared.plan.Plan.{Plan}
 use Rattle.stages.specs.declared.plan.Plan.the-variants.{Done, Started, Refused}
@@ -113,7 +117,8 @@ bouncedPhase Discard g = firstPhase g
 abbrev pub vectorBy : Settings → Job → Phase → StoreOffset → ℕ → Transfer → Plan
 vectorBy s j d o n (Direct r) = Started (stateOf j r (rangeOf 0 0) Last (directStage r) d)
 vectorBy s j d o n (Bounced x) =
-    inBounce s x (Started (stateOf j (asked o n) (rangeOf 0 0) Last (paddedStage x (asked o n)) (bouncedPhase j (paddedStage x (asked o n)))))
+    inBounce s x (Started (stateOf j (asked o n) (rangeOf 0 0) Last (paddedStage x (asked o n))
+    (bouncedPhase j (paddedStage x (asked o n)))))
 vectorBy s j d o n (NoTransfer r) = Refused r
 
 abbrev pub vectorPlan : Settings → Job → Phase → StoreOffset → ℕ → Bool → Plan
@@ -128,7 +133,8 @@ writePlan s o n aligned = vectorPlan s Write DirectWrite o n aligned
 
 -- a write of zeroes over r, from the bounce buffer: it starts at a multiple of M, so it is aligned where its length is a multiple of L
 abbrev pub zeroesBy : Settings → Job → Range → Range → Course → Range → Transfer → Plan
-zeroesBy s j whole m c r (Direct x) = pick (leb (sizeOf r) (s .bounce)) (Started (stateOf j whole m c (directStage r) BouncedWrite)) (Refused TooLong)
+zeroesBy s j whole m c r (Direct x) = pick (leb (sizeOf r) (s .bounce)) (Started (stateOf j whole m c (directStage r) BouncedWrite))
+    (Refused TooLong)
 zeroesBy s j whole m c r (Bounced x) = inBounce s x (Started (stateOf j whole m c (paddedStage x r) (firstPhase (paddedStage x r))))
 zeroesBy s j whole m c r (NoTransfer n) = Refused n
 
@@ -161,11 +167,27 @@ discardPlan s o n = discardBy o n (discardCutOf (s .align) o n)
 -- ---- what a told code leads to
 
 abbrev pub inPhase : Phase → State → State
-inPhase ph x = record { phase = ph; answer = x .answer; job = x .job; range = x .range; middle = x .middle; course = x .course; stage = x .stage }
+inPhase ph x = record {
+  phase = ph;
+  answer = x .answer;
+  job = x .job;
+  range = x .range;
+  middle = x .middle;
+  course = x .course;
+  stage = x .stage;
+}
 
 -- "A failure ends the job with that number"
 abbrev pub endedWith : ℕ → State → State
-endedWith a x = record { phase = Ended; answer = a; job = x .job; range = x .range; middle = x .middle; course = x .course; stage = x .stage }
+endedWith a x = record {
+  phase = Ended;
+  answer = a;
+  job = x .job;
+  range = x .range;
+  middle = x .middle;
+  course = x .course;
+  stage = x .stage;
+}
 
 -- "A 207 met by a later piece of a zero job ends it with 207"
 abbrev pub laterStage : State → Plan → Step

@@ -21,7 +21,8 @@ use Rattle.arithmetic.specs.declared.padding.Transfer.the-variants.{Direct, Bou
 use Rattle.arithmetic.specs.declared.padding.Reads.the-variants.{Nothing as NoReads, Whole as ReadWhole, Head, Tail, HeadThenTail}
 use Rattle.arithmetic.specs.declared.zeroes.Cut.{Cut}
 use Rattle.arithmetic.specs.declared.zeroes.ZeroCut.the-variants.{Nothing as NoCut, Whole, Split, Refused as CutRefused}
-use Rattle.arithmetic.specs.declared.zeroes.DiscardCut.the-variants.{Nothing as NoDiscard, Middle as DiscardMiddle, Refused as DiscardRefused}
+use Rattle.arithmetic.specs.declared.zeroes.DiscardCut.the-variants.{Nothing as NoDiscard, Middle as DiscardMiddle}
+use Rattle.arithmetic.specs.declared.zeroes.DiscardCut.the-variants.{Refused as DiscardRefused}
 use Rattle.stages.specs.Stages.{Holds}
 
 pub direct : (a : Alignments) (o : StoreOffset) (n : ℕ) (t : Bool) (r : Range) → transferOf a o n t ≡ Direct r → Directs a (o .0) n r
@@ -56,7 +57,8 @@ unfolding zeroCutOf
 splits a o n c e = go (alignmentsFit a) (eqb n 0) (cutFits (a .zero) (o .0) n) (hasMiddle (a .zero) (o .0) n) refl refl e
   where
     go : (x y z w : Bool) → cutFits (a .zero) (o .0) n ≡ z → hasMiddle (a .zero) (o .0) n ≡ w
-        → pick x (pick y NoCut (pick z (pick w (Split (cutOf (a .zero) (o .0) n)) (Whole (rangeOf (o .0) (o .0 + n)))) (CutRefused Overflow))) (CutRefused Unfit) ≡ Split c
+        → pick x (pick y NoCut (pick z (pick w (Split (cutOf (a .zero) (o .0) n)) (Whole (rangeOf (o .0) (o .0 + n))))
+        (CutRefused Overflow))) (CutRefused Unfit) ≡ Split c
         → Splits a (o .0) n c
     go true false true true p q e = record { middles = record { sums = cut-sums _ _ _ p; some = q }; is = cc }
     go true false true false p q e = let z : _≡_ {A = ℕ} 0 1 = cc in absurd (omega arith)
@@ -76,9 +78,15 @@ unfolding zeroCutOf
 wholes a o n r e = go (alignmentsFit a) (eqb n 0) (cutFits (a .zero) (o .0) n) (hasMiddle (a .zero) (o .0) n) refl refl refl e
   where
     go : (x y z w : Bool) → eqb n 0 ≡ y → cutFits (a .zero) (o .0) n ≡ z → hasMiddle (a .zero) (o .0) n ≡ w
-        → pick x (pick y NoCut (pick z (pick w (Split (cutOf (a .zero) (o .0) n)) (Whole (rangeOf (o .0) (o .0 + n)))) (CutRefused Overflow))) (CutRefused Unfit) ≡ Whole r
+        → pick x (pick y NoCut (pick z (pick w (Split (cutOf (a .zero) (o .0) n)) (Whole (rangeOf (o .0) (o .0 + n))))
+        (CutRefused Overflow))) (CutRefused Unfit) ≡ Whole r
         → Wholes a (o .0) n r
-    go true false true false i p q e = record { sums = cut-sums _ _ _ p; none = q; some = let h = eqb-false n 0 i in omega (arith, h); is = cc }
+    go true false true false i p q e = record {
+      sums = cut-sums _ _ _ p;
+      none = q;
+      some = let h = eqb-false n 0 i in omega (arith, h);
+      is = cc;
+    }
     go true false true true i p q e = let z : _≡_ {A = ℕ} 0 1 = cc in absurd (omega arith)
     go true false false w i p q e = let z : _≡_ {A = ℕ} 0 1 = cc in absurd (omega arith)
     go true true z w i p q e = let z : _≡_ {A = ℕ} 0 1 = cc in absurd (omega arith)
@@ -94,7 +102,8 @@ unfolding discardCutOf
 discards a o n r e = go (alignmentsFit a) (cutFits (a .discard) (o .0) n) (hasMiddle (a .discard) (o .0) n) refl refl e
   where
     go : (x z w : Bool) → cutFits (a .discard) (o .0) n ≡ z → hasMiddle (a .discard) (o .0) n ≡ w
-        → pick x (pick z (pick w (DiscardMiddle (cutOf (a .discard) (o .0) n .middle)) NoDiscard) (DiscardRefused Overflow)) (DiscardRefused Unfit) ≡ DiscardMiddle r
+        → pick x (pick z (pick w (DiscardMiddle (cutOf (a .discard) (o .0) n .middle)) NoDiscard) (DiscardRefused Overflow))
+        (DiscardRefused Unfit) ≡ DiscardMiddle r
         → Discards a (o .0) n r
     go true true true p q e = record { middles = record { sums = cut-sums _ _ _ p; some = q }; is = cc }
     go true true false p q e = let z : _≡_ {A = ℕ} 0 1 = cc in absurd (omega arith)
@@ -108,7 +117,8 @@ pub head-is : (s : Span) (h : ℕ) → readsOf s ≡ Head h → h ≡ s .prefix
 unfolding readsOf
 head-is s h e = go (eqb (s .prefix + s .suffix) (s .length)) (eqb (s .prefix) 0) (eqb (s .suffix) 0) e
   where
-    go : (x y z : Bool) → pick x ReadWhole (pick y (pick z NoReads (Tail (s .suffix))) (pick z (Head (s .prefix)) (HeadThenTail (s .prefix) (s .suffix)))) ≡ Head h → h ≡ s .prefix
+    go : (x y z : Bool) → pick x ReadWhole (pick y (pick z NoReads (Tail (s .suffix)))
+        (pick z (Head (s .prefix)) (HeadThenTail (s .prefix) (s .suffix)))) ≡ Head h → h ≡ s .prefix
     go true y z e = let z : _≡_ {A = ℕ} 0 1 = cc in absurd (omega arith)
     go false true true e = let z : _≡_ {A = ℕ} 0 1 = cc in absurd (omega arith)
     go false true false e = let z : _≡_ {A = ℕ} 0 1 = cc in absurd (omega arith)
@@ -119,7 +129,8 @@ pub tail-is : (s : Span) (t : ℕ) → readsOf s ≡ Tail t → t ≡ s .suffix
 unfolding readsOf
 tail-is s t e = go (eqb (s .prefix + s .suffix) (s .length)) (eqb (s .prefix) 0) (eqb (s .suffix) 0) e
   where
-    go : (x y z : Bool) → pick x ReadWhole (pick y (pick z NoReads (Tail (s .suffix))) (pick z (Head (s .prefix)) (HeadThenTail (s .prefix) (s .suffix)))) ≡ Tail t → t ≡ s .suffix
+    go : (x y z : Bool) → pick x ReadWhole (pick y (pick z NoReads (Tail (s .suffix)))
+        (pick z (Head (s .prefix)) (HeadThenTail (s .prefix) (s .suffix)))) ≡ Tail t → t ≡ s .suffix
     go true y z e = let z : _≡_ {A = ℕ} 0 1 = cc in absurd (omega arith)
     go false true true e = let z : _≡_ {A = ℕ} 0 1 = cc in absurd (omega arith)
     go false true false e = cc
@@ -130,7 +141,8 @@ pub heads-are : (s : Span) (h t : ℕ) → readsOf s ≡ HeadThenTail h t → (h
 unfolding readsOf
 heads-are s h t e = go (eqb (s .prefix + s .suffix) (s .length)) (eqb (s .prefix) 0) (eqb (s .suffix) 0) e
   where
-    go : (x y z : Bool) → pick x ReadWhole (pick y (pick z NoReads (Tail (s .suffix))) (pick z (Head (s .prefix)) (HeadThenTail (s .prefix) (s .suffix)))) ≡ HeadThenTail h t → (h ≡ s .prefix) × (t ≡ s .suffix)
+    go : (x y z : Bool) → pick x ReadWhole (pick y (pick z NoReads (Tail (s .suffix)))
+        (pick z (Head (s .prefix)) (HeadThenTail (s .prefix) (s .suffix)))) ≡ HeadThenTail h t → (h ≡ s .prefix) × (t ≡ s .suffix)
     go true y z e = let z : _≡_ {A = ℕ} 0 1 = cc in absurd (omega arith)
     go false true true e = let z : _≡_ {A = ℕ} 0 1 = cc in absurd (omega arith)
     go false true false e = let z : _≡_ {A = ℕ} 0 1 = cc in absurd (omega arith)

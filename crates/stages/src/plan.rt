@@ -24,7 +24,8 @@ use arithmetic::zeroes::zero_cut;
 ghost use mathlib.Core.Path.{_≡_};
 ghost use Prim.Native.Nat.{_+_, _-_, _<_, _≤_, _^_};
 ghost use Rattle.arithmetic.specs.Offsets.{rangeOf};
-ghost use Rattle.stages.specs.Stages.{Holds, directStage, firstOf, secondOf, paddedStage, firstPhase, stateOf, asked, bouncedPhase, vectorPlan, readPlan, writePlan, zeroesPlan, zeroJob, zeroPlan, discardPlan};
+ghost use Rattle.stages.specs.Stages.{Holds, directStage, firstOf, secondOf, paddedStage, firstPhase, stateOf, asked, bouncedPhase};
+ghost use Rattle.stages.specs.Stages.{vectorPlan, readPlan, writePlan, zeroesPlan, zeroJob, zeroPlan, discardPlan};
 ghost use Rattle.arithmetic.specs.Padding.{readsOf};
 
 // What a job begins with: nothing to do, its first stage, or a refusal.

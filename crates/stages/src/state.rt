@@ -7,7 +7,8 @@ ghost use mathlib.Core.Path.{_≡_};
 ghost use Prim.Native.Nat.{_+_};
 ghost use lib.Dec.{leb};
 ghost use Rattle.arithmetic.specs.Offsets.{bufferAt, rangeOf};
-ghost use Rattle.stages.specs.Stages.{sizeOf, isFree, hasEnded, isBlocking, usesBounce, secondAt, liesIn, isSound, zeroKind, request, requestOf};
+ghost use Rattle.stages.specs.Stages.{sizeOf, isFree, hasEnded, isBlocking, usesBounce, secondAt, liesIn, isSound, zeroKind, request};
+ghost use Rattle.stages.specs.Stages.{requestOf};
 
 // What a job was begun as.
 pub enum Job {

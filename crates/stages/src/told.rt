@@ -12,7 +12,8 @@ use arithmetic::zeroes::next_chunk;
 ghost use mathlib.Core.Path.{_≡_};
 ghost use lib.Dec.{ltb};
 ghost use Rattle.arithmetic.specs.Rounding.{pick};
-ghost use Rattle.stages.specs.Stages.{sizeOf, inPhase, endedWith, laterStage, zeroesNext, chunkNext, tailNext, headNext, stageDone, doneNext, unsupportedNext};
+ghost use Rattle.stages.specs.Stages.{sizeOf, inPhase, endedWith, laterStage, zeroesNext, chunkNext, tailNext, headNext, stageDone};
+ghost use Rattle.stages.specs.Stages.{doneNext, unsupportedNext};
 
 // The job goes on in its stage, ends, or enters its next stage.
 pub enum Step {

@@ -215,7 +215,13 @@ module _ (s : Settings) (m : ℕ) (o : StoreOffset) where
   -- a job without one
   bare-ready : (j : Job) (w : Range) (v : IoVector) (x : State) → hasVector j ≡ false → Opens s j w x → isRegular x ≡ true → Ready s m v x
   bare-ready j w v x n k l =
-      record { sound = k .sound; pending = k .pending; on-store = k .on-store; regular = l; vector = λ u. never (sym n ∙ (rw (k .job) at u)) }
+      record {
+        sound = k .sound;
+        pending = k .pending;
+        on-store = k .on-store;
+        regular = l;
+        vector = λ u. never (sym n ∙ (rw (k .job) at u));
+      }
 
   zero-bare : (t : Bool) → hasVector (zeroJob t) ≡ false
   zero-bare true = refl
@@ -307,7 +313,8 @@ stayed d p y memory scratch = tells (accepted d p (d .blockers) y) memory (fille
 -- or it ends: its blocker "leaves when its piece ends", and the bytes of a padded read are handed out
 abbrev pub ended : Dock → ℕ → State → ℕ → State → List ℕ → List ℕ → Told
 ended d p x code y memory scratch =
-    tells (accepted d p (blockersWithout (d .blockers) p x .blockers) y) (handed (shareAt d p) x code (vectorAt d p) memory scratch .memory) scratch
+    tells (accepted d p (blockersWithout (d .blockers) p x .blockers) y)
+    (handed (shareAt d p) x code (vectorAt d p) memory scratch .memory) scratch
 
 -- or it enters its next stage: its blocker leaves first, then the next stage's enters, and where that reads nothing its scratch is filled
 abbrev pub entered : Dock → ℕ → State → State → List ℕ → List ℕ → Told
@@ -449,7 +456,8 @@ module _ (d : Dock) (H : Held d) (p : ℕ) (h : p < 8) (pending : isPending (sta
         })
 
   -- no step of it is refused
-  step-done : (t : Step) → toldOf (d .settings) x code ≡ t → stored d p (steppedAt (d .blockers) p (shareAt d p) x code (vectorAt d p) memory scratch t) ≡ after d p x code memory scratch t
+  step-done : (t : Step) → toldOf (d .settings) x code ≡ t →
+      stored d p (steppedAt (d .blockers) p (shareAt d p) x code (vectorAt d p) memory scratch t) ≡ after d p x code memory scratch t
   step-done (Stays y) e = stays-done y e
   step-done (Ends y) e = ends-done y e
   step-done (Enters y) e = enters-done y e

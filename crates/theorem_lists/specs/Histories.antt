@@ -31,7 +31,8 @@ use Rattle.dock.specs.declared.next.Due.the-variants.{Waiting, Make, Answer, Re
 use Rattle.dock.specs.declared.tell.Collects.{Collects}
 use Rattle.dock.specs.declared.tell.Collected.the-variants.{Final}
 use Rattle.theorem_lists.specs.Store.{Bytes, Choice, piecesFrom, gathered, rangeAsked, stored, fetched, inRange}
-use Rattle.theorem_lists.specs.PlainStore.{Item, begin, carry, tell, collect, nothing, Did, yielded, wrote, zeroed, discarded, rangeFor}
+use Rattle.theorem_lists.specs.PlainStore.{Item, begin, carry, tell, collect, nothing, Did, yielded, wrote, zeroed, discarded}
+use Rattle.theorem_lists.specs.PlainStore.{rangeFor}
 use Rattle.theorem_lists.specs.PlainStore.{Tracked, Plain, plainOpened, plainStep, setAt}
 
 -- ---- events

@@ -21,7 +21,8 @@ use Rattle.stages.specs.Stages.{isPending, toldOf, hasEnded}
 use Rattle.stages.specs.declared.state.State.{State}
 use Rattle.stages.specs.declared.plan.Plan.{Plan}
 use Rattle.stages.specs.declared.plan.Plan.the-variants.{Done as NothingToDo, Started, Refused as PlanRefused}
-use Rattle.dock.specs.Dock.{stateAt, vectorAt, shareAt, vacant, openOf, openBy, openProfileOf, lentFits, lentOf, isOutBy, isOut, overlapsOf, firstFree}
+use Rattle.dock.specs.Dock.{stateAt, vectorAt, shareAt, vacant, openOf, openBy, openProfileOf, lentFits, lentOf, isOutBy, isOut, overlapsOf}
+use Rattle.dock.specs.Dock.{firstFree}
 use Rattle.dock.specs.Begin.{admitAt, withJob, Begins, seated, vectorFor, planFor, decidedFor, beginOf}
 use Rattle.dock.specs.Next.{isSoundIn, isSoundOf}
 use Rattle.dock.specs.Tell.{steps, unstepped, answeredOf, answeredBy, toldAt, Told, refusedTell, stored, tellOf, collectOf}
@@ -33,7 +34,8 @@ use Rattle.dock.specs.declared.tell.Collects.{Collects}
 use Rattle.dock.specs.declared.tell.Collected.the-variants.{Final, Refused as NotCollected}
 use Rattle.theorem_lists.specs.Held.{Held, Made, opens, opens-profile, begins, tells, collects}
 use Rattle.theorem_lists.specs.Keeping.{fresh-held}
-use Rattle.theorem_lists.specs.Calls.{Ready, planned-ready, begunRule, place-done, place-held, after, told-done, told-held, freed-held}
+use Rattle.theorem_lists.specs.Calls.{Ready, planned-ready, begunRule, place-done, place-held, after, told-done, told-held}
+use Rattle.theorem_lists.specs.Calls.{freed-held}
 
 -- ---- what a call is lent
 
@@ -49,13 +51,20 @@ module _ (d : Dock) (H : Held d) (q : Asked) (memory scratch : List ℕ) where
 
   -- what a plan that was decided to start says of its job, and of what is lent
   decided-ready : (x : State) → plan ≡ Started x
-      → (length memory ≡ d .buffers .«data» .length) × Ready (d .settings) (d .buffers .«data» .length) (vectorFor q) x × (firstFree (d .states) < 8)
+      → (length memory ≡ d .buffers .«data» .length) × Ready (d .settings) (d .buffers .«data» .length) (vectorFor q) x
+      × (firstFree (d .states) < 8)
   decided-ready x e =
       let w =
-      started (lentOf (d .settings) (d .buffers) (length memory) (length scratch)) (isValid (length memory) (vectorFor q)) (planFor (d .settings) (d .buffers) q)
+      started (lentOf (d .settings) (d .buffers) (length memory) (length scratch)) (isValid (length memory) (vectorFor q))
+      (planFor (d .settings) (d .buffers) q)
       (overlapsOf (d .states) (d .vectors) (q .job) (vectorFor q)) (firstFree (d .states)) x e in
-      let l = data-long (d .buffers) (length memory) (length scratch) (lent-done (d .settings) (d .buffers) (length memory) (length scratch) (w .lent) .1) in
-      (l, (rw (w .planned) at (planned-ready (d .settings) (d .buffers .«data» .length) (q .offset) (d .buffers) (q .job) (q .length) (q .vector) (rw l at (w .valid)))), w .slot)
+      let l = data-long (d .buffers) (length memory) (length scratch)
+      (lent-done (d .settings) (d .buffers) (length memory) (length scratch) (w .lent) .1) in (
+        l,
+        (rw (w .planned) at (planned-ready (d .settings) (d .buffers .«data» .length) (q .offset) (d .buffers) (q .job) (q .length)
+            (q .vector) (rw l at (w .valid)))),
+        w .slot,
+      )
 
   pub begin-is : beginOf d q memory scratch ≡ begunRule d (vectorFor q) memory scratch plan
   unfolding beginOf
@@ -105,7 +114,8 @@ module _ (d : Dock) (H : Held d) (p : ℕ) where
     abbrev told : Bool → Bool → Told
     told t u =
         stored d p (pick (t && isSoundIn (stateAt d p) (d .settings) (d .buffers))
-        (answeredBy (pick u (Leads (toldOf (d .settings) (stateAt d p) code)) (NoLead NoAnswer)) (d .blockers) p (shareAt d p) (stateAt d p) code (vectorAt d p)
+        (answeredBy (pick u (Leads (toldOf (d .settings) (stateAt d p) code)) (NoLead NoAnswer)) (d .blockers) p (shareAt d p)
+        (stateAt d p) code (vectorAt d p)
         memory scratch) (steps (unstepped (d .blockers) (stateAt d p) Slot) memory scratch))
 
     there : p < 8 → length memory ≡ d .buffers .«data» .length → (t u : Bool) → isOutBy (d .blockers) (stateAt d p) p ≡ t
@@ -120,11 +130,13 @@ module _ (d : Dock) (H : Held d) (p : ℕ) where
     tell-is = go (lentFits (d .buffers) (length memory) (length scratch)) (ltb p 8) refl refl
       where
         go : (a b : Bool) → lentFits (d .buffers) (length memory) (length scratch) ≡ a → ltb p 8 ≡ b
-            → pick a (pick b (told (isOutBy (d .blockers) (stateAt d p) p) (ltb code 200)) (refusedTell d memory scratch Slot)) (refusedTell d memory scratch Buffer)
+            → pick a (pick b (told (isOutBy (d .blockers) (stateAt d p) p) (ltb code 200)) (refusedTell d memory scratch Slot))
+            (refusedTell d memory scratch Buffer)
             ≡ pick a (pick (b && isOutBy (d .blockers) (stateAt d p) p) (pick (ltb code 200) step (refusedTell d memory scratch NoAnswer))
             (refusedTell d memory scratch Slot)) (refusedTell d memory scratch Buffer)
         go true true e f =
-            there (ltb-true p 8 f) (data-long (d .buffers) (length memory) (length scratch) e) (isOutBy (d .blockers) (stateAt d p) p) (ltb code 200) refl
+            there (ltb-true p 8 f) (data-long (d .buffers) (length memory) (length scratch) e) (isOutBy (d .blockers) (stateAt d p) p)
+            (ltb code 200) refl
         go true false e f = refl
         go false b e f = refl
 

@@ -7,12 +7,15 @@ use Prim.Native.Nat.{ℕ, zero, suc, _+_, _-_, _≤_, _<_}
 use native.Mathlib.Nat.{zero-add, suc-add}
 use native.Mathlib.Decide.{decLt}
 use native.Mathlib.Omega.{arith}
-use lib.ListN.{length, take, drop, getD, replicate, length-append, length-take, length-drop, length-replicate, replicate-append-replicate, take-append-drop, getD-replicate, List·getD-append}
-use lib.Seq.{take-at, drop-at, take-take, take-nil, drop-drop, take-append-le, take-append-seam, drop-append-add, length-take-le, getD-take, getD-drop, getD-append-add}
+use lib.ListN.{length, take, drop, getD, replicate, length-append, length-take, length-drop, length-replicate, replicate-append-replicate}
+use lib.ListN.{take-append-drop, getD-replicate, List·getD-append}
+use lib.Seq.{take-at, drop-at, take-take, take-nil, drop-drop, take-append-le, take-append-seam, drop-append-add, length-take-le, getD-take}
+use lib.Seq.{getD-drop, getD-append-add}
 use borrow.Author.Tests.{lt-ltb, le-ltb, le-leb}
 use Rattle.arithmetic.specs.SettingsLaws.{and-left, and-right}
 use Rattle.vectors.specs.declared.vector.Segment.{Segment}
-use Rattle.vectors.specs.Vectors.{sizeOf, liesIn, allSegments, anySegment, put, bytesOf, scatterOf, fillOf, shares, overlapOf, selfOverlapOf}
+use Rattle.vectors.specs.Vectors.{sizeOf, liesIn, allSegments, anySegment, put, bytesOf, scatterOf, fillOf, shares, overlapOf}
+use Rattle.vectors.specs.Vectors.{selfOverlapOf}
 use Rattle.vectors.specs.Places.{inSegment, covered, placeOf}
 use Rattle.vectors.specs.SegmentLaws.{Lies, lies}
 use Rattle.vectors.specs.OverlapLaws.{or-left, or-right, or-cases, apart, inside, outside}
@@ -92,7 +95,8 @@ module _ (l : List ℕ) (a : ℕ) (bs : List ℕ) (h : a + length bs ≤ length 
 pub bytes-append : (d : List ℕ) (ps qs : List Segment) → bytesOf d (ps ++ qs) ≡ bytesOf d ps ++ bytesOf d qs
 unfolding bytesOf
 bytes-append d [] qs = refl
-bytes-append d (p ∷ ps) qs = rw (bytes-append d ps qs) (sym (append-assoc (take (p .length) (drop (p .start) d)) (bytesOf d ps) (bytesOf d qs)))
+bytes-append d (p ∷ ps) qs = rw (bytes-append d ps qs) (sym (append-assoc (take (p .length) (drop (p .start) d)) (bytesOf d ps)
+    (bytesOf d qs)))
 
 -- the first of the segments lies in the data, and so do the others
 head-lies : (n : ℕ) (p : Segment) (ps : List Segment) → allSegments (liesIn n) (p ∷ ps) ≡ true → Lies n p
@@ -114,7 +118,8 @@ bytes-length d (p ∷ ps) e =
     ∙ (omega (arith, part-length d p (head-lies (length d) p ps e), bytes-length d ps (rest-lies (length d) p ps e)))
 
 -- byte i of the segments is the data's byte at their place i
-pub bytes-at : (d : List ℕ) (ps : List Segment) (i : ℕ) → allSegments (liesIn (length d)) ps ≡ true → i < sizeOf ps → getD (bytesOf d ps) i 0 ≡ getD d (placeOf ps i) 0
+pub bytes-at : (d : List ℕ) (ps : List Segment) (i : ℕ) → allSegments (liesIn (length d)) ps ≡ true → i < sizeOf ps →
+    getD (bytesOf d ps) i 0 ≡ getD d (placeOf ps i) 0
 unfolding bytesOf sizeOf placeOf
 bytes-at d [] i e h = absurd (omega arith)
 bytes-at d (p ∷ ps) i e h =
@@ -137,7 +142,8 @@ bytes-at d (p ∷ ps) i e h =
 
 -- ---- scatter and fill, one segment: the bytes of a run no longer than the segment, put at its start
 
-module _ (l : List ℕ) (p : Segment) (ps : List Segment) (bs : List ℕ) (e : allSegments (liesIn (length l)) (p ∷ ps) ≡ true) (m : length bs ≤ p .length) where
+module _ (l : List ℕ) (p : Segment) (ps : List Segment) (bs : List ℕ) (e : allSegments (liesIn (length l)) (p ∷ ps) ≡ true)
+    (m : length bs ≤ p .length) where
   fits : p .start + length bs ≤ length l
   fits = omega (arith, head-lies (length l) p ps e .ends)
 
@@ -154,12 +160,14 @@ taken p src = omega (arith, length-take (p .length) src)
 filling : (p : Segment) (b : ℕ) → length (replicate (p .length) b) ≤ p .length
 filling p b = omega (arith, length-replicate (p .length) b)
 
-pub scatter-length : (l : List ℕ) (ps : List Segment) (src : List ℕ) → allSegments (liesIn (length l)) ps ≡ true → length (scatterOf l ps src) ≡ length l
+pub scatter-length : (l : List ℕ) (ps : List Segment) (src : List ℕ) → allSegments (liesIn (length l)) ps ≡ true →
+    length (scatterOf l ps src) ≡ length l
 unfolding scatterOf
 scatter-length l [] src e = refl
 scatter-length l (p ∷ ps) src e =
     let bs = take (p .length) src in
-    scatter-length (put l (p .start) bs) ps (drop (p .length) src) (still l p ps bs e (taken p src)) ∙ length-put l (p .start) bs (fits l p ps bs e (taken p src))
+    scatter-length (put l (p .start) bs) ps (drop (p .length) src) (still l p ps bs e (taken p src))
+    ∙ length-put l (p .start) bs (fits l p ps bs e (taken p src))
 
 -- a fill is a scatter of one byte over and over
 pub fill-is : (l : List ℕ) (ps : List Segment) (b : ℕ) → fillOf l ps b ≡ scatterOf l ps (replicate (sizeOf ps) b)
@@ -176,22 +184,27 @@ pub fill-length : (l : List ℕ) (ps : List Segment) (b : ℕ) → allSegments (
 fill-length l ps b e = ap length (fill-is l ps b) ∙ scatter-length l ps (replicate (sizeOf ps) b) e
 
 -- off the segments every byte is as it was
-pub scatter-off : (l : List ℕ) (ps : List Segment) (src : List ℕ) (k : ℕ) → allSegments (liesIn (length l)) ps ≡ true → covered ps k ≡ false → getD (scatterOf l ps src) k 0 ≡ getD l k 0
+pub scatter-off : (l : List ℕ) (ps : List Segment) (src : List ℕ) (k : ℕ) → allSegments (liesIn (length l)) ps ≡ true → covered ps k ≡ false
+    → getD (scatterOf l ps src) k 0 ≡ getD l k 0
 unfolding scatterOf covered anySegment
 scatter-off l [] src k e o = refl
 scatter-off l (p ∷ ps) src k e o =
     let bs = take (p .length) src in
-    scatter-off (put l (p .start) bs) ps (drop (p .length) src) k (still l p ps bs e (taken p src)) (or-right (inSegment k p) (anySegment (inSegment k) ps) o)
+    scatter-off (put l (p .start) bs) ps (drop (p .length) src) k (still l p ps bs e (taken p src))
+    (or-right (inSegment k p) (anySegment (inSegment k) ps) o)
     ∙ kept l p ps bs e (taken p src) k (or-left (inSegment k p) (anySegment (inSegment k) ps) o)
 
-pub fill-off : (l : List ℕ) (ps : List Segment) (b : ℕ) (k : ℕ) → allSegments (liesIn (length l)) ps ≡ true → covered ps k ≡ false → getD (fillOf l ps b) k 0 ≡ getD l k 0
+pub fill-off : (l : List ℕ) (ps : List Segment) (b : ℕ) (k : ℕ) → allSegments (liesIn (length l)) ps ≡ true → covered ps k ≡ false →
+    getD (fillOf l ps b) k 0 ≡ getD l k 0
 fill-off l ps b k e o = ap (λ (t : List ℕ). getD t k 0) (fill-is l ps b) ∙ scatter-off l ps (replicate (sizeOf ps) b) k e o
 
 -- on them every byte is the one filled in
-pub fill-on : (l : List ℕ) (ps : List Segment) (b : ℕ) (k : ℕ) → allSegments (liesIn (length l)) ps ≡ true → covered ps k ≡ true → getD (fillOf l ps b) k 0 ≡ b
+pub fill-on : (l : List ℕ) (ps : List Segment) (b : ℕ) (k : ℕ) → allSegments (liesIn (length l)) ps ≡ true → covered ps k ≡ true →
+    getD (fillOf l ps b) k 0 ≡ b
 unfolding fillOf covered anySegment
 fill-on l [] b k e o = absurd (let z : _≡_ {A = ℕ} 0 1 = cc in omega arith)
-fill-on l (p ∷ ps) b k e o = go (anySegment (inSegment k) ps) refl (λ t. fill-on (put l (p .start) (replicate (p .length) b)) ps b k (still l p ps (replicate (p .length) b) e (filling p b)) t)
+fill-on l (p ∷ ps) b k e o = go (anySegment (inSegment k) ps) refl
+    (λ t. fill-on (put l (p .start) (replicate (p .length) b)) ps b k (still l p ps (replicate (p .length) b) e (filling p b)) t)
   where
     bs : List ℕ
     bs = replicate (p .length) b
@@ -203,7 +216,8 @@ fill-on l (p ∷ ps) b k e o = go (anySegment (inSegment k) ps) refl (λ t. fill
         first true q = refl
         first false q = q
 
-    go : (t : Bool) → anySegment (inSegment k) ps ≡ t → (anySegment (inSegment k) ps ≡ true → getD (fillOf (put l (p .start) bs) ps b) k 0 ≡ b) → getD (fillOf (put l (p .start) bs) ps b) k 0 ≡ b
+    go : (t : Bool) → anySegment (inSegment k) ps ≡ t → (anySegment (inSegment k) ps ≡ true → getD (fillOf (put l (p .start) bs) ps b) k 0
+        ≡ b) → getD (fillOf (put l (p .start) bs) ps b) k 0 ≡ b
     go true t f = f t
     go false t f =
         let i = inside k p (here t o) in
@@ -215,7 +229,8 @@ fill-on l (p ∷ ps) b k e o = go (anySegment (inSegment k) ps) refl (λ t. fill
 -- ---- gather after scatter
 
 -- a segment apart from the others keeps its bytes
-scatter-apart : (l : List ℕ) (q : Segment) (ps : List Segment) (src : List ℕ) → 0 < q .length → allSegments (liesIn (length l)) ps ≡ true → anySegment (shares q) ps ≡ false
+scatter-apart : (l : List ℕ) (q : Segment) (ps : List Segment) (src : List ℕ) → 0 < q .length → allSegments (liesIn (length l)) ps ≡ true →
+    anySegment (shares q) ps ≡ false
     → take (q .length) (drop (q .start) (scatterOf l ps src)) ≡ take (q .length) (drop (q .start) l)
 unfolding scatterOf anySegment
 scatter-apart l q [] src z e o = refl
@@ -223,23 +238,30 @@ scatter-apart l q (p ∷ ps) src z e o =
     let bs = take (p .length) src in
     let t = taken p src in
     let f = fits l p ps bs e t in
-    scatter-apart (put l (p .start) bs) q ps (drop (p .length) src) z (still l p ps bs e t) (or-right (shares q p) (anySegment (shares q) ps) o)
+    scatter-apart (put l (p .start) bs) q ps (drop (p .length) src) z (still l p ps bs e t)
+    (or-right (shares q p) (anySegment (shares q) ps) o)
     ∙ ⊎-elim (λ k. put-before l (p .start) bs f (q .start) (q .length) k)
     (λ k. put-after l (p .start) bs f (q .start) (q .length) (omega arith))
     (apart q p z (head-lies (length l) p ps e .positive) (or-left (shares q p) (anySegment (shares q) ps) o))
 
 -- and so do all the segments of a list that does not overlap the ones written
-pub scatter-others : (l : List ℕ) (qs ps : List Segment) (src : List ℕ) → allSegments (liesIn (length l)) qs ≡ true → allSegments (liesIn (length l)) ps ≡ true → overlapOf qs ps ≡ false
+pub scatter-others : (l : List ℕ) (qs ps : List Segment) (src : List ℕ) → allSegments (liesIn (length l)) qs ≡ true →
+    allSegments (liesIn (length l)) ps ≡ true → overlapOf qs ps ≡ false
     → bytesOf (scatterOf l ps src) qs ≡ bytesOf l qs
 unfolding bytesOf overlapOf anySegment
 scatter-others l [] ps src d e o = refl
 scatter-others l (q ∷ qs) ps src d e o =
     let a = anySegment (shares q) ps in
     let b = anySegment (λ p. anySegment (shares p) ps) qs in
-    rw (scatter-apart l q ps src (head-lies (length l) q qs d .positive) e (or-left a b o), scatter-others l qs ps src (rest-lies (length l) q qs d) e (or-right a b o))
+    rw (
+      scatter-apart l q ps src (head-lies (length l) q qs d .positive) e (or-left a b o),
+      scatter-others l qs ps src
+          (rest-lies (length l) q qs d) e (or-right a b o),
+    )
 
 -- what is scattered over segments that do not overlap is gathered from them again
-pub gather-scatter : (l : List ℕ) (ps : List Segment) (src : List ℕ) → allSegments (liesIn (length l)) ps ≡ true → selfOverlapOf ps ≡ false → length src ≡ sizeOf ps
+pub gather-scatter : (l : List ℕ) (ps : List Segment) (src : List ℕ) → allSegments (liesIn (length l)) ps ≡ true → selfOverlapOf ps ≡ false
+    → length src ≡ sizeOf ps
     → bytesOf (scatterOf l ps src) ps ≡ src
 unfolding scatterOf bytesOf sizeOf selfOverlapOf
 gather-scatter l [] [] h d e = refl
@@ -259,7 +281,8 @@ gather-scatter l (p ∷ ps) src h d e =
     ∙ take-append-drop n src
 
 -- byte i of src then stands at place i
-pub scatter-at : (l : List ℕ) (ps : List Segment) (src : List ℕ) (i : ℕ) → allSegments (liesIn (length l)) ps ≡ true → selfOverlapOf ps ≡ false → length src ≡ sizeOf ps → i < sizeOf ps
+pub scatter-at : (l : List ℕ) (ps : List Segment) (src : List ℕ) (i : ℕ) → allSegments (liesIn (length l)) ps ≡ true → selfOverlapOf ps
+    ≡ false → length src ≡ sizeOf ps → i < sizeOf ps
     → getD (scatterOf l ps src) (placeOf ps i) 0 ≡ getD src i 0
 scatter-at l ps src i e d n h =
     let long = scatter-length l ps src e in
@@ -283,7 +306,8 @@ place-covered (p ∷ ps) i h = elim (decLt i (p .length)) [
 pub covered-place : (ps : List Segment) (k : ℕ) → covered ps k ≡ true → (i : ℕ) × (i < sizeOf ps) × (placeOf ps i ≡ k)
 unfolding covered anySegment sizeOf placeOf
 covered-place [] k e = absurd (let z : _≡_ {A = ℕ} 0 1 = cc in omega arith)
-covered-place (p ∷ ps) k e = ⊎-elim (λ a. here a) (λ b. there (covered-place ps k b)) (or-cases (inSegment k p) (anySegment (inSegment k) ps) e)
+covered-place (p ∷ ps) k e = ⊎-elim (λ a. here a) (λ b. there (covered-place ps k b))
+    (or-cases (inSegment k p) (anySegment (inSegment k) ps) e)
   where
     here : inSegment k p ≡ true → (i : ℕ) × (i < sizeOf (p ∷ ps)) × (placeOf (p ∷ ps) i ≡ k)
     here a =

@@ -11,7 +11,8 @@ use Rattle.arithmetic.specs.declared.refusals.Outcome.the-variants.{Done}
 use Rattle.vectors.specs.declared.vector.Segment.{Segment}
 use Rattle.vectors.specs.declared.vector.IoVector.{IoVector}
 use Rattle.vectors.specs.declared.vector.Changed.{Changed}
-use Rattle.vectors.specs.Vectors.{segmentsOf, segmentsFit, isValid, refusedVector, changedTo, pushOf, insertOf, appendOf, headOf, tailOf, splitOf, splitTailOf}
+use Rattle.vectors.specs.Vectors.{segmentsOf, segmentsFit, isValid, refusedVector, changedTo, pushOf, insertOf, appendOf, headOf}
+use Rattle.vectors.specs.Vectors.{tailOf, splitOf, splitTailOf}
 use Rattle.vectors.specs.SegmentLaws.{fit-true, valid, segments-of, vector-valid}
 use Rattle.vectors.specs.SplitLaws.{head-fits, tail-fits}
 
@@ -35,11 +36,13 @@ pub pushed : (n : ℕ) (v : IoVector) (p : Segment) → EditedTo n (segmentsOf v
 unfolding pushOf
 pushed n v p = changed n v (segmentsOf v ++ (p ∷ []))
 
-pub inserted : (n : ℕ) (v : IoVector) (i : ℕ) (p : Segment) → EditedTo n (take i (segmentsOf v) ++ (p ∷ drop i (segmentsOf v))) (insertOf n v i p) ⊎ (insertOf n v i p ≡ refusedVector v)
+pub inserted : (n : ℕ) (v : IoVector) (i : ℕ) (p : Segment) →
+    EditedTo n (take i (segmentsOf v) ++ (p ∷ drop i (segmentsOf v))) (insertOf n v i p) ⊎ (insertOf n v i p ≡ refusedVector v)
 unfolding insertOf
 inserted n v i p = go (leb i (v .count)) refl
   where
-    go : (t : Bool) → leb i (v .count) ≡ t → EditedTo n (take i (segmentsOf v) ++ (p ∷ drop i (segmentsOf v))) (insertOf n v i p) ⊎ (insertOf n v i p ≡ refusedVector v)
+    go : (t : Bool) → leb i (v .count) ≡ t → EditedTo n (take i (segmentsOf v) ++ (p ∷ drop i (segmentsOf v))) (insertOf n v i p)
+        ⊎ (insertOf n v i p ≡ refusedVector v)
     go true e = rw e (changed n v (take i (segmentsOf v) ++ (p ∷ drop i (segmentsOf v))))
     go false e = inr (rw e)
 
@@ -55,11 +58,19 @@ appended n v w = go (isValid n w) refl
 module _ (n : ℕ) (v : IoVector) (mid : ℕ) (e : isValid n v ≡ true) where
   pub split-head : (segmentsOf (splitOf n v mid .head) ≡ headOf (segmentsOf v) mid) × (isValid n (splitOf n v mid .head) ≡ true)
   unfolding splitOf
-  split-head = rw e (segments-of (headOf (segmentsOf v) mid), vector-valid n (headOf (segmentsOf v) mid) (head-fits n (segmentsOf v) mid (fit-true n (segmentsOf v) (valid n v e .fit))))
+  split-head = rw e (
+    segments-of (headOf (segmentsOf v) mid),
+    vector-valid n (headOf (segmentsOf v) mid)
+        (head-fits n (segmentsOf v) mid (fit-true n (segmentsOf v) (valid n v e .fit))),
+  )
 
   pub split-tail : (segmentsOf (splitOf n v mid .tail) ≡ tailOf (segmentsOf v) mid) × (isValid n (splitOf n v mid .tail) ≡ true)
   unfolding splitOf
-  split-tail = rw e (segments-of (tailOf (segmentsOf v) mid), vector-valid n (tailOf (segmentsOf v) mid) (tail-fits n (segmentsOf v) mid (fit-true n (segmentsOf v) (valid n v e .fit))))
+  split-tail = rw e (
+    segments-of (tailOf (segmentsOf v) mid),
+    vector-valid n (tailOf (segmentsOf v) mid)
+        (tail-fits n (segmentsOf v) mid (fit-true n (segmentsOf v) (valid n v e .fit))),
+  )
 
   pub tail-only : splitTailOf n v mid .vector ≡ splitOf n v mid .tail
   unfolding splitOf splitTailOf

@@ -34,8 +34,11 @@ or-cases false b e = inr e
 
 pub inside : (k : ℕ) (p : Segment) → inSegment k p ≡ true → (p .start ≤ k) × (k < p .start + p .length)
 unfolding inSegment
-inside k p e =
-    (leb-true _ _ (and-left (leb (p .start) k) (ltb k (p .start + p .length)) e), ltb-true _ _ (and-right (leb (p .start) k) (ltb k (p .start + p .length)) e))
+inside k p e = (
+  leb-true _ _ (and-left (leb (p .start) k) (ltb k (p .start + p .length)) e),
+  ltb-true _ _
+      (and-right (leb (p .start) k) (ltb k (p .start + p .length)) e),
+)
 
 pub inside-true : (k : ℕ) (p : Segment) → p .start ≤ k → k < p .start + p .length → inSegment k p ≡ true
 unfolding inSegment
@@ -92,7 +95,8 @@ module _ (test : Segment → Bool) where
   pub any-found : (ps : List Segment) (d : Segment) → anySegment test ps ≡ true → (i : ℕ) × (i < length ps) × (test (getD ps i d) ≡ true)
   unfolding anySegment
   any-found [] d e = absurd (let z : _≡_ {A = ℕ} 0 1 = cc in omega arith)
-  any-found (p ∷ ps) d e = ⊎-elim (λ a. (0, omega arith, a)) (λ b. let r = any-found ps d b in (suc (r .0), omega (arith, r .1), r .2)) (or-cases (test p) (anySegment test ps) e)
+  any-found (p ∷ ps) d e = ⊎-elim (λ a. (0, omega arith, a)) (λ b. let r = any-found ps d b in (suc (r .0), omega (arith, r .1), r .2))
+      (or-cases (test p) (anySegment test ps) e)
 
   pub any-here : (ps : List Segment) (d : Segment) (i : ℕ) → i < length ps → test (getD ps i d) ≡ true → anySegment test ps ≡ true
   unfolding anySegment
@@ -115,7 +119,8 @@ overlap-index ps qs k a b =
     let x = any-found (inSegment k) ps none a in
     let y = any-found (inSegment k) qs none b in
     any-here (λ p. anySegment (shares p) qs) ps none (x .0) (x .1)
-    (any-here (shares (getD ps (x .0) none)) qs none (y .0) (y .1) (shares-index (getD ps (x .0) none) (getD qs (y .0) none) k (x .2) (y .2)))
+    (any-here (shares (getD ps (x .0) none)) qs none (y .0) (y .1)
+    (shares-index (getD ps (x .0) none) (getD qs (y .0) none) k (x .2) (y .2)))
 
 -- and where they overlap there is one
 pub index-overlap : (ps qs : List Segment) → overlapOf ps qs ≡ true → (k : ℕ) × (covered ps k ≡ true) × (covered qs k ≡ true)
@@ -148,17 +153,22 @@ overlap-sym ps qs = from-both (overlapOf ps qs) (overlapOf qs ps) (turn ps qs) (
 -- ---- one list
 
 -- of segments that do not overlap, none shares an index with a later one
-pub self-apart : (ps : List Segment) (i j : ℕ) → selfOverlapOf ps ≡ false → i < j → j < length ps → shares (getD ps i none) (getD ps j none) ≡ false
+pub self-apart : (ps : List Segment) (i j : ℕ) → selfOverlapOf ps ≡ false → i < j → j < length ps → shares (getD ps i none) (getD ps j none)
+    ≡ false
 unfolding selfOverlapOf
 self-apart [] i j e h l = absurd (omega arith)
 self-apart (p ∷ ps) i zero e h l = absurd (omega arith)
-self-apart (p ∷ ps) zero (suc j) e h l = any-not (shares p) ps none j (le-of-suc-le-suc l) (or-left (anySegment (shares p) ps) (selfOverlapOf ps) e)
-self-apart (p ∷ ps) (suc i) (suc j) e h l = self-apart ps i j (or-right (anySegment (shares p) ps) (selfOverlapOf ps) e) (omega arith) (le-of-suc-le-suc l)
+self-apart (p ∷ ps) zero (suc j) e h l = any-not (shares p) ps none j (le-of-suc-le-suc l)
+    (or-left (anySegment (shares p) ps) (selfOverlapOf ps) e)
+self-apart (p ∷ ps) (suc i) (suc j) e h l = self-apart ps i j (or-right (anySegment (shares p) ps) (selfOverlapOf ps) e) (omega arith)
+    (le-of-suc-le-suc l)
 
 -- and where two share one, they overlap
-pub self-shared : (ps : List Segment) (i j : ℕ) → i < j → j < length ps → shares (getD ps i none) (getD ps j none) ≡ true → selfOverlapOf ps ≡ true
+pub self-shared : (ps : List Segment) (i j : ℕ) → i < j → j < length ps → shares (getD ps i none) (getD ps j none) ≡ true → selfOverlapOf ps
+    ≡ true
 unfolding selfOverlapOf
 self-shared [] i j h l e = absurd (omega arith)
 self-shared (p ∷ ps) i zero h l e = absurd (omega arith)
 self-shared (p ∷ ps) zero (suc j) h l e = rw (any-here (shares p) ps none j (le-of-suc-le-suc l) e)
-self-shared (p ∷ ps) (suc i) (suc j) h l e = rw (self-shared ps i j (omega arith) (le-of-suc-le-suc l) e) (or-true (anySegment (shares p) ps))
+self-shared (p ∷ ps) (suc i) (suc j) h l e = rw (self-shared ps i j (omega arith) (le-of-suc-le-suc l) e)
+    (or-true (anySegment (shares p) ps))

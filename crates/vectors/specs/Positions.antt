@@ -44,4 +44,5 @@ pub record Cut (v : IoVector) (c : SplitPosition) : Type 0 where
   pub small : sizeOf (segmentsOf v) ≤ 1048576
   pub reach : c .index ≤ v .count
   pub part : (c .inside ≡ 0 → ⊥) → (c .index < v .count) × (c .inside < getD (v .segments) (c .index) none .length)
-  pub ends : (c .inside ≡ 0 → ⊥) → getD (v .segments) (c .index) none .start + getD (v .segments) (c .index) none .length < 18446744073709551616
+  pub ends : (c .inside ≡ 0 → ⊥) → getD (v .segments) (c .index) none .start + getD (v .segments)
+      (c .index) none .length < 18446744073709551616

@@ -1,4 +1,5 @@
--- Laws of a split: bytes, sizes and flat positions of head and tail are those of the whole, and parts of a list that fits fit. Assumes nothing.
+-- Laws of a split: bytes, sizes and flat positions of head and tail are those of the whole, and parts of a list that fits fit. Assumes
+-- nothing.
 use mathlib.Core.Path.{_≡_, refl, sym, ap, _∙_}
 use mathlib.Core.Bool.{Bool, true, false}
 use mathlib.Core.List.{List, [], _∷_, _++_, append-assoc, append-nil}
@@ -45,10 +46,20 @@ cases p ps mid = elim (decLt 0 mid) [
   | yes h ↦
       let z : mid ≡ 0 → ⊥ = omega arith in
       elim (decLt mid (p .length)) [
-        | yes l ↦ inr (inl (record { some = h; is = l; head = simp (ne-eqb mid 0 z, lt-ltb mid (p .length) l); tail = simp (ne-eqb mid 0 z, lt-ltb mid (p .length) l) }))
+        | yes l ↦ inr (inl (record {
+          some = h;
+          is = l;
+          head = simp (ne-eqb mid 0 z, lt-ltb mid (p .length) l);
+          tail = simp (ne-eqb mid 0 z, lt-ltb mid (p .length) l);
+        }))
         | no l ↦
             let k : p .length ≤ mid = omega arith in
-            inr (inr (record { some = h; is = k; head = simp (ne-eqb mid 0 z, le-ltb mid (p .length) k); tail = simp (ne-eqb mid 0 z, le-ltb mid (p .length) k) }))
+            inr (inr (record {
+              some = h;
+              is = k;
+              head = simp (ne-eqb mid 0 z, le-ltb mid (p .length) k);
+              tail = simp (ne-eqb mid 0 z, le-ltb mid (p .length) k);
+            }))
       ]
   | no h ↦ let z : mid ≡ 0 = omega arith in inl (record { is = z; head = simp (eq-eqb mid 0 z); tail = simp (eq-eqb mid 0 z) })
 ]
@@ -122,8 +133,12 @@ module _ (n : ℕ) where
   head-lies (p ∷ ps) mid e =
       let l = lies n p (and-left (liesIn n p) (allSegments (liesIn n) ps) e) in
       ⊎-elim (λ b. rw (b .head))
-      (λ r. ⊎-elim (λ w. rw (w .head) (both _ _ (lies-true n (segment (p .start) mid) (record { positive = w .some; ends = omega (arith, w .is, l .ends) })) refl))
-      (λ b. rw (b .head) (both _ _ (and-left (liesIn n p) (allSegments (liesIn n) ps) e) (head-lies ps (mid - p .length) (and-right (liesIn n p) (allSegments (liesIn n) ps) e)))) r)
+      (λ r. ⊎-elim (λ w. rw (w .head) (both _ _ (lies-true n (segment (p .start) mid) (record {
+        positive = w .some;
+        ends = omega (arith, w .is, l .ends);
+      })) refl))
+      (λ b. rw (b .head) (both _ _ (and-left (liesIn n p) (allSegments (liesIn n) ps) e)
+      (head-lies ps (mid - p .length) (and-right (liesIn n p) (allSegments (liesIn n) ps) e)))) r)
       (cases p ps mid)
 
   tail-lies : (ps : List Segment) (mid : ℕ) → allSegments (liesIn n) ps ≡ true → allSegments (liesIn n) (tailOf ps mid) ≡ true
@@ -133,7 +148,8 @@ module _ (n : ℕ) where
       let l = lies n p (and-left (liesIn n p) (allSegments (liesIn n) ps) e) in
       let r = and-right (liesIn n p) (allSegments (liesIn n) ps) e in
       ⊎-elim (λ b. rw (b .tail) e)
-      (λ k. ⊎-elim (λ w. rw (w .tail) (both _ _ (lies-true n (segment (p .start + mid) (p .length - mid)) (record { positive = omega (arith, w .is); ends = omega (arith, w .is, l .ends) })) r))
+      (λ k. ⊎-elim (λ w. rw (w .tail) (both _ _ (lies-true n (segment (p .start + mid) (p .length - mid))
+      (record { positive = omega (arith, w .is); ends = omega (arith, w .is, l .ends) })) r))
       (λ b. rw (b .tail) (tail-lies ps (mid - p .length) r)) k)
       (cases p ps mid)
 
@@ -163,13 +179,15 @@ unfolding placeOf sizeOf headOf
 head-place [] mid i h l = absurd (omega arith)
 head-place (p ∷ ps) mid i h l =
     ⊎-elim (λ b. absurd (omega (arith, b .is)))
-    (λ r. ⊎-elim (λ w. inside w) (λ b. past b (λ g. head-place ps (mid - p .length) (i - p .length) (omega (arith, b .is)) (omega arith))) r)
+    (λ r. ⊎-elim (λ w. inside w) (λ b. past b (λ g. head-place ps (mid - p .length) (i - p .length) (omega (arith, b .is)) (omega arith)))
+    r)
     (cases p ps mid)
   where
     inside : Within p ps mid → placeOf (headOf (p ∷ ps) mid) i ≡ placeOf (p ∷ ps) i
     inside w = let k : i < p .length = omega (arith, w .is) in rw (w .head) (rw (lt-ltb i mid h, lt-ltb i (p .length) k))
 
-    past : Past p ps mid → (p .length ≤ i → placeOf (headOf ps (mid - p .length)) (i - p .length) ≡ placeOf ps (i - p .length)) → placeOf (headOf (p ∷ ps) mid) i ≡ placeOf (p ∷ ps) i
+    past : Past p ps mid → (p .length ≤ i → placeOf (headOf ps (mid - p .length)) (i - p .length) ≡ placeOf ps (i - p .length)) →
+        placeOf (headOf (p ∷ ps) mid) i ≡ placeOf (p ∷ ps) i
     past b f = rw (b .head) (elim (decLt i (p .length)) [
       | yes k ↦ rw (lt-ltb i (p .length) k)
       | no k ↦ let g : p .length ≤ i = omega arith in rw (le-ltb i (p .length) g) (f g)
@@ -199,7 +217,8 @@ tail-place (p ∷ ps) mid i l =
           rw (le-ltb i (p .length - mid) g, le-ltb (mid + i) (p .length) m) (ap (placeOf ps) e)
     ])
 
-    past : Past p ps mid → placeOf (tailOf ps (mid - p .length)) i ≡ placeOf ps (mid - p .length + i) → placeOf (tailOf (p ∷ ps) mid) i ≡ placeOf (p ∷ ps) (mid + i)
+    past : Past p ps mid → placeOf (tailOf ps (mid - p .length)) i ≡ placeOf ps (mid - p .length + i) → placeOf (tailOf (p ∷ ps) mid) i
+        ≡ placeOf (p ∷ ps) (mid + i)
     past b f =
         let m : p .length ≤ mid + i = omega (arith, b .is) in
         let e : mid - p .length + i ≡ mid + i - p .length = omega (arith, b .is) in
@@ -231,7 +250,8 @@ picked false p a b = refl
 -- one segment more in front
 head-behind : (p : Segment) (ps : List Segment) (c : SplitPosition) → headAt (p ∷ ps) (behind 1 c) ≡ p ∷ headAt ps c
 unfolding headAt
-head-behind p ps c = rw add-one (picked (eqb (c .inside) 0) p (take (c .index) ps) (take (c .index) ps ++ (segment (getD ps (c .index) none .start) (c .inside) ∷ [])))
+head-behind p ps c = rw add-one (picked (eqb (c .inside) 0) p (take (c .index) ps)
+    (take (c .index) ps ++ (segment (getD ps (c .index) none .start) (c .inside) ∷ [])))
 
 tail-behind : (p : Segment) (ps : List Segment) (c : SplitPosition) → tailAt (p ∷ ps) (behind 1 c) ≡ tailAt ps c
 unfolding tailAt
@@ -242,14 +262,16 @@ pub record Located (ps : List Segment) (mid : ℕ) : Type 0 where
   pub head : headAt ps (positionOf ps mid) ≡ headOf ps mid
   pub tail : tailAt ps (positionOf ps mid) ≡ tailOf ps mid
   pub reach : positionOf ps mid .index ≤ length ps
-  pub part : (positionOf ps mid .inside ≡ 0 → ⊥) → (positionOf ps mid .index < length ps) × (positionOf ps mid .inside < getD ps (positionOf ps mid .index) none .length)
+  pub part : (positionOf ps mid .inside ≡ 0 → ⊥) → (positionOf ps mid .index < length ps)
+      × (positionOf ps mid .inside < getD ps (positionOf ps mid .index) none .length)
 
 pub located : (n : ℕ) (ps : List Segment) (mid : ℕ) → allSegments (liesIn n) ps ≡ true → Located ps mid
 unfolding positionOf headOf tailOf headAt tailAt allSegments
 located n [] mid e = record { head = refl; tail = refl; reach = omega arith; part = λ z. absurd (z refl) }
 located n (p ∷ ps) mid e =
     let l = lies n p (and-left (liesIn n p) (allSegments (liesIn n) ps) e) in
-    ⊎-elim (λ b. first b l) (λ r. ⊎-elim (λ w. inside w) (λ b. past b (located n ps (mid - p .length) (and-right (liesIn n p) (allSegments (liesIn n) ps) e))) r) (cases p ps mid)
+    ⊎-elim (λ b. first b l) (λ r. ⊎-elim (λ w. inside w) (λ b. past b
+    (located n ps (mid - p .length) (and-right (liesIn n p) (allSegments (liesIn n) ps) e))) r) (cases p ps mid)
   where
     first : Before p ps mid → Lies n p → Located (p ∷ ps) mid
     first b l =

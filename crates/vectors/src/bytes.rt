@@ -91,7 +91,8 @@ impl IoVector {
     // `slice`, as long as the vector, becomes its bytes. Refused where it is of another length.
     pub fn copy_into_slice(self, data: &[u8], slice: &mut [u8]) -> Outcome
         ensures outcome { λ r. ⌜ r ≡ outcomeOf (copies (now («data» .entry)) self (length (now (slice .entry)))) ⌝ }
-        ensures bytes { λ _. ⌜ now (slice .exit) ≡ pick (copies (now («data» .entry)) self (length (now (slice .entry)))) (bytesOf (now («data» .entry)) (segmentsOf self)) (now (slice .entry)) ⌝ }
+        ensures bytes { λ _. ⌜ now (slice .exit) ≡ pick (copies (now («data» .entry)) self (length (now (slice .entry))))
+            (bytesOf (now («data» .entry)) (segmentsOf self)) (now (slice .entry)) ⌝ }
     {
         if !self.valid(data.len()) {
             return Outcome::Refused(Refusal::Segment);
@@ -107,7 +108,8 @@ impl IoVector {
     // Refused where it is of another length.
     pub fn copy_from_slice(self, data: &mut [u8], slice: &[u8]) -> Outcome
         ensures outcome { λ r. ⌜ r ≡ outcomeOf (copies (now («data» .entry)) self (length (now (slice .entry)))) ⌝ }
-        ensures bytes { λ _. ⌜ now («data» .exit) ≡ pick (copies (now («data» .entry)) self (length (now (slice .entry)))) (scatterOf (now («data» .entry)) (segmentsOf self) (now (slice .entry))) (now («data» .entry)) ⌝ }
+        ensures bytes { λ _. ⌜ now («data» .exit) ≡ pick (copies (now («data» .entry)) self (length (now (slice .entry))))
+            (scatterOf (now («data» .entry)) (segmentsOf self) (now (slice .entry))) (now («data» .entry)) ⌝ }
     {
         if !self.valid(data.len()) {
             return Outcome::Refused(Refusal::Segment);
@@ -122,7 +124,8 @@ impl IoVector {
     // Every byte of the segments becomes `value`.
     pub fn fill(self, data: &mut [u8], value: u8) -> Outcome
         ensures outcome { λ r. ⌜ r ≡ outcomeOf (isValid (length (now («data» .entry))) self) ⌝ }
-        ensures bytes { λ _. ⌜ now («data» .exit) ≡ pick (isValid (length (now («data» .entry))) self) (fillOf (now («data» .entry)) (segmentsOf self) value) (now («data» .entry)) ⌝ }
+        ensures bytes { λ _. ⌜ now («data» .exit) ≡ pick (isValid (length (now («data» .entry))) self)
+            (fillOf (now («data» .entry)) (segmentsOf self) value) (now («data» .entry)) ⌝ }
     {
         if !self.valid(data.len()) {
             return Outcome::Refused(Refusal::Segment);
@@ -134,7 +137,8 @@ impl IoVector {
     // A copy in a lent `buffer`, as long as the vector: there is no allocation. Refused where it is of another length.
     pub fn try_into_owned(self, data: &[u8], buffer: &mut [u8]) -> Outcome
         ensures outcome { λ r. ⌜ r ≡ outcomeOf (copies (now («data» .entry)) self (length (now (buffer .entry)))) ⌝ }
-        ensures bytes { λ _. ⌜ now (buffer .exit) ≡ pick (copies (now («data» .entry)) self (length (now (buffer .entry)))) (bytesOf (now («data» .entry)) (segmentsOf self)) (now (buffer .entry)) ⌝ }
+        ensures bytes { λ _. ⌜ now (buffer .exit) ≡ pick (copies (now («data» .entry)) self (length (now (buffer .entry))))
+            (bytesOf (now («data» .entry)) (segmentsOf self)) (now (buffer .entry)) ⌝ }
     {
         self.copy_into_slice(data, buffer)
     }
