@@ -200,7 +200,7 @@ abbrev pub unplaced : Blockers → Begun → Admission
 unplaced b a = record { answer = a; blockers = b; state = vacant }
 
 -- A dock of no call's making may have a blocker where the slot is free: the begin is then refused, and changes nothing. No dock that calls
--- made is refused so: MadeLaws of crate histories.
+-- made is refused so: MadeLaws of crate theorem_lists.
 abbrev pub admitBy : Outcome → Blockers → ℕ → State → Entered → Admitted
 admitBy o b p x e =
     whenDone o (record {

@@ -87,7 +87,7 @@ abbrev pub unstepped : Blockers → State → Refusal → Stepping
 unstepped b x r = record { outcome = Refused r; blockers = b; state = x }
 
 -- A dock of no call's making may lack the blocker that leaves, have one where another enters, or a vector of other bytes than the stage's:
--- the tell is then refused, and changes nothing. Law `made-tell` of crate histories: no dock that calls made is refused so.
+-- the tell is then refused, and changes nothing. Law `made-tell` of crate theorem_lists: no dock that calls made is refused so.
 
 -- the job goes on in its stage, its blocker too; "scratch is filled at the last read's tell"
 abbrev pub staysAt : Blockers → ℕ → State → IoVector → List ℕ → List ℕ → Stepped
