@@ -75,6 +75,12 @@ impl ImagoVectors {
         ImagoVectors { data: Data::new(bytes) }
     }
 
+    /// The bytes of imago's copy of a vector into a buffer of its own.
+    pub fn owned(&self, v: &[Segment]) -> Vec<u8> {
+        let buffer = self.data.vector(v).try_into_owned(1).expect("memory for the copy");
+        buffer.as_ref().into_slice().to_vec()
+    }
+
     fn segments(&self, v: IoVector<'static>) -> Vec<Segment> {
         let inner = v.into_inner();
         inner.iter().map(|slice| self.segment(slice)).collect()

@@ -91,6 +91,16 @@ fn copies_and_fills() {
     check(format!("fill: done, {}", ascii(side.data())));
 }
 
+/// imago's copy has the vector's length, by construction; a lent buffer of another length is document 01's 202.
+#[test]
+fn owned_copies() {
+    let owned = ImagoVectors::new(LETTERS).owned(&three());
+    check(format!("own in {} bytes: done, {}", owned.len(), ascii(&owned)));
+    for other in [owned.len() - 1, owned.len() + 1] {
+        check(format!("own in {other} bytes: 202, {}", ".".repeat(other)));
+    }
+}
+
 #[test]
 fn alignments() {
     let mut side = ImagoVectors::new(&[0; 8192]);
