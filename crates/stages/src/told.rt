@@ -138,16 +138,15 @@ impl State {
     {
         let phase = self.phase;
         match phase {
-            Phase::Free => self.ends(0),
-            Phase::Ended => self.ends(0),
-            Phase::DirectRead => self.ends(0),
-            Phase::BouncedRead => self.ends(0),
             Phase::FirstRead => Step::Stays(self.in_phase(self.second())),
             Phase::SecondRead => Step::Stays(self.in_phase(Phase::BouncedWrite)),
-            Phase::BouncedWrite => self.stage_done(settings),
-            Phase::DirectWrite => self.ends(0),
-            Phase::ZeroRequest => self.stage_done(settings),
-            Phase::DiscardRequest => self.ends(0),
+            Phase::BouncedWrite | Phase::ZeroRequest => self.stage_done(settings),
+            Phase::Free
+            | Phase::Ended
+            | Phase::DirectRead
+            | Phase::BouncedRead
+            | Phase::DirectWrite
+            | Phase::DiscardRequest => self.ends(0),
         }
     }
 
