@@ -319,7 +319,6 @@ fn perform(
     text(line);
     text(b":");
     let after = event(dock, e, marks, store, data, scratch);
-    text(b"\n");
     trace::state(after, marks, store, data, scratch);
     after
 }

@@ -183,8 +183,9 @@ fn checksum(bytes: &[u8]) -> u64 {
     sum % 65536
 }
 
-// Every slot that has a job, and the checksums.
+// After an event's answer: the line's end, every slot that has a job, and the checksums.
 pub fn state(dock: Dock, marks: &mut [u64], store: &[u8], data: &[u8], scratch: &[u8]) {
+    text(b"\n");
     slots(dock, marks, data, scratch);
     text(b" ");
     pair(b"store", checksum(store));
