@@ -22,10 +22,6 @@
 // bytes modulo 65536.
 // A program has no exit status, so the last line tells: `ok` where the script ran to its end; `error: line N: ..` where line
 // N is neither event nor comment, and the run stops there; `error: ..` for a script of more than 65535 bytes, which is not run.
-mod store; // the stand-in store
-
-use crate::store::Act;
-use crate::store::CarryOutcome;
 use arithmetic::offsets::StoreOffset;
 use arithmetic::refusals::Outcome;
 use arithmetic::settings::Buffers;
@@ -36,6 +32,8 @@ use dock::next::Due;
 use dock::open::Opened;
 use dock::tell::Telling;
 use libc::STDIN_FILENO;
+use replay_store::Act;
+use replay_store::CarryOutcome;
 use replay_text::marks;
 use replay_text::script;
 use replay_text::script::Event;
@@ -212,7 +210,7 @@ fn carry(
         text(b" carried out already");
         return;
     }
-    match store::carry(dock, slot, act, store, data, scratch) {
+    match replay_store::carry(dock, slot, act, store, data, scratch) {
         CarryOutcome::Done => {
             marks::carry(marks, slot, act.code);
             text(b" done");
@@ -236,7 +234,7 @@ fn act_of(e: Event) -> Act {
 }
 
 fn fill(bytes: &mut [u8], e: Event) {
-    store::fill(bytes, e.number(0), e.number(1), byte(e.number(2)));
+    replay_store::fill(bytes, e.number(0), e.number(1), byte(e.number(2)));
     text(b" done");
 }
 

@@ -1,28 +1,25 @@
--- `replay_run::store::fill_where` is safe and ends: each turn puts one byte. Assumes nothing.
+-- `replay_store::keep` is safe and ends: each turn puts one byte of the piece. Assumes nothing.
 use borrow.Author.Needs.{needs}
 use Prim.Native.Nat.{_≤_, _-_}
 use mathlib.Core.Path.{_≡_}
 use lib.ListN.{length}
-use Rattle.replay_run.proofs.store.fill_where.Statement.{statement}
-use Rattle.replay_run.proofs.store.fill_where.Tie as tie
+use Rattle.replay_store.proofs.keep.Statement.{statement}
+use Rattle.replay_store.proofs.keep.Tie as tie
 
 abbrev Inv-loop : tie.InvT-loop
-Inv-loop bytes₀ at n new content most i₀ bytes i = (i ≤ most) × (length bytes ≡ length bytes₀)
+Inv-loop store₀ at new piece i₀ store i = (i ≤ length piece) × (length store ≡ length store₀)
 
 abbrev μ-loop : tie.MeasureT-loop
-μ-loop bytes₀ at n new content most i₀ bytes i = most - i
-
-lesser-requires : tie.Need-lesser-requires Inv-loop μ-loop
-lesser-requires c κs = search needs
+μ-loop store₀ at new piece i₀ store i = length piece - i
 
 loop-holds : tie.Need-loop-holds Inv-loop μ-loop
 loop-holds c = search needs
 
-after-requires : tie.Need-after-requires Inv-loop μ-loop
-after-requires c κs = search needs
+offset-after-requires : tie.Need-offset-after-requires Inv-loop μ-loop
+offset-after-requires c κs = search needs
 
-content-at-requires : tie.Need-content-at-requires Inv-loop μ-loop
-content-at-requires c κs = search needs
+shared-slice-read-put : tie.Need-shared-slice-read-put Inv-loop μ-loop
+shared-slice-read-put c = search needs
 
 put-requires : tie.Need-put-requires Inv-loop μ-loop
 put-requires c κs = search needs
@@ -42,16 +39,15 @@ same-length c = search needs
 returns : tie.Need-returns Inv-loop μ-loop
 returns c = search needs
 
-pub fill-where-spec : {M : Type 1} → statement M
-fill-where-spec =
+pub keep-spec : {M : Type 1} → statement M
+keep-spec =
     tie.close
     (tie.spec
     Inv-loop
     μ-loop
-    lesser-requires
     loop-holds
-    after-requires
-    content-at-requires
+    offset-after-requires
+    shared-slice-read-put
     put-requires
     add-i
     loop-less

@@ -31,7 +31,7 @@ enum Content {
 const ALL: u64 = 0xffff_ffff_ffff_ffff;
 
 // The offset i bytes past `at`. A request ends below 2^64, so its bytes never meet the other case.
-fn after(at: u64, i: u64) -> u64 {
+fn offset_after(at: u64, i: u64) -> u64 {
     match arithmetic::offsets::add(at, i) {
         Sum::Fits(o) => o,
         Sum::Over => LARGEST,
@@ -44,14 +44,14 @@ fn is_new(choice: u64, o: u64) -> bool {
 }
 
 // The byte of a choice at offset o.
-fn chosen(choice: u64, o: u64) -> u8 {
+fn choice_at(choice: u64, o: u64) -> u8 {
     ((choice >> (o % 8 * 8)) % 256) as u8
 }
 
 fn content_at(c: Content, o: u64) -> u8 {
     match c {
         Content::Same(b) => b,
-        Content::Chosen(choice) => chosen(choice, o),
+        Content::Chosen(choice) => choice_at(choice, o),
     }
 }
 
@@ -76,7 +76,7 @@ fn fill_where(bytes: &mut [u8], at: u64, n: u64, new: u64, content: Content) {
     let most = arithmetic::offsets::lesser(n, bytes.len() as u64);
     let mut i = 0u64;
     while i < most {
-        let o = after(at, i);
+        let o = offset_after(at, i);
         put(bytes, o, new, content_at(content, o));
         i += 1;
     }
@@ -94,16 +94,16 @@ impl Act {
     }
 
     // Where a discard changes bytes: all, or none where the script makes no choice.
-    fn discarded(self) -> u64 {
+    fn lost_bytes(self) -> u64 {
         if self.chooses { ALL } else { 0 }
     }
 
     // What a read leaves for offset o: with code 0 the store's byte, with another that of the choice.
-    fn yields(self, store: &[u8], o: u64) -> u8 {
+    fn read_byte(self, store: &[u8], o: u64) -> u8 {
         if self.code == 0 {
             return byte_at(store, o);
         }
-        chosen(self.choice, o)
+        choice_at(self.choice, o)
     }
 }
 
@@ -112,7 +112,7 @@ fn fetch(store: &[u8], at: u64, act: Act, piece: &mut [u8]) {
     let n = piece.len();
     let mut i = 0usize;
     while i < n {
-        let b = act.yields(store, after(at, i as u64));
+        let b = act.read_byte(store, offset_after(at, i as u64));
         put(piece, i as u64, ALL, b);
         i += 1;
     }
@@ -122,8 +122,16 @@ fn fetch(store: &[u8], at: u64, act: Act, piece: &mut [u8]) {
 fn keep(store: &mut [u8], at: u64, new: u64, piece: &[u8]) {
     let mut i = 0usize;
     while i < piece.len() {
-        put(store, after(at, i as u64), new, piece[i]);
+        put(store, offset_after(at, i as u64), new, piece[i]);
         i += 1;
+    }
+}
+
+// Reads the store from `at` on into a piece, or writes the piece to it.
+fn move_bytes(kind: Kind, at: u64, act: Act, store: &mut [u8], piece: &mut [u8]) {
+    match kind {
+        Kind::Read => fetch(store, at, act, piece),
+        _ => keep(store, at, act.new_bytes(), piece),
     }
 }
 
@@ -132,62 +140,47 @@ fn move_piece<'a>(
     dock: Dock,
     slot: usize,
     i: usize,
+    kind: Kind,
     at: u64,
-    reads: bool,
     act: Act,
     store: &mut [u8],
     data: &'a mut [u8],
     scratch: &'a mut [u8],
 ) -> u64 {
-    if reads {
-        let piece = dock.piece_mut(slot, i, data, scratch);
-        let n = piece.len();
-        fetch(store, at, act, piece);
-        return after(at, n as u64);
-    }
-    let piece = dock.piece(slot, i, data, scratch);
-    keep(store, at, act.new_bytes(), piece);
-    after(at, piece.len() as u64)
+    let piece = dock.piece_mut(slot, i, data, scratch);
+    let n = piece.len();
+    move_bytes(kind, at, act, store, piece);
+    offset_after(at, n as u64)
 }
 
-// Reads or writes that many pieces of a request, in order, from an offset on.
+// Reads or writes the pieces of a request, in order: a zero or discard request has none.
 fn move_pieces<'a>(
-    dock: Dock,
-    slot: usize,
-    pieces: usize,
-    from: u64,
-    reads: bool,
-    act: Act,
-    store: &mut [u8],
-    data: &'a mut [u8],
-    scratch: &'a mut [u8],
-) {
-    let mut at = from;
-    let mut i = 0usize;
-    while i < pieces {
-        at = move_piece(dock, slot, i, at, reads, act, store, data, scratch);
-        i += 1;
-    }
-}
-
-// The store's act for a request.
-fn act_on(
     dock: Dock,
     slot: usize,
     q: Request,
     act: Act,
     store: &mut [u8],
-    data: &mut [u8],
-    scratch: &mut [u8],
+    data: &'a mut [u8],
+    scratch: &'a mut [u8],
 ) {
+    let kind = q.kind;
+    let offset = q.offset;
+    let pieces = q.segments;
+    let mut at = offset.0;
+    let mut i = 0usize;
+    while i < pieces {
+        at = move_piece(dock, slot, i, kind, at, act, store, data, scratch);
+        i += 1;
+    }
+}
+
+// What a zero or discard request does to the store: a read or a write does it by its pieces.
+fn overwrite(q: Request, act: Act, store: &mut [u8]) {
     let kind = q.kind;
     let offset = q.offset;
     let at = offset.0;
     let n = q.length;
-    let pieces = q.segments;
     match kind {
-        Kind::Read => move_pieces(dock, slot, pieces, at, true, act, store, data, scratch),
-        Kind::Write => move_pieces(dock, slot, pieces, at, false, act, store, data, scratch),
         Kind::Zero | Kind::AllocatedZero => fill_where(
             store,
             at,
@@ -195,7 +188,8 @@ fn act_on(
             act.new_bytes(),
             Content::Same(0),
         ),
-        Kind::Discard => fill_where(store, at, n, act.discarded(), Content::Chosen(act.choice)),
+        Kind::Discard => fill_where(store, at, n, act.lost_bytes(), Content::Chosen(act.choice)),
+        _ => {}
     }
 }
 
@@ -211,6 +205,7 @@ pub fn carry(
     let Due::Make(q) = dock.next(slot, data, scratch) else {
         return CarryOutcome::NoRequest;
     };
-    act_on(dock, slot, q, act, store, data, scratch);
+    move_pieces(dock, slot, q, act, store, data, scratch);
+    overwrite(q, act, store);
     CarryOutcome::Done
 }

@@ -1,10 +1,10 @@
--- `replay_run::store::fetch` is safe and ends: each turn sets one byte of the piece. Assumes nothing.
+-- `replay_store::fetch` is safe and ends: each turn sets one byte of the piece. Assumes nothing.
 use borrow.Author.Needs.{needs}
 use Prim.Native.Nat.{_≤_, _-_}
 use mathlib.Core.Path.{_≡_}
 use lib.ListN.{length}
-use Rattle.replay_run.proofs.store.fetch.Statement.{statement}
-use Rattle.replay_run.proofs.store.fetch.Tie as tie
+use Rattle.replay_store.proofs.fetch.Statement.{statement}
+use Rattle.replay_store.proofs.fetch.Tie as tie
 
 abbrev Inv-loop : tie.InvT-loop
 Inv-loop store at act piece₀ n i₀ piece i = (i ≤ n) × (length piece ≡ length piece₀)
@@ -15,11 +15,11 @@ abbrev μ-loop : tie.MeasureT-loop
 loop-holds : tie.Need-loop-holds Inv-loop μ-loop
 loop-holds c = search needs
 
-after-requires : tie.Need-after-requires Inv-loop μ-loop
-after-requires c κs = search needs
+offset-after-requires : tie.Need-offset-after-requires Inv-loop μ-loop
+offset-after-requires c κs = search needs
 
-yields-requires : tie.Need-yields-requires Inv-loop μ-loop
-yields-requires c κs = search needs
+read-byte-requires : tie.Need-read-byte-requires Inv-loop μ-loop
+read-byte-requires c κs = search needs
 
 put-requires : tie.Need-put-requires Inv-loop μ-loop
 put-requires c κs = search needs
@@ -46,8 +46,8 @@ fetch-spec =
     Inv-loop
     μ-loop
     loop-holds
-    after-requires
-    yields-requires
+    offset-after-requires
+    read-byte-requires
     put-requires
     add-i
     loop-less

@@ -1,16 +1,16 @@
--- `replay_run::store::move_pieces` is safe and ends: each turn moves one piece. Assumes nothing.
+-- `replay_store::move_pieces` is safe and ends: each turn moves one piece. Assumes nothing.
 use borrow.Author.Needs.{needs}
-use Prim.Native.Nat.{_≤_, _-_}
+use Prim.Native.Nat.{_≤_, _<_, _-_}
 use mathlib.Core.Path.{_≡_}
 use lib.ListN.{length}
-use Rattle.replay_run.proofs.store.move_pieces.Statement.{statement}
-use Rattle.replay_run.proofs.store.move_pieces.Tie as tie
+use Rattle.replay_store.proofs.move_pieces.Statement.{statement}
+use Rattle.replay_store.proofs.move_pieces.Tie as tie
 
 abbrev Inv-loop : tie.InvT-loop
-Inv-loop dock slot pieces from reads act store₀ data₀ scratch₀ at₀ i₀ store «data» scratch at i = (i ≤ pieces) × (length store ≡ length store₀) × (length «data» ≡ length data₀) × (length scratch ≡ length scratch₀)
+Inv-loop dock slot act store₀ data₀ scratch₀ kind pieces at₀ i₀ store «data» scratch at i = (i ≤ pieces) × (pieces < 18446744073709551616) × (length store ≡ length store₀) × (length «data» ≡ length data₀) × (length scratch ≡ length scratch₀)
 
 abbrev μ-loop : tie.MeasureT-loop
-μ-loop dock slot pieces from reads act store₀ data₀ scratch₀ at₀ i₀ store «data» scratch at i = pieces - i
+μ-loop dock slot act store₀ data₀ scratch₀ kind pieces at₀ i₀ store «data» scratch at i = pieces - i
 
 loop-holds : tie.Need-loop-holds Inv-loop μ-loop
 loop-holds c = search needs
