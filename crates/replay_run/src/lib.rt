@@ -46,32 +46,42 @@ use vectors::vector::IoVector;
 ghost use Prim.Native.Nat.{_<_, _≤_};
 ghost use lib.ListN.{length};
 
-// The dock between two events, where the next line starts, the number of the last one, and whether that was malformed.
-struct Turn {
-    dock: Dock,
-    at: usize,
-    line: u64,
-    malformed: bool,
+// What a line is.
+enum Form {
+    Comment,
+    Event,
+    Malformed,
+}
+
+// What a line is, and the event, which counts only where it is one.
+struct Line {
+    form: Form,
+    event: Event,
 }
 
 // Opens by drive profile. The data lies at address 0, the scratch at 65536: multiples of every memory alignment.
-fn open(row: u64, bounce: u64, data: &[u8], scratch: &[u8]) -> Opened {
-    let data_lent = Lent {
+fn open(row: u64, bounce: u64, data_len: usize, scratch_len: usize) -> Opened {
+    let data = Lent {
         address: 0,
-        length: data.len() as u64,
+        length: data_len as u64,
     };
-    let scratch_lent = Lent {
+    let scratch = Lent {
         address: 65536,
-        length: scratch.len() as u64,
+        length: scratch_len as u64,
     };
-    let buffers = Buffers {
-        data: data_lent,
-        scratch: scratch_lent,
-    };
+    let buffers = Buffers { data, scratch };
     dock::open::open_profile(row as usize, bounce, buffers)
 }
 
-fn opened(o: Opened, marks: &mut [u64]) -> Dock {
+// No dock is open at the start: every begin is refused.
+fn start(data_len: usize, scratch_len: usize) -> Dock {
+    let first = open(6, 0, data_len, scratch_len);
+    first.dock
+}
+
+// Opens another dock, which has no request.
+fn reopen(e: Event, marks: &mut [u64], data_len: usize, scratch_len: usize) -> Dock {
+    let o = open(e.number(0), e.number(1), data_len, scratch_len);
     marks::forget_all(marks);
     let answer = o.outcome;
     trace::outcome(answer);
@@ -107,7 +117,7 @@ fn segments(e: Event) -> usize {
 }
 
 // What an event asks the dock for. Where it is none that begins a job, it is not looked at.
-fn asked(e: Event, vector: IoVector) -> Asked {
+fn ask_for(e: Event, vector: IoVector) -> Asked {
     let verb = e.verb;
     let offset = StoreOffset(e.number(0));
     let n = e.number(1);
@@ -128,13 +138,14 @@ fn begin(dock: Dock, e: Event, data: &[u8], scratch: &mut [u8]) -> Dock {
         trace::refused(r);
         return dock;
     }
-    let b = dock.begin(asked(e, v.vector), data, scratch);
+    let b = dock.begin(ask_for(e, v.vector), data, scratch);
     let answer = b.answer;
     trace::begun(answer);
     b.dock
 }
 
-fn next(dock: Dock, slot: usize, data: &[u8], scratch: &[u8]) {
+fn next(dock: Dock, e: Event, data: &[u8], scratch: &[u8]) {
+    let slot = e.number(0) as usize;
     trace::due(
         dock,
         slot,
@@ -144,27 +155,19 @@ fn next(dock: Dock, slot: usize, data: &[u8], scratch: &[u8]) {
     );
 }
 
-// Whether a request is out in `slot`.
-fn is_out(dock: Dock, slot: usize, data: &[u8], scratch: &[u8]) -> bool {
-    match dock.next(slot, data, scratch) {
-        Due::Make(_) => true,
-        _ => false,
-    }
-}
-
 // Whether a code may be told: an answer to a request that is out is the code that the store carried it out with.
 fn may_tell(dock: Dock, slot: usize, code: u8, marks: &[u64], data: &[u8], scratch: &[u8]) -> bool {
     if 199 < code {
         return true;
     }
-    if is_out(dock, slot, data, scratch) {
-        return marks::is_carried_with(marks, slot, code);
-    }
-    true
+    let Due::Make(_) = dock.next(slot, data, scratch) else {
+        return true;
+    };
+    marks::is_carried_with(marks, slot, code)
 }
 
 // An accepted tell ends the request: the next one of its slot is new.
-fn told(t: Telling, slot: usize, marks: &mut [u64]) -> Dock {
+fn report_tell(t: Telling, slot: usize, marks: &mut [u64]) -> Dock {
     let answer = t.outcome;
     trace::outcome(answer);
     if let Outcome::Refused(_) = answer {
@@ -186,30 +189,45 @@ fn tell(
         text(b" not the code of its carry");
         return dock;
     }
-    told(dock.tell(slot, code, data, scratch), slot, marks)
+    report_tell(dock.tell(slot, code, data, scratch), slot, marks)
 }
 
-fn collect(dock: Dock, slot: usize, data: &[u8], scratch: &[u8]) -> Dock {
-    let c = dock.collect(slot, data, scratch);
+fn collect(dock: Dock, e: Event, data: &[u8], scratch: &[u8]) -> Dock {
+    let c = dock.collect(e.number(0) as usize, data, scratch);
     let answer = c.answer;
     trace::collected(answer);
     c.dock
 }
 
+// Number i of an event, which the script's reader found to be at most 255.
+fn byte(e: Event, i: usize) -> u8 {
+    (e.number(i) % 256) as u8
+}
+
+// What a carry asks of the store.
+fn act_of(e: Event) -> Act {
+    Act {
+        code: byte(e, 1),
+        choice: e.number(2),
+        chooses: e.count == 3,
+    }
+}
+
 // Carries out the request that is out in `slot`, once, and notes the code.
 fn carry(
     dock: Dock,
-    slot: usize,
-    act: Act,
+    e: Event,
     marks: &mut [u64],
     store: &mut [u8],
     data: &mut [u8],
     scratch: &mut [u8],
 ) {
+    let slot = e.number(0) as usize;
     if marks::is_carried(marks, slot) {
         text(b" carried out already");
         return;
     }
+    let act = act_of(e);
     match replay_store::carry(dock, slot, act, store, data, scratch) {
         CarryOutcome::Done => {
             marks::carry(marks, slot, act.code);
@@ -219,27 +237,17 @@ fn carry(
     }
 }
 
-// A number that the script's reader found to be at most 255.
-fn byte(n: u64) -> u8 {
-    (n % 256) as u8
-}
-
-// What a carry asks of the store.
-fn act_of(e: Event) -> Act {
-    Act {
-        code: byte(e.number(1)),
-        choice: e.number(2),
-        chooses: e.count == 3,
-    }
-}
-
 fn fill(bytes: &mut [u8], e: Event) {
-    replay_store::fill(bytes, e.number(0), e.number(1), byte(e.number(2)));
+    replay_store::fill(bytes, e.number(0), e.number(1), byte(e, 2));
     text(b" done");
 }
 
-// The answer of an event that leaves the dock as it is, printed.
-fn aside(
+fn show(store: &[u8], e: Event) {
+    trace::bytes(store, e.number(0), e.number(1));
+}
+
+// Performs an event that leaves the dock as it is, and prints its answer; no other event.
+fn perform_keeping_dock(
     dock: Dock,
     e: Event,
     marks: &mut [u64],
@@ -248,43 +256,56 @@ fn aside(
     scratch: &mut [u8],
 ) {
     let verb = e.verb;
-    let slot = e.number(0) as usize;
     match verb {
         Verb::Store => fill(store, e),
         Verb::Data => fill(data, e),
-        Verb::Show => trace::bytes(store, e.number(0), e.number(1)),
-        Verb::Next => next(dock, slot, data, scratch),
-        Verb::Carry => carry(dock, slot, act_of(e), marks, store, data, scratch),
+        Verb::Show => show(store, e),
+        Verb::Next => next(dock, e, data, scratch),
+        Verb::Carry => carry(dock, e, marks, store, data, scratch),
         _ => {}
     }
 }
 
-// The event's answer, printed, and the dock after it.
-fn event(
+// Performs an event that changes the dock, and prints its answer; any other leaves the dock as it is.
+fn perform_changing_dock(
     dock: Dock,
+    e: Event,
+    marks: &mut [u64],
+    data: &mut [u8],
+    scratch: &mut [u8],
+) -> Dock {
+    let verb = e.verb;
+    match verb {
+        Verb::Open => {
+            return reopen(e, marks, data.len(), scratch.len());
+        }
+        Verb::Tell => {
+            return tell(dock, e.number(0) as usize, byte(e, 1), marks, data, scratch);
+        }
+        Verb::Collect => {
+            return collect(dock, e, data, scratch);
+        }
+        Verb::Read | Verb::Write | Verb::Zero | Verb::Alloc | Verb::Discard => {
+            return begin(dock, e, data, scratch);
+        }
+        _ => {}
+    }
+    dock
+}
+
+// Performs an event: its answer, and what the dock then needs.
+fn perform(
+    mut dock: Dock,
     e: Event,
     marks: &mut [u64],
     store: &mut [u8],
     data: &mut [u8],
     scratch: &mut [u8],
 ) -> Dock {
-    let verb = e.verb;
-    let slot = e.number(0) as usize;
-    match verb {
-        Verb::Open => opened(open(e.number(0), e.number(1), data, scratch), marks),
-        Verb::Tell => tell(dock, slot, byte(e.number(1)), marks, data, scratch),
-        Verb::Collect => collect(dock, slot, data, scratch),
-        Verb::Read | Verb::Write | Verb::Zero | Verb::Alloc | Verb::Discard => begin(
-            dock,
-            e,
-            data,
-            scratch,
-        ),
-        _ => {
-            aside(dock, e, marks, store, data, scratch);
-            dock
-        }
-    }
+    perform_keeping_dock(dock, e, marks, store, data, scratch);
+    dock = perform_changing_dock(dock, e, marks, data, scratch);
+    trace::state(dock, marks, store, data, scratch);
+    dock
 }
 
 fn is_comment(line: &[u8]) -> bool {
@@ -294,63 +315,29 @@ fn is_comment(line: &[u8]) -> bool {
     line[0] == b'#'
 }
 
-fn with_dock(mut t: Turn, dock: Dock) -> Turn {
-    t.dock = dock;
-    t
-}
-
-fn stopped(mut t: Turn) -> Turn {
-    t.malformed = true;
-    t
-}
-
-// An event: its line is copied, with its answer, and what the dock then needs.
-fn perform(
-    dock: Dock,
-    e: Event,
-    line: &[u8],
-    marks: &mut [u64],
-    store: &mut [u8],
-    data: &mut [u8],
-    scratch: &mut [u8],
-) -> Dock {
-    text(line);
-    text(b":");
-    let after = event(dock, e, marks, store, data, scratch);
-    trace::state(after, marks, store, data, scratch);
-    after
-}
-
-// One line: a comment is copied, an event performed; any other line is an error.
-fn play(
-    t: Turn,
-    line: &[u8],
-    marks: &mut [u64],
-    store: &mut [u8],
-    data: &mut [u8],
-    scratch: &mut [u8],
-) -> Turn {
+// Copies line `number`, where it is a comment, or an event, whose answer is to follow; says of any other what is wrong with it.
+fn report_line(number: u64, line: &[u8], verdict: Verdict) -> Form {
     if is_comment(line) {
         text(line);
         text(b"\n");
-        return t;
+        return Form::Comment;
     }
-    let parsed = script::parse(line);
-    let verdict = parsed.verdict;
-    let e = parsed.event;
     if let Verdict::Bad(f) = verdict {
-        trace::malformed(t.line, line, f);
-        return stopped(t);
+        trace::malformed(number, line, f);
+        return Form::Malformed;
     }
-    let dock = perform(t.dock, e, line, marks, store, data, scratch);
-    with_dock(t, dock)
+    text(line);
+    text(b":");
+    Form::Event
 }
 
-// The turn past a line that ends at `end`, of a script of n bytes.
-fn passed(mut t: Turn, end: usize, n: usize) -> Turn {
-    t.line = std::num::wrapping_add_u64(t.line, 1);
-    t.at = if end < n { end + 1 } else { n };
-    t
+// What line `number` says, once it is copied or its flaw is printed.
+fn read(number: u64, line: &[u8]) -> Line {
+    let parsed = script::parse(line);
+    let verdict = parsed.verdict;
+    let form = report_line(number, line, verdict);
+    let event = parsed.event;
+    Line { form, event }
 }
 
 // Where the line that starts at `at` ends: at its newline, or the text's end.
@@ -368,36 +355,15 @@ fn line_end(text: &[u8], at: usize) -> usize
     i
 }
 
-// One turn: the line that starts where the turn says.
-fn step(
-    t: Turn,
-    script: &[u8],
-    marks: &mut [u64],
-    store: &mut [u8],
-    data: &mut [u8],
-    scratch: &mut [u8],
-) -> Turn
-    requires { ⌜ t .at < length (now script) ⌝ }
+// Where the line after the one from `at` to `end` starts, in a text of n bytes: past its newline, or at the text's end.
+fn next_line(at: usize, end: usize, n: usize) -> usize
+    requires { ⌜ (at < n) × (at ≤ end) × (end ≤ n) ⌝ }
+    ensures { λ r. ⌜ (at < r) × (r ≤ n) ⌝ }
 {
-    let at = t.at;
-    let end = line_end(script, at);
-    let next = passed(t, end, script.len());
-    play(next, &script[at..end], marks, store, data, scratch)
+    if end < n { end + 1 } else { n }
 }
 
-// No dock is open at the start: every begin is refused.
-fn start(data: &[u8], scratch: &[u8]) -> Turn {
-    let first = open(6, 0, data, scratch);
-    let dock = first.dock;
-    Turn {
-        dock,
-        at: 0,
-        line: 0,
-        malformed: false,
-    }
-}
-
-// The lines, in order, up to the first that is no event: at most as many as there are bytes. Whether there was one.
+// Plays the lines, in order, up to the first that is malformed. Whether there was one.
 fn run(
     script: &[u8],
     marks: &mut [u64],
@@ -405,20 +371,25 @@ fn run(
     data: &mut [u8],
     scratch: &mut [u8],
 ) -> bool {
-    let mut t = start(data, scratch);
+    let mut dock = start(data.len(), scratch.len());
     let n = script.len();
-    let mut i = 0usize;
-    while i < n {
-        if t.malformed {
-            break;
+    let mut number = 0u64;
+    let mut at = 0usize;
+    while at < n {
+        let end = line_end(script, at);
+        number = std::num::wrapping_add_u64(number, 1);
+        let line = read(number, &script[at..end]);
+        at = next_line(at, end, n);
+        let form = line.form;
+        if let Form::Malformed = form {
+            return true;
         }
-        if n <= t.at {
-            break;
+        if let Form::Comment = form {
+            continue;
         }
-        i += 1;
-        t = step(t, script, marks, store, data, scratch);
+        dock = perform(dock, line.event, marks, store, data, scratch);
     }
-    t.malformed
+    false
 }
 
 fn store_bytes() -> [u8; 8192] {
