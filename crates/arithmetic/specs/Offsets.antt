@@ -38,7 +38,7 @@ unfoldable pub onStoreOf : BufferOffset → StoreOffset → OnStore
 onStoreOf b start = pick (fits (start .0 + b .0)) (StoreAt (storeAt (start .0 + b .0))) (NotOnStore Overflow)
 
 -- it lies there, where that is an offset
-pub on-store-at : (b : BufferOffset) (start : StoreOffset) → fits (start .0 + b .0) ≡ true → onStoreOf b start
-    ≡ StoreAt (storeAt (start .0 + b .0))
+pub on-store-at : (b : BufferOffset) (start : StoreOffset) → fits (start .0 + b .0) ≡ true
+    → onStoreOf b start ≡ StoreAt (storeAt (start .0 + b .0))
 unfolding onStoreOf
 on-store-at b start h = rw h

@@ -288,8 +288,8 @@ refused-by r l o n x e = go (paddingFits r l o n) e
     go false e = cc
 
 -- refused: 201 for its alignments, else 207 for a sum
-pub transfer-refused : (a : Alignments) (o : StoreOffset) (n : ℕ) (t : Bool) (x : Refusal) → transferOf a o n t ≡ NoTransfer x → x
-    ≡ paddingRefusal a
+pub transfer-refused : (a : Alignments) (o : StoreOffset) (n : ℕ) (t : Bool) (x : Refusal) → transferOf a o n t ≡ NoTransfer x
+    → x ≡ paddingRefusal a
 unfolding transferOf
 transfer-refused a o n t x e = go (alignmentsFit a) (fits (o .0 + n)) (isDirect (a .req) (o .0) n t) e
   where

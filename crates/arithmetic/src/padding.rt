@@ -55,7 +55,7 @@ fn edge(x: u64, l: u64) -> u64
 }
 
 // The padded range of n bytes at `at`, for a request alignment r and a length alignment l.
-fn padded(at: u64, n: u64, r: u64, l: u64) -> Padding
+fn pad_to(at: u64, n: u64, r: u64, l: u64) -> Padding
     requires { ⌜ (0 < r) × (0 < l) × (r ≤ l) × (l % r ≡ 0) ⌝ }
     ensures { λ p. ⌜ p ≡ paddedOf r l at n ⌝ }
 {
@@ -92,7 +92,7 @@ pub fn pad(offset: StoreOffset, length: u64, align: Alignments) -> Padding
     if !align.fit() {
         return Padding::Refused(Refusal::Unfit);
     }
-    padded(offset.0, length, align.req, align.length_align())
+    pad_to(offset.0, length, align.req, align.length_align())
 }
 
 // Whether offset and length are multiples of R, for a vector that is aligned.
@@ -126,7 +126,7 @@ pub fn direct_or_padded(
             end: StoreOffset(end),
         });
     }
-    match padded(at, length, r, align.length_align()) {
+    match pad_to(at, length, r, align.length_align()) {
         Padding::Padded(span) => Transfer::Bounced(span),
         Padding::Refused(r) => Transfer::Refused(r),
     }

@@ -50,7 +50,7 @@ fn chunk_count(n: u64, bounce: u64) -> u64
 }
 
 // How many chunks pure_write_full_zeroes writes for `length` bytes at `offset`.
-pub fn chunks_planned(offset: StoreOffset, length: u64, settings: Settings) -> Count
+pub fn count_chunks(offset: StoreOffset, length: u64, settings: Settings) -> Count
     ensures { λ k. ⌜ k ≡ countOf settings offset length ⌝ }
 {
     match check(offset, length, settings) {
@@ -83,7 +83,7 @@ fn chunk_at(at: u64, n: u64, bounce: u64, i: u64) -> Range
 }
 
 // Chunk i; past the last one an empty range at the end.
-pub fn planned_chunk(offset: StoreOffset, length: u64, settings: Settings, i: u64) -> Planned
+pub fn plan_chunk(offset: StoreOffset, length: u64, settings: Settings, i: u64) -> Planned
     ensures { λ p. ⌜ p ≡ plannedOf settings offset length i ⌝ }
 {
     match check(offset, length, settings) {

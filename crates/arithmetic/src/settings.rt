@@ -119,7 +119,7 @@ impl Buffers {
 }
 
 // What opening answers: 201 for unfit settings, then 205 for unfit buffers.
-pub fn opening(s: Settings, b: Buffers) -> Outcome
+pub fn check_opening(s: Settings, b: Buffers) -> Outcome
     ensures { λ r. ⌜ r ≡ openingOf s b ⌝ }
 {
     if !s.fit() {

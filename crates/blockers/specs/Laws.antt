@@ -132,8 +132,8 @@ module _ (p : ℕ) (b : Blockers) where
   unfolding leftOf
   unchanged f q n same = go (ltb p 8 && isEntered (blockerAt b p))
     where
-      go : (t : Bool) → f (blockerAt (pick t (changedTo (set (map (forgetting p) (b .slots)) p vacant)) (refused b) .blockers) q)
-          ≡ f (blockerAt b q)
+      go : (t : Bool)
+          → f (blockerAt (pick t (changedTo (set (map (forgetting p) (b .slots)) p vacant)) (refused b) .blockers) q) ≡ f (blockerAt b q)
       go true = ap f (others q n) ∙ same
       go false = refl
 
@@ -311,8 +311,8 @@ module _ (k : Kind) (p : ℕ) (r : Range) (b : Blockers) (rank : ℕ → ℕ) (c
   unfolding Meet
   notes-own q n m = entered-notes k p r b (R .slots) h e q ∙ sym (own-meets q n) ∙ m
 
-  notes-each : (s q : ℕ) → s < 8 → q < 8 → Entered after s → Entered after q → rank′ q < rank′ s → Meet after s q → hasNoted after s q
-      ≡ true
+  notes-each : (s q : ℕ) → s < 8 → q < 8 → Entered after s → Entered after q → rank′ q < rank′ s → Meet after s q
+      → hasNoted after s q ≡ true
   notes-each s q c g x y l m = elim (ℕ-discrete s p) [
     | yes u ↦ elim (ℕ-discrete q p) [
       | yes v ↦ absurd (omega (arith, ranked-own rank clock p s u, ranked-own rank clock p q v))

@@ -67,7 +67,7 @@ pub fn conflicts(entering: Kind, there: Kind) -> bool
 }
 
 // No blocker.
-pub fn vacant() -> Blocker
+pub fn make_vacant() -> Blocker
     ensures { λ r. ⌜ r ≡ vacant ⌝ }
 {
     Blocker {
@@ -80,7 +80,7 @@ pub fn vacant() -> Blocker
     }
 }
 
-fn refused(b: Blockers) -> Changed
+fn refuse(b: Blockers) -> Changed
     ensures { λ r. ⌜ r ≡ refused b ⌝ }
 {
     Changed {
@@ -111,7 +111,7 @@ impl Blocker {
     }
 
     // The blocker without `slot` among those that it noted.
-    fn forgetting(mut self, slot: usize) -> Blocker
+    fn forget_slot(mut self, slot: usize) -> Blocker
         requires { ⌜ slot < 8 ⌝ }
         ensures { λ r. ⌜ r ≡ forgetting slot self ⌝ }
     {
@@ -125,7 +125,7 @@ impl Blockers {
     pub fn new() -> Blockers
         ensures { λ r. ⌜ r ≡ noBlockers ⌝ }
     {
-        let b = vacant();
+        let b = make_vacant();
         Blockers { slots: [b; 8] }
     }
 
@@ -148,11 +148,11 @@ impl Blockers {
         ensures { λ r. ⌜ r ≡ enteredOf kind slot range self ⌝ }
     {
         if SLOTS <= slot {
-            return refused(self);
+            return refuse(self);
         }
         let there = self.slots[slot];
         if there.is_entered() {
-            return refused(self);
+            return refuse(self);
         }
         let noted = self.notes(kind, range);
         self.slots[slot] = Blocker {
@@ -188,7 +188,7 @@ impl Blockers {
         let mut i = 0;
         while i < SLOTS {
             let b = self.slots[i];
-            let c = b.forgetting(slot);
+            let c = b.forget_slot(slot);
             self.slots[i] = c;
             i += 1;
         }
@@ -200,14 +200,14 @@ impl Blockers {
         ensures { λ r. ⌜ r ≡ leftOf slot self ⌝ }
     {
         if SLOTS <= slot {
-            return refused(self);
+            return refuse(self);
         }
         let there = self.slots[slot];
         if !there.is_entered() {
-            return refused(self);
+            return refuse(self);
         }
         let mut rest = self.forget(slot);
-        rest.slots[slot] = vacant();
+        rest.slots[slot] = make_vacant();
         Changed {
             blockers: rest,
             outcome: Outcome::Done,

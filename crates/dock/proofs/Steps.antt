@@ -29,14 +29,14 @@ use Rattle.stages.specs.declared.state.State.{State}
 use Rattle.stages.specs.declared.told.Step.{Step}
 use Rattle.stages.specs.declared.told.Step.the-variants.{Stays, Ends, Enters}
 use Rattle.dock.specs.Dock.{stateAt, vectorAt, isOutBy, lentFits, lentOf, overlapsOf, firstFree}
-use Rattle.dock.specs.Begin.{Filled, fills, filled, blockersWith, begins, withJob, movedOf, planOf, beginOf, Entered, enters, enterAt, decidedOf, admits, unplaced, admitBy, admitAt, PlanInShare, seatedBy, seated}
+use Rattle.dock.specs.Begin.{Filled, fills, filled, blockersWith, begins, withJob, selectedOf, planOf, beginOf, Entered, enters, enterAt, decidedOf, admits, admitNone, admitBy, admitAt, PlanInShare, storedWithBy, storedWith}
 use Rattle.dock.specs.Next.{isSoundIn}
-use Rattle.dock.specs.Tell.{Handed, hands, handed, blockersWithout, tells, tellOf, Stepped, steps, unstepped, endsAt, entersBy, entersAt, StepInShare, answeredOf, answeredBy, toldAt, storedBy, stored}
+use Rattle.dock.specs.Tell.{Handed, hands, handed, blockersWithout, tells, tellOf, Stepped, steps, refusedStep, endsAt, entersBy, entersAt, StepInShare, answeredOf, answeredBy, toldAt, storedBy, stored}
 use Rattle.dock.specs.SlotLaws.{plan-sound, started, lent-done, leads-told, begin-whole}
 use Rattle.dock.specs.declared.dock.Dock.{Dock}
 use Rattle.dock.specs.declared.begin.Asked.{Asked}
 use Rattle.dock.specs.declared.begin.Begun.{Begun}
-use Rattle.dock.specs.declared.begin.Begun.the-variants.{Done as NoRequest, Placed, Refused as BeginRefused}
+use Rattle.dock.specs.declared.begin.Begun.the-variants.{Done as NoRequest, Admitted, Refused as BeginRefused}
 use Rattle.dock.specs.declared.begin.Admission.{Admission}
 use Rattle.dock.specs.declared.tell.Stepping.{Stepping}
 use Rattle.dock.specs.declared.tell.Answered.{Answered}
@@ -64,7 +64,7 @@ module _ (b : Blockers) (p share : ℕ) (x : State) (v : IoVector) (memory scrat
 -- ---- a job ends, or enters its next stage
 
 module _ (b : Blockers) (p share : ℕ) (x : State) (code : ℕ) (y : State) (v : IoVector) (memory scratch : List ℕ) (c : Changed) (e : c ≡ blockersWithout b p x) where
-  pub ends-blocked : (r : Refusal) → c .outcome ≡ Refused r → (t : Stepping) → t ≡ unstepped b x r → steps t memory scratch ≡ endsAt b p share x code y v memory scratch
+  pub ends-blocked : (r : Refusal) → c .outcome ≡ Refused r → (t : Stepping) → t ≡ refusedStep b x r → steps t memory scratch ≡ endsAt b p share x code y v memory scratch
   unfolding endsAt
   ends-blocked r q t te =
       let k : blockersWithout b p x .outcome ≡ Refused r = ap (λ z. z .outcome) (sym e) ∙ q in
@@ -80,7 +80,7 @@ module _ (b : Blockers) (p share : ℕ) (x : State) (code : ℕ) (y : State) (v 
       simp k
 
 module _ (b : Blockers) (p share : ℕ) (x y : State) (v : IoVector) (memory scratch : List ℕ) (c : Changed) (e : c ≡ blockersWithout b p x) where
-  pub enters-blocked : (r : Refusal) → c .outcome ≡ Refused r → (t : Stepping) → t ≡ unstepped b x r → steps t memory scratch ≡ entersAt b p share x y v memory scratch
+  pub enters-blocked : (r : Refusal) → c .outcome ≡ Refused r → (t : Stepping) → t ≡ refusedStep b x r → steps t memory scratch ≡ entersAt b p share x y v memory scratch
   unfolding entersAt
   enters-blocked r q t te =
       let k : blockersWithout b p x .outcome ≡ Refused r = ap (λ z. z .outcome) (sym e) ∙ q in
@@ -98,11 +98,11 @@ module _ (b : Blockers) (p share : ℕ) (x y : State) (v : IoVector) (memory scr
 -- ---- a code is told
 
 module _ (b : Blockers) (p : ℕ) (s : Settings) (l : Buffers) (x : State) (v : IoVector) (code : ℕ) (memory scratch : List ℕ) where
-  pub told-none : isOutBy b x p ≡ false → (t : Stepping) → t ≡ unstepped b x Slot → steps t memory scratch ≡ toldAt b p s l x v code memory scratch
+  pub told-none : isOutBy b x p ≡ false → (t : Stepping) → t ≡ refusedStep b x Slot → steps t memory scratch ≡ toldAt b p s l x v code memory scratch
   unfolding toldAt
   told-none o t te = ap (λ (z : Stepping). steps z memory scratch) te ∙ simp o
 
-  pub told-unsound : isOutBy b x p ≡ true → isSoundIn x s l ≡ false → (t : Stepping) → t ≡ unstepped b x Slot → steps t memory scratch ≡ toldAt b p s l x v code memory scratch
+  pub told-unsound : isOutBy b x p ≡ true → isSoundIn x s l ≡ false → (t : Stepping) → t ≡ refusedStep b x Slot → steps t memory scratch ≡ toldAt b p s l x v code memory scratch
   unfolding toldAt
   told-unsound o k t te = ap (λ (z : Stepping). steps z memory scratch) te ∙ simp (o, k)
 
@@ -175,43 +175,43 @@ module _ (b : Blockers) (p bounce : ℕ) (v : IoVector) (memory scratch : List �
   at-stage : admitBy (n .outcome) b p x (enters n s) ≡ admitAt b p bounce v memory scratch plan
   at-stage = ap (λ (z : Entered). admitBy (z .outcome) b p x z) f ∙ sym (ap (λ (q : Plan). admitAt b p bounce v memory scratch q) e)
 
-  pub admit-refused : (r : Refusal) → n .outcome ≡ Refused r → (t : Admission) → t ≡ unplaced b (BeginRefused r) → admits t s ≡ admitAt b p bounce v memory scratch plan
+  pub admit-refused : (r : Refusal) → n .outcome ≡ Refused r → (t : Admission) → t ≡ admitNone b (BeginRefused r) → admits t s ≡ admitAt b p bounce v memory scratch plan
   admit-refused r q t te = ap (λ (z : Admission). admits z s) te ∙ sym (ap (λ (o : Outcome). admitBy o b p x (enters n s)) q) ∙ at-stage
 
-  pub admit-placed : n .outcome ≡ Done → admits (record { answer = Placed p; blockers = n .blockers; state = x }) s ≡ admitAt b p bounce v memory scratch plan
-  admit-placed q = sym (ap (λ (o : Outcome). admitBy o b p x (enters n s)) q) ∙ at-stage
+  pub admit-done : n .outcome ≡ Done → admits (record { answer = Admitted p; blockers = n .blockers; state = x }) s ≡ admitAt b p bounce v memory scratch plan
+  admit-done q = sym (ap (λ (o : Outcome). admitBy o b p x (enters n s)) q) ∙ at-stage
 
 -- where the answer is a slot, it is the one that was free
-pub admitted-slot : (b : Blockers) (bounce : ℕ) (v : IoVector) (memory scratch : List ℕ) (l : Outcome) (t : Bool) (plan : Plan) (met : Bool) (f : ℕ) (q : Plan) → q ≡ decidedOf l t plan met f
-    → (a : Admission) (s : List ℕ) → admits a s ≡ admitAt b f bounce v memory scratch q → (p : ℕ) → a .answer ≡ Placed p → p < 8
-admitted-slot b bounce v memory scratch l t plan met f q e a s g p h = by q e (sym (ap (λ z. z .answer) g) ∙ h)
+pub admitted-at : (b : Blockers) (bounce : ℕ) (v : IoVector) (memory scratch : List ℕ) (l : Outcome) (t : Bool) (plan : Plan) (met : Bool) (f : ℕ) (q : Plan) → q ≡ decidedOf l t plan met f
+    → (a : Admission) (s : List ℕ) → admits a s ≡ admitAt b f bounce v memory scratch q → (p : ℕ) → a .answer ≡ Admitted p → p < 8
+admitted-at b bounce v memory scratch l t plan met f q e a s g p h = by q e (sym (ap (λ z. z .answer) g) ∙ h)
   where
-    by : (q : Plan) → q ≡ decidedOf l t plan met f → admitAt b f bounce v memory scratch q .answer ≡ Placed p → p < 8
+    by : (q : Plan) → q ≡ decidedOf l t plan met f → admitAt b f bounce v memory scratch q .answer ≡ Admitted p → p < 8
     by NothingToDo e k = absurd (let z : _≡_ {A = ℕ} 0 1 = cc in omega arith)
     by (PlanRefused r) e k = absurd (let z : _≡_ {A = ℕ} 0 1 = cc in omega arith)
     by (Started x) e k = there (enterAt b f (f * bounce) x v memory scratch .outcome) k
       where
-        there : (o : Outcome) → admitBy o b f x (enterAt b f (f * bounce) x v memory scratch) .answer ≡ Placed p → p < 8
+        there : (o : Outcome) → admitBy o b f x (enterAt b f (f * bounce) x v memory scratch) .answer ≡ Admitted p → p < 8
         there Done k = let w : f ≡ p = cc in omega (arith, started l t plan met f x (sym e) .slot)
         there (Refused r) k = absurd (let z : _≡_ {A = ℕ} 0 1 = cc in omega arith)
 
-module _ (d : Dock) (q : Asked) (memory scratch : List ℕ) (v : IoVector) (ve : v ≡ movedOf (q .job) (q .vector)) (met : Bool) (me : met ≡ overlapsOf (d .states) (d .vectors) (q .job) v)
+module _ (d : Dock) (q : Asked) (memory scratch : List ℕ) (v : IoVector) (ve : v ≡ selectedOf (q .job) (q .vector)) (met : Bool) (me : met ≡ overlapsOf (d .states) (d .vectors) (q .job) v)
     (l : Outcome) (le : l ≡ lentOf (d .settings) (d .buffers) (length memory) (length scratch)) (f : ℕ) (fe : f ≡ firstFree (d .states))
     (plan : Plan) (pe : plan ≡ planOf (q .job) (d .settings) (d .buffers) (q .offset) (q .length) (q .vector)) (t : Bool) (te : t ≡ isValid (length memory) v)
     (r : Plan) (re : r ≡ decidedOf l t plan met f) (a : Admission) (s : List ℕ) (ae : admits a s ≡ admitAt (d .blockers) f (d .settings .bounce) v memory scratch r) where
-  whole : seated d v (admits a s) ≡ beginOf d q memory scratch
-  whole = ap (λ z. seated d v z) ae ∙ begin-whole d q memory scratch v ve met me l le f fe plan pe t te r re
+  whole : storedWith d v (admits a s) ≡ beginOf d q memory scratch
+  whole = ap (λ z. storedWith d v z) ae ∙ begin-whole d q memory scratch v ve met me l le f fe plan pe t te r re
 
-  pub begin-placed : (p : ℕ) → a .answer ≡ Placed p → begins (record { answer = Placed p; dock = withJob d p (a .blockers) (a .state) v }) s ≡ beginOf d q memory scratch
-  begin-placed p e = sym (ap (λ (z : Begun). seatedBy z d v (admits a s)) e) ∙ whole
+  pub begin-admitted : (p : ℕ) → a .answer ≡ Admitted p → begins (record { answer = Admitted p; dock = withJob d p (a .blockers) (a .state) v }) s ≡ beginOf d q memory scratch
+  begin-admitted p e = sym (ap (λ (z : Begun). storedWithBy z d v (admits a s)) e) ∙ whole
 
-  pub begin-unplaced : ((p : ℕ) → a .answer ≢ Placed p) → begins (record { answer = a .answer; dock = d }) s ≡ beginOf d q memory scratch
-  begin-unplaced n = go (a .answer) refl ∙ whole
+  pub begin-not-admitted : ((p : ℕ) → a .answer ≢ Admitted p) → begins (record { answer = a .answer; dock = d }) s ≡ beginOf d q memory scratch
+  begin-not-admitted n = go (a .answer) refl ∙ whole
     where
-      go : (z : Begun) → a .answer ≡ z → begins (record { answer = z; dock = d }) s ≡ seatedBy z d v (admits a s)
+      go : (z : Begun) → a .answer ≡ z → begins (record { answer = z; dock = d }) s ≡ storedWithBy z d v (admits a s)
       go NoRequest e = refl
       go (BeginRefused r) e = refl
-      go (Placed p) e = absurd (n p e)
+      go (Admitted p) e = absurd (n p e)
 
 -- ---- a job that a call made
 

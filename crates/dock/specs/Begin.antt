@@ -37,7 +37,7 @@ use Rattle.dock.specs.declared.begin.Asked.{Asked}
 use Rattle.dock.specs.declared.begin.Begun.{Begun}
 use Rattle.dock.specs.declared.begin.Admission.{Admission}
 use Rattle.dock.specs.declared.begin.Beginning.{Beginning}
-use Rattle.dock.specs.declared.begin.Begun.the-variants.{Done as NoRequest, Placed, Refused as BeginRefused}
+use Rattle.dock.specs.declared.begin.Begun.the-variants.{Done as NoRequest, Admitted, Refused as BeginRefused}
 
 -- ---- what is filled as a job comes to its write from the bounce buffer
 
@@ -146,12 +146,12 @@ abbrev pub discardOf : StoreOffset → ℕ → Asked
 discardOf o n = record { job = Discard; offset = o; length = n; vector = vectorOf [] }
 
 -- the vector of a job: zeroes and discards have an empty one
-abbrev pub movedOf : Job → IoVector → IoVector
-movedOf Read v = v
-movedOf Write v = v
-movedOf Zeroes v = vectorOf []
-movedOf AllocatedZeroes v = vectorOf []
-movedOf Discard v = vectorOf []
+abbrev pub selectedOf : Job → IoVector → IoVector
+selectedOf Read v = v
+selectedOf Write v = v
+selectedOf Zeroes v = vectorOf []
+selectedOf AllocatedZeroes v = vectorOf []
+selectedOf Discard v = vectorOf []
 
 abbrev pub isAligned : Alignment → Bool
 isAligned Aligned = true
@@ -168,7 +168,7 @@ planOf Discard s b o n v = discardPlan s o n
 
 -- the vector and the plan of what is asked
 abbrev pub vectorFor : Asked → IoVector
-vectorFor q = movedOf (q .job) (q .vector)
+vectorFor q = selectedOf (q .job) (q .vector)
 
 abbrev pub planFor : Settings → Buffers → Asked → Plan
 planFor s b q = planOf (q .job) s b (q .offset) (q .length) (q .vector)
@@ -187,32 +187,32 @@ decidedOf (Refused r) valid plan met free = PlanRefused r
 decidedOf Done valid plan met free = pick valid (allowedBy plan met free) (PlanRefused Segment)
 
 -- what a begin leaves of the slot p that it takes
-pub record Admitted : Type 0 where
+pub record Admits : Type 0 where
   pub answer : Begun
   pub blockers : Blockers
   pub state : State
   pub scratch : List ℕ
 
-abbrev pub admits : Admission → List ℕ → Admitted
+abbrev pub admits : Admission → List ℕ → Admits
 admits a s = record { answer = a .answer; blockers = a .blockers; state = a .state; scratch = s }
 
-abbrev pub unplaced : Blockers → Begun → Admission
-unplaced b a = record { answer = a; blockers = b; state = vacant }
+abbrev pub admitNone : Blockers → Begun → Admission
+admitNone b a = record { answer = a; blockers = b; state = vacant }
 
 -- A dock of no call's making may have a blocker where the slot is free: the begin is then refused, and changes nothing. No dock that calls
 -- made is refused so: MadeLaws of crate theorem_lists.
-abbrev pub admitBy : Outcome → Blockers → ℕ → State → Entered → Admitted
+abbrev pub admitBy : Outcome → Blockers → ℕ → State → Entered → Admits
 admitBy o b p x e =
     whenDone o (record {
-      answer = Placed p;
+      answer = Admitted p;
       blockers = e .blockers;
       state = x;
       scratch = e .scratch;
-    }) (λ r. admits (unplaced b (BeginRefused r)) (e .scratch))
+    }) (λ r. admits (admitNone b (BeginRefused r)) (e .scratch))
 
-abbrev pub admitAt : Blockers → ℕ → ℕ → IoVector → List ℕ → List ℕ → Plan → Admitted
-admitAt b p bounce v memory scratch NothingToDo = admits (unplaced b NoRequest) scratch
-admitAt b p bounce v memory scratch (PlanRefused r) = admits (unplaced b (BeginRefused r)) scratch
+abbrev pub admitAt : Blockers → ℕ → ℕ → IoVector → List ℕ → List ℕ → Plan → Admits
+admitAt b p bounce v memory scratch NothingToDo = admits (admitNone b NoRequest) scratch
+admitAt b p bounce v memory scratch (PlanRefused r) = admits (admitNone b (BeginRefused r)) scratch
 admitAt b p bounce v memory scratch (Started x) =
     admitBy (enterAt b p (p * bounce) x v memory scratch .outcome) b p x (enterAt b p (p * bounce) x v memory scratch)
 
@@ -230,6 +230,10 @@ pub record Begins : Type 0 where
   pub answer : Begun
   pub scratch : List ℕ
 
+-- a call answers r and leaves the dock d and this scratch, as b has them
+abbrev pub BeginGives : Begins → Begun → Dock → List ℕ → Type 0
+BeginGives b r d scratch = (r ≡ b .answer) × (d ≡ b .dock) × (scratch ≡ b .scratch)
+
 -- the answer and the scratch of a call
 abbrev pub begins : Beginning → List ℕ → Begins
 begins r s = record { dock = r .dock; answer = r .answer; scratch = s }
@@ -243,14 +247,14 @@ withJob d p b x v = record {
   vectors = set (d .vectors) p v;
 }
 
--- stored in the dock where it is placed
-abbrev pub seatedBy : Begun → Dock → IoVector → Admitted → Begins
-seatedBy NoRequest d v a = record { dock = d; answer = NoRequest; scratch = a .scratch }
-seatedBy (Placed p) d v a = record { dock = withJob d p (a .blockers) (a .state) v; answer = Placed p; scratch = a .scratch }
-seatedBy (BeginRefused r) d v a = record { dock = d; answer = BeginRefused r; scratch = a .scratch }
+-- stored in the dock with its vector, where it is admitted
+abbrev pub storedWithBy : Begun → Dock → IoVector → Admits → Begins
+storedWithBy NoRequest d v a = record { dock = d; answer = NoRequest; scratch = a .scratch }
+storedWithBy (Admitted p) d v a = record { dock = withJob d p (a .blockers) (a .state) v; answer = Admitted p; scratch = a .scratch }
+storedWithBy (BeginRefused r) d v a = record { dock = d; answer = BeginRefused r; scratch = a .scratch }
 
-abbrev pub seated : Dock → IoVector → Admitted → Begins
-seated d v a = seatedBy (a .answer) d v a
+abbrev pub storedWith : Dock → IoVector → Admits → Begins
+storedWith d v a = storedWithBy (a .answer) d v a
 
 -- the plan of what is asked, where nothing refuses it, over m bytes of data and n of scratch
 abbrev pub decidedFor : Dock → Asked → ℕ → ℕ → Plan
@@ -261,5 +265,5 @@ decidedFor d q m n =
 -- "Begin takes the lowest free place of 8"
 unfoldable pub beginOf : Dock → Asked → List ℕ → List ℕ → Begins
 beginOf d q memory scratch =
-    seated d (vectorFor q) (admitAt (d .blockers) (firstFree (d .states)) (d .settings .bounce) (vectorFor q) memory scratch
+    storedWith d (vectorFor q) (admitAt (d .blockers) (firstFree (d .states)) (d .settings .bounce) (vectorFor q) memory scratch
     (decidedFor d q (length memory) (length scratch)))

@@ -7,7 +7,7 @@ use Rattle.arithmetic.specs.declared.refusals.Outcome.{Outcome}
 use Rattle.stages.specs.declared.state.Kind.{Kind}
 use Rattle.stages.specs.declared.state.Kind.the-variants.{Read, Write, Zero, AllocatedZero, Discard}
 use Rattle.dock.specs.declared.begin.Begun.{Begun}
-use Rattle.dock.specs.declared.begin.Begun.the-variants.{Done, Placed, Refused as BeginRefused}
+use Rattle.dock.specs.declared.begin.Begun.the-variants.{Done, Admitted, Refused as BeginRefused}
 use Rattle.dock.specs.declared.next.Due.{Due}
 use Rattle.dock.specs.declared.next.Due.the-variants.{Waiting, Make, Answer, Refused as NotDue}
 use Rattle.dock.specs.declared.next.Piece.{Piece}
@@ -31,7 +31,7 @@ valued l = record { number = None; values = l }
 -- begin: "A job with no request to make returns 0"; a job that gets a place has the place as its value, and no number: place 0 is not 0
 abbrev pub begunPaper : Begun → Paper
 begunPaper Done = numbered 0
-begunPaper (Placed p) = valued (p ∷ [])
+begunPaper (Admitted p) = valued (p ∷ [])
 begunPaper (BeginRefused r) = numbered (numberOf r)
 
 abbrev pub kindNumber : Kind → ℕ

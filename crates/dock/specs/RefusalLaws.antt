@@ -26,9 +26,9 @@ use Rattle.stages.specs.declared.told.Step.{Step}
 use Rattle.stages.specs.declared.told.Step.the-variants.{Stays, Ends, Enters}
 use Rattle.dock.specs.Dock.{vacant, stateAt, vectorAt, lentFits, isOutBy, firstFree}
 use Rattle.dock.specs.Begin.{fills, isBouncedWrite, sourceOf, sourceFits, mergedAt, filled, blockersWith, Entered, enterAt, admitBy}
-use Rattle.dock.specs.Begin.{admitAt, Begins, withJob, seated, vectorFor, decidedFor, beginOf}
+use Rattle.dock.specs.Begin.{admitAt, Begins, withJob, storedWith, vectorFor, decidedFor, beginOf}
 use Rattle.dock.specs.Next.{isSoundIn}
-use Rattle.dock.specs.Tell.{hands, isBouncedRead, copiedAt, handed, blockersWithout, Stepped, steps, unstepped, endsAt, entersBy}
+use Rattle.dock.specs.Tell.{hands, isBouncedRead, copiedAt, handed, blockersWithout, Stepped, steps, refusedStep, endsAt, entersBy}
 use Rattle.dock.specs.Tell.{entersAt, steppedAt, answeredOf, answeredBy, toldAt, Told, refusedTell, storedBy, stored, tellOf}
 use Rattle.dock.specs.Tell.{collectOf}
 use Rattle.dock.specs.declared.dock.Dock.{Dock}
@@ -44,8 +44,8 @@ other e = absurd (omega arith)
 -- ---- the bytes of one slot
 
 -- a fill that is refused leaves the scratch
-filled-refused : (share : ℕ) (x : State) (v : IoVector) (memory scratch : List ℕ) (r : Refusal) → filled share x v memory scratch .outcome
-    ≡ Refused r → filled share x v memory scratch .scratch ≡ scratch
+filled-refused : (share : ℕ) (x : State) (v : IoVector) (memory scratch : List ℕ) (r : Refusal)
+    → filled share x v memory scratch .outcome ≡ Refused r → filled share x v memory scratch .scratch ≡ scratch
 unfolding filled mergedAt
 filled-refused share x v memory scratch r = go (isBouncedWrite (x .phase)) (sourceFits (x .job) v (sizeOf (x .stage .asked)) memory)
   where
@@ -81,7 +81,7 @@ abbrev pub BeginUnchanged : Dock → List ℕ → Begins → Type 0
 BeginUnchanged d scratch b = (r : Refusal) → b .answer ≡ BeginRefused r → (b .dock ≡ d) × (b .scratch ≡ scratch)
 
 admit-unchanged : (d : Dock) (v : IoVector) (memory scratch : List ℕ) (p n : ℕ) (plan : Plan)
-    → BeginUnchanged d scratch (seated d v (admitAt (d .blockers) p n v memory scratch plan))
+    → BeginUnchanged d scratch (storedWith d v (admitAt (d .blockers) p n v memory scratch plan))
 unfolding enterAt
 admit-unchanged d v memory scratch p n NothingToDo = λ r e. (refl, refl)
 admit-unchanged d v memory scratch p n (PlanRefused q) = λ r e. (refl, refl)
@@ -98,7 +98,7 @@ admit-unchanged d v memory scratch p n (Started x) = go (blockersWith (d .blocke
         (λ r. record { blockers = blockersWith (d .blockers) p x .blockers; outcome = q; scratch = scratch })
 
     go : (q o : Outcome) → filled (p * n) x v memory scratch .outcome ≡ o
-        → BeginUnchanged d scratch (seated d v (admitBy (there q o .outcome) (d .blockers) p x (there q o)))
+        → BeginUnchanged d scratch (storedWith d v (admitBy (there q o .outcome) (d .blockers) p x (there q o)))
     go Done Done f = λ r e. other cc
     go Done (Refused s) f = λ r e. (refl, filled-refused (p * n) x v memory scratch s f)
     go (Refused s) o f = λ r e. (refl, refl)
@@ -133,7 +133,7 @@ module _ (b : Blockers) (p share : ℕ) (x : State) (code : ℕ) (v : IoVector) 
             memory = handed share x code v memory scratch .memory;
             scratch = scratch;
           })
-          (λ s. steps (unstepped b x s) memory scratch))
+          (λ s. steps (refusedStep b x s) memory scratch))
       go Done = λ r e. (handed-refused share x code v memory scratch r e, refl)
       go (Refused s) = λ r e. (refl, refl)
   step-unchanged (Enters y) = go (blockersWithout b p x .outcome) (blockersWith B p y .outcome)
@@ -149,7 +149,7 @@ module _ (b : Blockers) (p share : ℕ) (x : State) (code : ℕ) (v : IoVector) 
             scratch = filled share y v memory scratch .scratch;
           })
           (λ s. record { blockers = blockersWith B p y .blockers; outcome = n; scratch = scratch })) y memory)
-          (λ s. steps (unstepped b x s) memory scratch))
+          (λ s. steps (refusedStep b x s) memory scratch))
       go Done Done = λ r e. (refl, filled-refused share y v memory scratch r e)
       go Done (Refused s) = λ r e. (refl, refl)
       go (Refused s) n = λ r e. (refl, refl)
@@ -162,7 +162,7 @@ module _ (b : Blockers) (p share : ℕ) (x : State) (code : ℕ) (v : IoVector) 
       go : (a u : Bool)
           → StepUnchanged memory scratch (pick a (answeredBy
           (pick u (Leads (toldOf s x code)) (NoLead NoAnswer)) b p share x code v memory scratch)
-          (steps (unstepped b x Slot) memory scratch))
+          (steps (refusedStep b x Slot) memory scratch))
       go true true = step-unchanged (toldOf s x code)
       go true false = λ r e. (refl, refl)
       go false u = λ r e. (refl, refl)

@@ -32,7 +32,8 @@ use Rattle.stages.specs.declared.told.Step.the-variants.{Stays, Ends, Enters}
 use Rattle.stages.specs.declared.plan.Plan.{Plan}
 use Rattle.stages.specs.declared.plan.Plan.the-variants.{Done as NothingToDo, Started, Refused as PlanRefused}
 use Rattle.dock.specs.Dock.{noState, lentFits, lentOf, meetsAt, meetsItself, overlapsOf, firstFree}
-use Rattle.dock.specs.Begin.{Filled, fills, isBouncedWrite, merged, filled, decidedOf, admitAt, seated, movedOf, planOf, beginOf}
+use Rattle.dock.specs.Begin.{Filled, fills, isBouncedWrite, merged, filled, decidedOf, admitAt, storedWith, selectedOf}
+use Rattle.dock.specs.Begin.{planOf, beginOf}
 use Rattle.dock.specs.Next.{isSoundIn, isSoundAt}
 use Rattle.dock.specs.Tell.{Handed, hands, isBouncedRead, copiedOut, handed, answeredOf}
 use Rattle.dock.specs.Slots.{filledShare, handedShare, PlanSound, StepSound}
@@ -108,8 +109,8 @@ unfolding anyBelow
 met-none true f = refl
 met-none false f = refl
 
-pub met-more : (met m : Bool) (i : ℕ) (a : Bool) (f : ℕ → Bool) → met ≡ (a || anyBelow i f) → m ≡ f i → (met || m)
-    ≡ (a || anyBelow (i + 1) f)
+pub met-more : (met m : Bool) (i : ℕ) (a : Bool) (f : ℕ → Bool) → met ≡ (a || anyBelow i f) → m ≡ f i
+    → (met || m) ≡ (a || anyBelow (i + 1) f)
 unfolding anyBelow
 met-more met m i a f p q = rw (p, q, add-one) (assoc a (anyBelow i f) (f i))
   where
@@ -117,8 +118,8 @@ met-more met m i a f p q = rw (p, q, add-one) (assoc a (anyBelow i f) (f i))
     assoc true b c = refl
     assoc false b c = refl
 
-pub met-all : (xs : List State) (vs : List IoVector) (j : Job) (v : IoVector) (met : Bool) (i : ℕ) → i ≡ 8 → met
-    ≡ (meetsItself j v || anyBelow i (meetsAt xs vs j v)) → met ≡ overlapsOf xs vs j v
+pub met-all : (xs : List State) (vs : List IoVector) (j : Job) (v : IoVector) (met : Bool) (i : ℕ) → i ≡ 8
+    → met ≡ (meetsItself j v || anyBelow i (meetsAt xs vs j v)) → met ≡ overlapsOf xs vs j v
 unfolding overlapsOf
 met-all xs vs j v met i h e = e ∙ ap (λ (n : ℕ). meetsItself j v || anyBelow n (meetsAt xs vs j v)) h
 
@@ -155,8 +156,8 @@ lowest-free (x ∷ xs) h = go (isFree (x .phase)) refl h (λ l. lowest-free xs l
 -- ---- a begin is decided
 
 -- the first stage of a plan is sound
-pub plan-sound : (j : Job) (s : Settings) (b : Buffers) (o : StoreOffset) (n : ℕ) (v : IoVector) (x : State) → planOf j s b o n v
-    ≡ Started x → isSound (s .bounce) x ≡ true
+pub plan-sound : (j : Job) (s : Settings) (b : Buffers) (o : StoreOffset) (n : ℕ) (v : IoVector) (x : State)
+    → planOf j s b o n v ≡ Started x → isSound (s .bounce) x ≡ true
 plan-sound Read s b o n v x e = read-opens s o (v .total) _ x e .sound
 plan-sound Write s b o n v x e = write-opens s o (v .total) _ x e .sound
 plan-sound Zeroes s b o n v x e = zero-opens s o n false x e .sound
@@ -203,8 +204,8 @@ lent-sound s b m n p x d h w =
     let k = lent-done s b m n d in
     sound-here p x s b m n h (k .1) (simp w (le-leb (8 * s .bounce) (b .scratch .length) (omega (arith, opened s b (k .0) .room))))
 
-pub decided-sound : (j : Job) (s : Settings) (b : Buffers) (o : StoreOffset) (k : ℕ) (v : IoVector) (m n : ℕ) (l : Outcome) → l
-    ≡ lentOf s b m n → (t : Bool) (plan : Plan) → plan ≡ planOf j s b o k v
+pub decided-sound : (j : Job) (s : Settings) (b : Buffers) (o : StoreOffset) (k : ℕ) (v : IoVector) (m n : ℕ) (l : Outcome)
+    → l ≡ lentOf s b m n → (t : Bool) (plan : Plan) → plan ≡ planOf j s b o k v
     → (met : Bool) (f : ℕ) (q : Plan) → q ≡ decidedOf l t plan met f → PlanSound f s b n q
 decided-sound j s b o k v m n l le t plan pe met f NothingToDo e = tt
 decided-sound j s b o k v m n l le t plan pe met f (PlanRefused r) e = tt
@@ -213,12 +214,12 @@ decided-sound j s b o k v m n l le t plan pe met f (Started x) e =
     lent-sound s b m n f x (sym le ∙ w .lent) (w .slot) (plan-sound j s b o k v x (sym pe ∙ w .planned))
 
 -- what is asked, planned, decided and admitted, each as its definition says, is begun
-module _ (d : Dock) (q : Asked) (memory scratch : List ℕ) (v : IoVector) (ve : v ≡ movedOf (q .job) (q .vector)) (met : Bool)
+module _ (d : Dock) (q : Asked) (memory scratch : List ℕ) (v : IoVector) (ve : v ≡ selectedOf (q .job) (q .vector)) (met : Bool)
     (me : met ≡ overlapsOf (d .states) (d .vectors) (q .job) v)
     (l : Outcome) (le : l ≡ lentOf (d .settings) (d .buffers) (length memory) (length scratch)) (f : ℕ) (fe : f ≡ firstFree (d .states))
     (plan : Plan) (pe : plan ≡ planOf (q .job) (d .settings) (d .buffers) (q .offset) (q .length) (q .vector)) (t : Bool)
     (te : t ≡ isValid (length memory) v)
     (r : Plan) (re : r ≡ decidedOf l t plan met f) where
-  pub begin-whole : seated d v (admitAt (d .blockers) f (d .settings .bounce) v memory scratch r) ≡ beginOf d q memory scratch
+  pub begin-whole : storedWith d v (admitAt (d .blockers) f (d .settings .bounce) v memory scratch r) ≡ beginOf d q memory scratch
   unfolding beginOf
   begin-whole = cc

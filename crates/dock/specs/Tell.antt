@@ -1,4 +1,5 @@
 -- Document 01, "Events": tell and collect.
+use mathlib.Core.Path.{_≡_}
 use mathlib.Core.Bool.{Bool, true, false, _&&_}
 use mathlib.Core.List.{List, []}
 use Prim.Native.Nat.{ℕ, _+_, _*_}
@@ -32,6 +33,7 @@ use Rattle.dock.specs.declared.tell.Telling.{Telling}
 use Rattle.dock.specs.declared.tell.Stepping.{Stepping}
 use Rattle.dock.specs.declared.tell.Answered.{Answered}
 use Rattle.dock.specs.declared.tell.Answered.the-variants.{Leads, Refused as NoLead}
+use Rattle.dock.specs.declared.tell.Collected.{Collected}
 use Rattle.dock.specs.declared.tell.Collected.the-variants.{Final, Refused as NotCollected}
 use Rattle.dock.specs.declared.tell.Collects.{Collects}
 
@@ -83,8 +85,8 @@ pub record Stepped : Type 0 where
 abbrev pub steps : Stepping → List ℕ → List ℕ → Stepped
 steps t m s = record { outcome = t .outcome; blockers = t .blockers; state = t .state; memory = m; scratch = s }
 
-abbrev pub unstepped : Blockers → State → Refusal → Stepping
-unstepped b x r = record { outcome = Refused r; blockers = b; state = x }
+abbrev pub refusedStep : Blockers → State → Refusal → Stepping
+refusedStep b x r = record { outcome = Refused r; blockers = b; state = x }
 
 -- A dock of no call's making may lack the blocker that leaves, have one where another enters, or a vector of other bytes than the stage's:
 -- the tell is then refused, and changes nothing. Law `made-tell` of crate theorem_lists: no dock that calls made is refused so.
@@ -111,7 +113,7 @@ endsAt b p share x code y v memory scratch =
       memory = handed share x code v memory scratch .memory;
       scratch = scratch;
     })
-    (λ r. steps (unstepped b x r) memory scratch)
+    (λ r. steps (refusedStep b x r) memory scratch)
 
 -- it enters its next stage: its blocker leaves first, then the next stage's enters, and where that reads nothing its scratch is filled
 abbrev pub entersBy : Entered → State → List ℕ → Stepped
@@ -120,7 +122,7 @@ entersBy e y memory = record { outcome = e .outcome; blockers = e .blockers; sta
 unfoldable pub entersAt : Blockers → ℕ → ℕ → State → State → IoVector → List ℕ → List ℕ → Stepped
 entersAt b p share x y v memory scratch =
     whenDone (blockersWithout b p x .outcome) (entersBy (enterAt (blockersWithout b p x .blockers) p share y v memory scratch) y memory)
-    (λ r. steps (unstepped b x r) memory scratch)
+    (λ r. steps (refusedStep b x r) memory scratch)
 
 abbrev pub steppedAt : Blockers → ℕ → ℕ → State → ℕ → IoVector → List ℕ → List ℕ → Step → Stepped
 steppedAt b p share x code v memory scratch (Stays y) = staysAt b share y v memory scratch
@@ -138,7 +140,7 @@ unfoldable pub answeredOf : Settings → State → ℕ → Answered
 answeredOf s x code = pick (ltb code 200) (Leads (toldOf s x code)) (NoLead NoAnswer)
 
 abbrev pub answeredBy : Answered → Blockers → ℕ → ℕ → State → ℕ → IoVector → List ℕ → List ℕ → Stepped
-answeredBy (NoLead r) b p share x code v memory scratch = steps (unstepped b x r) memory scratch
+answeredBy (NoLead r) b p share x code v memory scratch = steps (refusedStep b x r) memory scratch
 answeredBy (Leads t) b p share x code v memory scratch = steppedAt b p share x code v memory scratch t
 
 -- "Tell: [..] 208, 209"
@@ -146,7 +148,7 @@ unfoldable pub toldAt : Blockers → ℕ → Settings → Buffers → State → 
 toldAt b p s lent x v code memory scratch =
     pick (isOutBy b x p && isSoundIn x s lent)
     (answeredBy (answeredOf s x code) b p (p * s .bounce) x code v memory scratch)
-    (steps (unstepped b x Slot) memory scratch)
+    (steps (refusedStep b x Slot) memory scratch)
 
 -- ---- tell
 
@@ -155,6 +157,10 @@ pub record Told : Type 0 where
   pub outcome : Outcome
   pub memory : List ℕ
   pub scratch : List ℕ
+
+-- a call answers r and leaves the dock d, this data and this scratch, as t has them
+abbrev pub TellGives : Told → Outcome → Dock → List ℕ → List ℕ → Type 0
+TellGives t r d memory scratch = (r ≡ t .outcome) × (d ≡ t .dock) × (memory ≡ t .memory) × (scratch ≡ t .scratch)
 
 -- the answer of a call, and the data and the scratch as it leaves them
 abbrev pub tells : Telling → List ℕ → List ℕ → Told
@@ -204,3 +210,7 @@ collectOf d p m n =
     (record { dock = withJob d p (d .blockers) vacant (vectorOf []); answer = Final (stateAt d p .answer) })
     (record { dock = d; answer = NotCollected Slot }))
     (record { dock = d; answer = NotCollected Buffer })
+
+-- a call answers r and leaves the dock d, as c has them
+abbrev pub CollectGives : Collects → Collected → Dock → Type 0
+CollectGives c r d = (r ≡ c .answer) × (d ≡ c .dock)

@@ -6,7 +6,7 @@ use crate::dock::check_lent;
 use crate::dock::first_free;
 use crate::dock::meets;
 use crate::dock::meets_itself;
-use crate::open::vacant;
+use crate::open::make_vacant;
 use arithmetic::offsets::StoreOffset;
 use arithmetic::refusals::Outcome;
 use arithmetic::refusals::Refusal;
@@ -29,8 +29,8 @@ use vectors::vector::Alignment;
 use vectors::vector::IoVector;
 ghost use mathlib.Core.Path.{_≡_};
 ghost use lib.ListN.{length};
-ghost use Rattle.dock.specs.Begin.{InShare, begins, blockersWith, isAligned, readOf, writeOf, zeroesOf, discardOf, movedOf, planOf};
-ghost use Rattle.dock.specs.Begin.{beginOf, enters, enterAt, decidedOf, PlanInShare, unplaced, admits, admitAt};
+ghost use Rattle.dock.specs.Begin.{InShare, begins, blockersWith, isAligned, readOf, writeOf, zeroesOf, discardOf, selectedOf};
+ghost use Rattle.dock.specs.Begin.{planOf, beginOf, enters, enterAt, decidedOf, PlanInShare, admitNone, admits, admitAt};
 ghost use Rattle.vectors.specs.Vectors.{alignmentOf};
 
 // What is asked of a begin: the job, and where on the store. A read and a write have the length of their vector, the others
@@ -45,7 +45,7 @@ pub struct Asked {
 // What a begin answers.
 pub enum Begun {
     Done, // no request to make: the job takes no slot
-    Placed(usize), // the job's slot
+    Admitted(usize), // the job's slot
     Refused(Refusal),
 }
 
@@ -54,7 +54,7 @@ pub struct Beginning {
     pub dock: Dock,
 }
 
-// What a begin leaves of the slot it takes, to be stored where its answer is placed.
+// What a begin leaves of the slot it takes, to be stored where the job is admitted.
 pub struct Admission {
     pub answer: Begun,
     pub blockers: Blockers,
@@ -112,8 +112,8 @@ impl Asked {
 }
 
 // The vector of a job: zeroes and discards have an empty one.
-pub fn moved(job: Job, vector: IoVector) -> IoVector
-    ensures { λ v. ⌜ v ≡ movedOf job vector ⌝ }
+pub fn select_vector(job: Job, vector: IoVector) -> IoVector
+    ensures { λ v. ⌜ v ≡ selectedOf job vector ⌝ }
 {
     match job {
         Job::Read => vector,
@@ -216,13 +216,13 @@ pub(crate) fn enter(
     Changed { blockers, outcome }
 }
 
-fn unplaced(b: Blockers, answer: Begun) -> Admission
-    ensures { λ a. ⌜ a ≡ unplaced b answer ⌝ }
+fn admit_none(b: Blockers, answer: Begun) -> Admission
+    ensures { λ a. ⌜ a ≡ admitNone b answer ⌝ }
 {
     Admission {
         answer,
         blockers: b,
-        state: vacant(),
+        state: make_vacant(),
     }
 }
 
@@ -240,19 +240,19 @@ fn admit(
     ensures { λ r. ⌜ admits r (now (scratch .exit)) ≡ admitAt b slot bounce v (now («data» .entry)) (now (scratch .entry)) plan ⌝ }
 {
     let x = match plan {
-        Plan::Done => return unplaced(b, Begun::Done),
-        Plan::Refused(r) => return unplaced(b, Begun::Refused(r)),
+        Plan::Done => return admit_none(b, Begun::Done),
+        Plan::Refused(r) => return admit_none(b, Begun::Refused(r)),
         Plan::Started(x) => x,
     };
     let share = slot * bounce as usize;
     let entered = enter(b, slot, share, x, v, data, scratch);
     let there = entered.outcome;
     if let Outcome::Refused(r) = there {
-        return unplaced(b, Begun::Refused(r));
+        return admit_none(b, Begun::Refused(r));
     }
     let blockers = entered.blockers;
     Admission {
-        answer: Begun::Placed(slot),
+        answer: Begun::Admitted(slot),
         blockers,
         state: x,
     }
@@ -266,7 +266,7 @@ impl Dock {
         let settings = self.settings;
         let buffers = self.buffers;
         let job = asked.job;
-        let v = moved(job, asked.vector);
+        let v = select_vector(job, asked.vector);
         let mut met = meets_itself(job, v);
         let mut i = 0;
         while i < SLOTS {
@@ -281,7 +281,7 @@ impl Dock {
         let plan = decide(lent, v.valid(data.len()), first, met, free);
         let admission = admit(self.blockers, free, settings.bounce, plan, v, data, scratch);
         let answer = admission.answer;
-        let Begun::Placed(slot) = answer else {
+        let Begun::Admitted(slot) = answer else {
             return Beginning { answer, dock: self };
         };
         let blockers = admission.blockers;

@@ -3,7 +3,7 @@ use arithmetic::refusals::Outcome;
 use arithmetic::refusals::Refusal;
 use arithmetic::settings::Buffers;
 use arithmetic::settings::Settings;
-use arithmetic::settings::opening;
+use arithmetic::settings::check_opening;
 use blockers::Blockers;
 use stages::state::Job;
 use stages::state::State;
@@ -35,7 +35,7 @@ pub fn lent_fits(b: Buffers, data_len: usize, scratch_len: usize) -> bool
 pub fn check_lent(s: Settings, b: Buffers, data_len: usize, scratch_len: usize) -> Outcome
     ensures { λ r. ⌜ r ≡ lentOf s b data_len «scratch_len» ⌝ }
 {
-    match opening(s, b) {
+    match check_opening(s, b) {
         Outcome::Refused(r) => Outcome::Refused(r),
         Outcome::Done => {
             if lent_fits(b, data_len, scratch_len) {

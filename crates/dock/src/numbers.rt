@@ -18,7 +18,7 @@ impl Begun {
     {
         match self {
             Begun::Done => Number::Of(0),
-            Begun::Placed(_) => Number::None,
+            Begun::Admitted(_) => Number::None,
             Begun::Refused(r) => Number::Of(r.number()),
         }
     }

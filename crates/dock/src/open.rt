@@ -8,8 +8,8 @@ use arithmetic::settings::Alignments;
 use arithmetic::settings::Buffers;
 use arithmetic::settings::Profile;
 use arithmetic::settings::Settings;
+use arithmetic::settings::check_opening;
 use arithmetic::settings::drive_profile;
-use arithmetic::settings::opening;
 use blockers::Blockers;
 use stages::state::Course;
 use stages::state::Job;
@@ -27,7 +27,7 @@ pub struct Opened {
 }
 
 // The state of a free slot.
-pub fn vacant() -> State
+pub fn make_vacant() -> State
     ensures { λ x. ⌜ x ≡ vacant ⌝ }
 {
     let nowhere = Range {
@@ -53,10 +53,10 @@ pub fn vacant() -> State
     }
 }
 
-fn fresh(settings: Settings, buffers: Buffers) -> Dock
+fn make_fresh(settings: Settings, buffers: Buffers) -> Dock
     ensures { λ d. ⌜ d ≡ fresh settings buffers ⌝ }
 {
-    let state = vacant();
+    let state = make_vacant();
     let vector = IoVector::new();
     let blockers = Blockers::new();
     Dock {
@@ -72,8 +72,8 @@ fn fresh(settings: Settings, buffers: Buffers) -> Dock
 pub fn open(settings: Settings, buffers: Buffers) -> Opened
     ensures { λ o. ⌜ o ≡ openOf settings buffers ⌝ }
 {
-    let outcome = opening(settings, buffers);
-    let dock = fresh(settings, buffers);
+    let outcome = check_opening(settings, buffers);
+    let dock = make_fresh(settings, buffers);
     Opened { dock, outcome }
 }
 
@@ -90,7 +90,7 @@ pub fn open_profile(index: usize, bounce: u64, buffers: Buffers) -> Opened
                 zero: 0,
                 discard: 0,
             };
-            let dock = fresh(Settings { align, bounce }, buffers);
+            let dock = make_fresh(Settings { align, bounce }, buffers);
             Opened {
                 dock,
                 outcome: Outcome::Refused(r),

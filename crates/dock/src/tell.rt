@@ -7,7 +7,7 @@ use crate::dock::SLOTS;
 use crate::dock::lent_fits;
 use crate::next::is_out;
 use crate::next::is_sound_in;
-use crate::open::vacant;
+use crate::open::make_vacant;
 use arithmetic::refusals::Outcome;
 use arithmetic::refusals::Refusal;
 use arithmetic::settings::Buffers;
@@ -24,7 +24,7 @@ ghost use mathlib.Core.Bool.{true};
 ghost use Prim.Native.Nat.{_<_};
 ghost use lib.ListN.{length};
 ghost use Rattle.dock.specs.Begin.{InShare};
-ghost use Rattle.dock.specs.Tell.{tells, blockersWithout, tellOf, collectOf, steps, StepInShare, unstepped, staysAt, endsAt};
+ghost use Rattle.dock.specs.Tell.{tells, blockersWithout, tellOf, collectOf, steps, StepInShare, refusedStep, staysAt, endsAt};
 ghost use Rattle.dock.specs.Tell.{entersAt, steppedAt, answeredOf, toldAt};
 ghost use Rattle.dock.specs.Dock.{lentFits};
 
@@ -70,8 +70,8 @@ fn without_blocker(b: Blockers, slot: usize, x: State) -> Changed
     b.leave(slot)
 }
 
-fn unstepped(b: Blockers, x: State, r: Refusal) -> Stepping
-    ensures { λ t. ⌜ t ≡ unstepped b x r ⌝ }
+fn refuse_step(b: Blockers, x: State, r: Refusal) -> Stepping
+    ensures { λ t. ⌜ t ≡ refusedStep b x r ⌝ }
 {
     Stepping {
         outcome: Outcome::Refused(r),
@@ -120,7 +120,7 @@ fn ends(
     let left = without_blocker(b, slot, x);
     let gone = left.outcome;
     if let Outcome::Refused(r) = gone {
-        return unstepped(b, x, r);
+        return refuse_step(b, x, r);
     }
     let outcome = hand_out(share, x, code, v, data, scratch);
     let blockers = left.blockers;
@@ -149,7 +149,7 @@ fn enters(
     let left = without_blocker(b, slot, x);
     let gone = left.outcome;
     if let Outcome::Refused(r) = gone {
-        return unstepped(b, x, r);
+        return refuse_step(b, x, r);
     }
     let entered = enter(left.blockers, slot, share, y, v, data, scratch);
     let outcome = entered.outcome;
@@ -185,7 +185,7 @@ fn step(
 }
 
 // What a code leads to: 0 done, 1 unsupported, 2 to 199 failed; 200 and up is no answer.
-pub fn told(x: State, settings: Settings, code: u8) -> Answered
+pub fn interpret_code(x: State, settings: Settings, code: u8) -> Answered
     ensures { λ a. ⌜ a ≡ answeredOf settings x code ⌝ }
 {
     match code {
@@ -197,7 +197,7 @@ pub fn told(x: State, settings: Settings, code: u8) -> Answered
 }
 
 // The code for the job x in `slot`: 208 where no request of it is out, 209 for what is no answer.
-fn told_at(
+fn tell_slot(
     b: Blockers,
     slot: usize,
     settings: Settings,
@@ -213,14 +213,14 @@ fn told_at(
         ≡ toldAt b slot settings buffers x v code (now («data» .entry)) (now (scratch .entry)) ⌝ }
 {
     if !is_out(b, x, slot) {
-        return unstepped(b, x, Refusal::Slot);
+        return refuse_step(b, x, Refusal::Slot);
     }
     if !is_sound_in(x, settings, buffers) {
-        return unstepped(b, x, Refusal::Slot);
+        return refuse_step(b, x, Refusal::Slot);
     }
-    let answer = told(x, settings, code);
+    let answer = interpret_code(x, settings, code);
     match answer {
-        Answered::Refused(r) => unstepped(b, x, r),
+        Answered::Refused(r) => refuse_step(b, x, r),
         Answered::Leads(t) => {
             let share = slot * settings.bounce as usize;
             step(b, slot, share, x, code, t, v, data, scratch)
@@ -251,7 +251,7 @@ impl Dock {
         let x = self.states[slot];
         let v = self.vectors[slot];
         let b = self.blockers;
-        let told = told_at(b, slot, settings, buffers, x, v, code, data, scratch);
+        let told = tell_slot(b, slot, settings, buffers, x, v, code, data, scratch);
         let outcome = told.outcome;
         let Outcome::Done = outcome else {
             return Telling {
@@ -293,7 +293,7 @@ impl Dock {
                 dock: self,
             };
         }
-        let free = vacant();
+        let free = make_vacant();
         let none = IoVector::new();
         self.states[slot] = free;
         self.vectors[slot] = none;

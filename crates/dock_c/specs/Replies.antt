@@ -29,7 +29,7 @@ use Rattle.dock.specs.declared.tell.Collects.{Collects}
 use Rattle.dock.specs.declared.numbers.Number.{Number}
 use Rattle.dock.specs.declared.numbers.Number.the-variants.{Of, None}
 use Rattle.dock_words.specs.View.{blockersOf}
-use Rattle.dock_words.specs.Kept.{sameUnless}
+use Rattle.dock_words.specs.CallWords.{sameUnless}
 use Rattle.dock_c.specs.declared.replies.Reply.{Reply}
 
 -- the settings and the buffers of an opening, from its numbers

@@ -11,8 +11,8 @@ use crate::replies::due_reply;
 use crate::replies::piece_reply;
 use crate::replies::planned_reply;
 use arithmetic::offsets::StoreOffset;
-use arithmetic::planner::chunks_planned;
-use arithmetic::planner::planned_chunk;
+use arithmetic::planner::count_chunks;
+use arithmetic::planner::plan_chunk;
 use arithmetic::settings::Alignments;
 use arithmetic::settings::Buffers;
 use arithmetic::settings::Lent;
@@ -37,7 +37,7 @@ ghost use Rattle.dock.specs.Next.{nextOf, pieceOf};
 ghost use Rattle.dock.specs.Tell.{tellOf, collectOf};
 ghost use Rattle.dock.specs.Numbers.{duePaper, piecePaper};
 ghost use Rattle.dock_words.specs.View.{flagOf, settingsOf, vectorFrom, dockOf};
-ghost use Rattle.dock_words.specs.Kept.{isPlaced, isFinal, sameTwo, sameThree, opensOver};
+ghost use Rattle.dock_words.specs.CallWords.{isAdmitted, isFinal, sameTwo, sameThree, opensOver};
 ghost use Rattle.dock_c.specs.Replies.{settingsBy, buffersBy, replyOf, countPaper, plannedPaper, BeginsAs, TellsAs, CollectsAs};
 
 // Open with alignments.
@@ -136,7 +136,7 @@ pub extern "C" fn dock_words_begin_read(
         (dockOf (now (settings .entry)) (now (blockers .entry)) (now (states .entry)) (now (vectors .entry)))
         (readOf (storeAt offset) (vectorFrom (now (vector .entry)))) (now («data» .entry)) (now (scratch .entry)))
         r (dockOf (now (settings .entry)) (now (blockers .exit)) (now (states .exit)) (now (vectors .exit))) (now (scratch .exit)) ⌝ }
-    ensures words { λ _. ⌜ sameThree (isPlaced (beginOf
+    ensures words { λ _. ⌜ sameThree (isAdmitted (beginOf
         (dockOf (now (settings .entry)) (now (blockers .entry)) (now (states .entry)) (now (vectors .entry)))
         (readOf (storeAt offset) (vectorFrom (now (vector .entry)))) (now («data» .entry)) (now (scratch .entry)) .answer))
         (now (blockers .entry)) (now (states .entry)) (now (vectors .entry))
@@ -162,7 +162,7 @@ pub extern "C" fn dock_words_begin_write(
         (dockOf (now (settings .entry)) (now (blockers .entry)) (now (states .entry)) (now (vectors .entry)))
         (writeOf (storeAt offset) (vectorFrom (now (vector .entry)))) (now («data» .entry)) (now (scratch .entry)))
         r (dockOf (now (settings .entry)) (now (blockers .exit)) (now (states .exit)) (now (vectors .exit))) (now (scratch .exit)) ⌝ }
-    ensures words { λ _. ⌜ sameThree (isPlaced (beginOf
+    ensures words { λ _. ⌜ sameThree (isAdmitted (beginOf
         (dockOf (now (settings .entry)) (now (blockers .entry)) (now (states .entry)) (now (vectors .entry)))
         (writeOf (storeAt offset) (vectorFrom (now (vector .entry)))) (now («data» .entry)) (now (scratch .entry)) .answer))
         (now (blockers .entry)) (now (states .entry)) (now (vectors .entry))
@@ -189,7 +189,7 @@ pub extern "C" fn dock_words_begin_zeroes(
         (dockOf (now (settings .entry)) (now (blockers .entry)) (now (states .entry)) (now (vectors .entry)))
         (zeroesOf (flagOf allocate) (storeAt offset) length) (now («data» .entry)) (now (scratch .entry)))
         r (dockOf (now (settings .entry)) (now (blockers .exit)) (now (states .exit)) (now (vectors .exit))) (now (scratch .exit)) ⌝ }
-    ensures words { λ _. ⌜ sameThree (isPlaced (beginOf
+    ensures words { λ _. ⌜ sameThree (isAdmitted (beginOf
         (dockOf (now (settings .entry)) (now (blockers .entry)) (now (states .entry)) (now (vectors .entry)))
         (zeroesOf (flagOf allocate) (storeAt offset) length) (now («data» .entry)) (now (scratch .entry)) .answer))
         (now (blockers .entry)) (now (states .entry)) (now (vectors .entry))
@@ -215,7 +215,7 @@ pub extern "C" fn dock_words_begin_discard(
         (dockOf (now (settings .entry)) (now (blockers .entry)) (now (states .entry)) (now (vectors .entry)))
         (discardOf (storeAt offset) length) (now («data» .entry)) (now (scratch .entry)))
         r (dockOf (now (settings .entry)) (now (blockers .exit)) (now (states .exit)) (now (vectors .exit))) (now (scratch .exit)) ⌝ }
-    ensures words { λ _. ⌜ sameThree (isPlaced (beginOf
+    ensures words { λ _. ⌜ sameThree (isAdmitted (beginOf
         (dockOf (now (settings .entry)) (now (blockers .entry)) (now (states .entry)) (now (vectors .entry)))
         (discardOf (storeAt offset) length) (now («data» .entry)) (now (scratch .entry)) .answer))
         (now (blockers .entry)) (now (states .entry)) (now (vectors .entry))
@@ -347,7 +347,7 @@ pub extern "C" fn dock_words_chunks(settings: &[u64; 9], offset: u64, length: u6
     ensures { λ r. ⌜ r ≡ replyOf (countPaper (countOf (settingsOf (now (settings .entry))) (storeAt offset) length)) ⌝ }
 {
     let s = settings_of(settings);
-    count_reply(chunks_planned(StoreOffset(offset), length, s))
+    count_reply(count_chunks(StoreOffset(offset), length, s))
 }
 
 // And chunk i.
@@ -356,5 +356,5 @@ pub extern "C" fn dock_words_chunk(settings: &[u64; 9], offset: u64, length: u64
     ensures { λ r. ⌜ r ≡ replyOf (plannedPaper (plannedOf (settingsOf (now (settings .entry))) (storeAt offset) length i)) ⌝ }
 {
     let s = settings_of(settings);
-    planned_reply(planned_chunk(StoreOffset(offset), length, s, i))
+    planned_reply(plan_chunk(StoreOffset(offset), length, s, i))
 }

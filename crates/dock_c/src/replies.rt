@@ -27,7 +27,7 @@ pub struct Reply {
     pub fourth: u64,
 }
 
-fn numbered(n: u64) -> Reply
+fn reply_number(n: u64) -> Reply
     ensures { λ r. ⌜ r ≡ numbers n ⌝ }
 {
     Reply {
@@ -40,7 +40,7 @@ fn numbered(n: u64) -> Reply
     }
 }
 
-fn valued(count: u64, first: u64, second: u64, third: u64, fourth: u64) -> Reply
+fn reply_values(count: u64, first: u64, second: u64, third: u64, fourth: u64) -> Reply
     ensures { λ r. ⌜ r ≡ record { number = 256; count = count; first = first; second = second; third = third; fourth = fourth } ⌝ }
 {
     Reply {
@@ -69,9 +69,9 @@ pub(crate) fn begun_reply(b: Begun) -> Reply
     ensures { λ r. ⌜ r ≡ replyOf (begunPaper b) ⌝ }
 {
     match b {
-        Begun::Done => numbered(0),
-        Begun::Placed(p) => valued(1, p as u64, 0, 0, 0),
-        Begun::Refused(r) => numbered(r.number() as u64),
+        Begun::Done => reply_number(0),
+        Begun::Admitted(p) => reply_values(1, p as u64, 0, 0, 0),
+        Begun::Refused(r) => reply_number(r.number() as u64),
     }
 }
 
@@ -87,17 +87,17 @@ fn request_reply(q: Request) -> Reply
 {
     let kind = q.kind;
     let offset = q.offset;
-    valued(4, kind_number(kind), offset.0, q.length, q.segments as u64)
+    reply_values(4, kind_number(kind), offset.0, q.length, q.segments as u64)
 }
 
 pub(crate) fn due_reply(d: Due) -> Reply
     ensures { λ r. ⌜ r ≡ replyOf (duePaper d) ⌝ }
 {
     match d {
-        Due::Waiting => valued(0, 0, 0, 0, 0),
+        Due::Waiting => reply_values(0, 0, 0, 0, 0),
         Due::Make(q) => request_reply(q),
-        Due::Answer(code) => numbered(code as u64),
-        Due::Refused(r) => numbered(r.number() as u64),
+        Due::Answer(code) => reply_number(code as u64),
+        Due::Refused(r) => reply_number(r.number() as u64),
     }
 }
 
@@ -105,9 +105,9 @@ pub(crate) fn piece_reply(p: Piece) -> Reply
     ensures { λ r. ⌜ r ≡ replyOf (piecePaper p) ⌝ }
 {
     match p {
-        Piece::InData(s) => valued(3, 0, s.start as u64, s.length as u64, 0),
-        Piece::InScratch(s) => valued(3, 1, s.start as u64, s.length as u64, 0),
-        Piece::Refused(r) => numbered(r.number() as u64),
+        Piece::InData(s) => reply_values(3, 0, s.start as u64, s.length as u64, 0),
+        Piece::InScratch(s) => reply_values(3, 1, s.start as u64, s.length as u64, 0),
+        Piece::Refused(r) => reply_number(r.number() as u64),
     }
 }
 
@@ -115,8 +115,8 @@ pub(crate) fn count_reply(k: Count) -> Reply
     ensures { λ r. ⌜ r ≡ replyOf (countPaper k) ⌝ }
 {
     match k {
-        Count::Chunks(n) => valued(1, n, 0, 0, 0),
-        Count::Refused(r) => numbered(r.number() as u64),
+        Count::Chunks(n) => reply_values(1, n, 0, 0, 0),
+        Count::Refused(r) => reply_number(r.number() as u64),
     }
 }
 
@@ -126,9 +126,9 @@ pub(crate) fn planned_reply(p: Planned) -> Reply
     match p {
         Planned::Chunk(c) => {
             let start = c.start;
-            valued(2, start.0, size(c), 0, 0)
+            reply_values(2, start.0, size(c), 0, 0)
         }
-        Planned::Refused(r) => numbered(r.number() as u64),
+        Planned::Refused(r) => reply_number(r.number() as u64),
     }
 }
 
@@ -136,9 +136,9 @@ pub(crate) fn alignment_reply(a: Alignment) -> Reply
     ensures { λ r. ⌜ r ≡ replyOf (alignmentPaper a) ⌝ }
 {
     match a {
-        Alignment::Aligned => valued(1, 1, 0, 0, 0),
-        Alignment::Unaligned => valued(1, 0, 0, 0, 0),
-        Alignment::Refused(r) => numbered(r.number() as u64),
+        Alignment::Aligned => reply_values(1, 1, 0, 0, 0),
+        Alignment::Unaligned => reply_values(1, 0, 0, 0, 0),
+        Alignment::Refused(r) => reply_number(r.number() as u64),
     }
 }
 

@@ -11,15 +11,14 @@ use dock::next::Piece;
 use dock::tell::Collected;
 ghost use mathlib.Core.Path.{_≡_};
 ghost use lib.ListN.{length};
-ghost use Rattle.dock.specs.Begin.{beginOf};
+ghost use Rattle.dock.specs.Begin.{beginOf, BeginGives};
 ghost use Rattle.dock.specs.Next.{nextOf, pieceOf};
-ghost use Rattle.dock.specs.Tell.{tellOf, collectOf};
+ghost use Rattle.dock.specs.Tell.{tellOf, TellGives, collectOf, CollectGives};
 
 // Begin what is asked, in the lowest free slot.
 pub fn begin(dock: &mut Dock, asked: Asked, data: &[u8], scratch: &mut [u8]) -> Begun
-    ensures { λ r. ⌜ (r ≡ beginOf (now (dock .entry)) asked (now («data» .entry)) (now (scratch .entry)) .answer)
-        × (now (dock .exit) ≡ beginOf (now (dock .entry)) asked (now («data» .entry)) (now (scratch .entry)) .dock)
-        × (now (scratch .exit) ≡ beginOf (now (dock .entry)) asked (now («data» .entry)) (now (scratch .entry)) .scratch) ⌝ }
+    ensures { λ r. ⌜ BeginGives (beginOf (now (dock .entry)) asked (now («data» .entry)) (now (scratch .entry)))
+        r (now (dock .exit)) (now (scratch .exit)) ⌝ }
 {
     let begun = dock.begin(asked, data, scratch);
     *dock = begun.dock;
@@ -42,10 +41,8 @@ pub fn piece_place(dock: &Dock, slot: usize, i: usize, data_len: usize, scratch_
 
 // Hand in the code of the request that is out.
 pub fn tell(dock: &mut Dock, slot: usize, code: u8, data: &mut [u8], scratch: &mut [u8]) -> Outcome
-    ensures { λ r. ⌜ (r ≡ tellOf (now (dock .entry)) slot code (now («data» .entry)) (now (scratch .entry)) .outcome)
-        × (now (dock .exit) ≡ tellOf (now (dock .entry)) slot code (now («data» .entry)) (now (scratch .entry)) .dock)
-        × (now («data» .exit) ≡ tellOf (now (dock .entry)) slot code (now («data» .entry)) (now (scratch .entry)) .memory)
-        × (now (scratch .exit) ≡ tellOf (now (dock .entry)) slot code (now («data» .entry)) (now (scratch .entry)) .scratch) ⌝ }
+    ensures { λ r. ⌜ TellGives (tellOf (now (dock .entry)) slot code (now («data» .entry)) (now (scratch .entry)))
+        r (now (dock .exit)) (now («data» .exit)) (now (scratch .exit)) ⌝ }
 {
     let told = dock.tell(slot, code, data, scratch);
     *dock = told.dock;
@@ -54,8 +51,8 @@ pub fn tell(dock: &mut Dock, slot: usize, code: u8, data: &mut [u8], scratch: &m
 
 // Take the final answer; the slot is free again.
 pub fn collect(dock: &mut Dock, slot: usize, data: &[u8], scratch: &[u8]) -> Collected
-    ensures { λ r. ⌜ (r ≡ collectOf (now (dock .entry)) slot (length (now («data» .entry))) (length (now (scratch .entry))) .answer)
-        × (now (dock .exit) ≡ collectOf (now (dock .entry)) slot (length (now («data» .entry))) (length (now (scratch .entry))) .dock) ⌝ }
+    ensures { λ r. ⌜ CollectGives (collectOf (now (dock .entry)) slot (length (now («data» .entry))) (length (now (scratch .entry))))
+        r (now (dock .exit)) ⌝ }
 {
     let collected = dock.collect(slot, data, scratch);
     *dock = collected.dock;

@@ -108,8 +108,8 @@ pub vector-width : (v : IoVector) → length (v .segments) ≡ 16 → length (ve
 vector-width v h = omega (arith, segment-width 16 (v .segments) h)
 
 -- segment i of a vector's row, by its two words
-pub segment-words : (w : List ℕ) (i : ℕ) → i < 16 → segment (getD w (2 + 2 * i) 0) (getD w (3 + 2 * i) 0)
-    ≡ getD (vectorFrom w .segments) i none
+pub segment-words : (w : List ℕ) (i : ℕ) → i < 16
+    → segment (getD w (2 + 2 * i) 0) (getD w (3 + 2 * i) 0) ≡ getD (vectorFrom w .segments) i none
 unfolding vectorFrom
 segment-words w i h =
     let e : 2 + 2 * i ≡ 2 + (i * 2 + 0) = omega arith in
@@ -147,8 +147,8 @@ vector-length v i = let e : 3 + 2 * i ≡ suc (suc (suc (2 * i))) = omega arith 
 pub state-row : (w : List ℕ) (p : ℕ) → p < 8 → getD (statesOf w) p noState ≡ stateOf (row 18 p w)
 state-row w p h = rows-get stateOf 18 8 p w noState h
 
-pub state-put : (w : List ℕ) (p : ℕ) (x : State) → p < 8 → length w ≡ 144 → x .answer < 256 → statesOf (put 18 p w (stateWords x))
-    ≡ set (statesOf w) p x
+pub state-put : (w : List ℕ) (p : ℕ) (x : State) → p < 8 → length w ≡ 144 → x .answer < 256
+    → statesOf (put 18 p w (stateWords x)) ≡ set (statesOf w) p x
 state-put w p x h l a = rows-put stateOf 18 8 p w (stateWords x) h (omega arith) refl ∙ rw (state-back x a)
 
 -- as code puts it: the words, of which the part that was lent has come back as b
@@ -185,8 +185,8 @@ pub blocker-row : (w : List ℕ) (p : ℕ) → p < 8 → blockerAt (blockersOf w
 blocker-row w p h = rows-get blockerOf 11 8 p w nowhere h
 
 -- any words of a row, decoded
-pub blocker-put : (w : List ℕ) (p : ℕ) (b : List ℕ) → p < 8 → length w ≡ 88 → length b ≡ 11 → blockersOf (put 11 p w b)
-    ≡ record { slots = set (blockersOf w .slots) p (blockerOf b) }
+pub blocker-put : (w : List ℕ) (p : ℕ) (b : List ℕ) → p < 8 → length w ≡ 88 → length b ≡ 11
+    → blockersOf (put 11 p w b) ≡ record { slots = set (blockersOf w .slots) p (blockerOf b) }
 blocker-put w p b h l e = rw (rows-put blockerOf 11 8 p w b h (omega arith) e)
 
 pub blocker-part : (w : List ℕ) (p : ℕ) (x : Blocker) (b : List ℕ) → p < 8 → length w ≡ 88 → length b ≡ 11 → b ≡ blockerWords x
@@ -200,8 +200,8 @@ unfolding blockerOf
 kind-word w p h = rw (blocker-row w p h, row-word 11 p w 0 (omega arith), add-zero)
 
 -- so whether one is entered
-pub entered-word : (w : List ℕ) (p : ℕ) (t : Bool) → p < 8 → t ≡ present (kindOf (getD w (p * 11) 0)) → t
-    ≡ (ltb p 8 && isEntered (blockerAt (blockersOf w) p))
+pub entered-word : (w : List ℕ) (p : ℕ) (t : Bool) → p < 8 → t ≡ present (kindOf (getD w (p * 11) 0))
+    → t ≡ (ltb p 8 && isEntered (blockerAt (blockersOf w) p))
 entered-word w p t h e = simp (lt-ltb p 8 h) (e ∙ sym (ap present (kind-word w p h)))
 
 -- whether it has noted slot q, in word 11 p + 3 + q
@@ -230,8 +230,8 @@ row-forgets r q =
     )
 
 -- with that word 0 the slot has forgotten q
-pub note-cleared : (w : List ℕ) (p q : ℕ) → p < 8 → q < 8 → length w ≡ 88 → blockersOf (set w (p * 11 + 3 + q) 0)
-    ≡ record { slots = set (blockersOf w .slots) p (forgetting q (blockerAt (blockersOf w) p)) }
+pub note-cleared : (w : List ℕ) (p q : ℕ) → p < 8 → q < 8 → length w ≡ 88
+    → blockersOf (set w (p * 11 + 3 + q) 0) ≡ record { slots = set (blockersOf w .slots) p (forgetting q (blockerAt (blockersOf w) p)) }
 note-cleared w p q h g l =
     let e : p * 11 + 3 + q ≡ p * 11 + (3 + q) = omega arith in
     let n : length (row 11 p w) ≡ 11 = row-length 11 p w (omega arith) in
@@ -249,7 +249,7 @@ pub blocker-note : (b : Blocker) (i : ℕ) → flagWord (getD (b .noted) i false
 blocker-note b i = let e : 3 + i ≡ suc (suc (suc i)) = omega arith in rw e (sym (List·getD-map flagWord (b .noted) i false))
 
 -- what slot i's note would be in one that enters
-pub note-at : (k : Kind) (r : Range) (w : List ℕ) (i : ℕ) → i < 8 → notes k r (blockerOf (row 11 i w))
-    ≡ getD (notesOf k r (blockersOf w)) i (notes k r nowhere)
+pub note-at : (k : Kind) (r : Range) (w : List ℕ) (i : ℕ) → i < 8
+    → notes k r (blockerOf (row 11 i w)) ≡ getD (notesOf k r (blockersOf w)) i (notes k r nowhere)
 unfolding notesOf
 note-at k r w i h = sym (List·getD-map (notes k r) (blockersOf w .slots) i nowhere ∙ ap (notes k r) (blocker-row w i h))

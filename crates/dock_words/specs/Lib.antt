@@ -2,5 +2,5 @@
 pub mod Rows
 pub mod View
 pub mod Laws
-pub mod Kept
-pub mod KeptLaws
+pub mod CallWords
+pub mod CallWordsLaws

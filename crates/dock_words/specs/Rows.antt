@@ -71,8 +71,8 @@ module _ {A : Type 0} (dec : List ℕ → A) (k : ℕ) where
   put-later i w b = rw (swap i, take-add k (i * k) w, ← drop-drop (i * k) k w, append-assoc)
 
   -- a row put in its place is that row, and the others stay
-  pub rows-put : (n i : ℕ) (w b : List ℕ) → i < n → n * k ≤ length w → length b ≡ k → rows dec k n (put k i w b)
-      ≡ set (rows dec k n w) i (dec b)
+  pub rows-put : (n i : ℕ) (w b : List ℕ) → i < n → n * k ≤ length w → length b ≡ k
+      → rows dec k n (put k i w b) ≡ set (rows dec k n w) i (dec b)
   unfolding rows
   rows-put zero i w b h l e = absurd (omega arith)
   rows-put (suc n) zero w b h l e = rw (put-first w b, take-at b (drop k w) k e, drop-at b (drop k w) k e)

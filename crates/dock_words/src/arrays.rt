@@ -16,12 +16,12 @@ use vectors::vector::IoVector;
 ghost use mathlib.Core.Path.{_≡_};
 ghost use Rattle.blockers.specs.Blockers.{enteredOf, leftOf, waitsOf};
 ghost use Rattle.dock.specs.Dock.{openOf, openProfileOf};
-ghost use Rattle.dock.specs.Begin.{begins, beginOf};
+ghost use Rattle.dock.specs.Begin.{beginOf};
 ghost use Rattle.dock.specs.Next.{nextOf, pieceOf};
-ghost use Rattle.dock.specs.Tell.{tells, tellOf, collectOf};
+ghost use Rattle.dock.specs.Tell.{tellOf, collectOf, CollectGives};
 ghost use Rattle.dock_words.specs.View.{settingsOf, vectorFrom, blockersOf, dockOf};
 ghost use Rattle.arithmetic.specs.Refusals.{isDone};
-ghost use Rattle.dock_words.specs.Kept.{isPlaced, isFinal, sameUnless, sameTwo, sameThree, opensOver};
+ghost use Rattle.dock_words.specs.CallWords.{isAdmitted, isFinal, sameUnless, sameTwo, sameThree, opensOver, beginsIn, tellsIn};
 
 // The settings that the dock was opened with.
 pub fn settings_of(settings: &[u64; 9]) -> Settings
@@ -80,14 +80,11 @@ pub fn begin(
     data: &[u8],
     scratch: &mut [u8],
 ) -> Begun
-    ensures dock { λ r. ⌜ begins (record {
-      answer = r;
-      dock = dockOf (now (settings .entry)) (now (blockers .exit)) (now (states .exit))
-          (now (vectors .exit));
-    }) (now (scratch .exit))
-        ≡ beginOf (dockOf (now (settings .entry)) (now (blockers .entry)) (now (states .entry)) (now (vectors .entry))) asked
-        (now («data» .entry)) (now (scratch .entry)) ⌝ }
-    ensures words { λ r. ⌜ sameThree (isPlaced r) (now (blockers .entry)) (now (states .entry)) (now (vectors .entry))
+    ensures dock { λ r. ⌜ beginsIn r (now (settings .entry)) (now (blockers .exit)) (now (states .exit)) (now (vectors .exit))
+        (now (scratch .exit))
+        ≡ beginOf (dockOf (now (settings .entry)) (now (blockers .entry)) (now (states .entry)) (now (vectors .entry)))
+        asked (now («data» .entry)) (now (scratch .entry)) ⌝ }
+    ensures words { λ r. ⌜ sameThree (isAdmitted r) (now (blockers .entry)) (now (states .entry)) (now (vectors .entry))
         (now (blockers .exit)) (now (states .exit)) (now (vectors .exit)) ⌝ }
 {
     crate::calls::begin(settings, blockers, states, vectors, asked, data, scratch)
@@ -154,13 +151,10 @@ pub fn tell(
     data: &mut [u8],
     scratch: &mut [u8],
 ) -> Outcome
-    ensures dock { λ r. ⌜ tells (record {
-      outcome = r;
-      dock = dockOf (now (settings .entry)) (now (blockers .exit)) (now (states .exit))
-          (now (vectors .entry));
-    }) (now («data» .exit)) (now (scratch .exit))
-        ≡ tellOf (dockOf (now (settings .entry)) (now (blockers .entry)) (now (states .entry)) (now (vectors .entry))) slot code
-        (now («data» .entry)) (now (scratch .entry)) ⌝ }
+    ensures dock { λ r. ⌜ tellsIn r (now (settings .entry)) (now (blockers .exit)) (now (states .exit)) (now (vectors .entry))
+        (now («data» .exit)) (now (scratch .exit))
+        ≡ tellOf (dockOf (now (settings .entry)) (now (blockers .entry)) (now (states .entry)) (now (vectors .entry)))
+        slot code (now («data» .entry)) (now (scratch .entry)) ⌝ }
     ensures words { λ r. ⌜ sameTwo (isDone r) (now (blockers .entry)) (now (states .entry)) (now (blockers .exit)) (now (states .exit)) ⌝ }
 {
     crate::calls::tell(
@@ -185,11 +179,9 @@ pub fn collect(
     data_len: usize,
     scratch_len: usize,
 ) -> Collected
-    ensures dock { λ r. ⌜ (r ≡ collectOf (dockOf (now (settings .entry)) (now (blockers .entry)) (now (states .entry))
-        (now (vectors .entry))) slot data_len «scratch_len» .answer)
-        × (dockOf (now (settings .entry)) (now (blockers .entry)) (now (states .exit)) (now (vectors .exit))
-        ≡ collectOf (dockOf (now (settings .entry)) (now (blockers .entry)) (now (states .entry)) (now (vectors .entry))) slot data_len
-        «scratch_len» .dock) ⌝ }
+    ensures dock { λ r. ⌜ CollectGives (collectOf
+        (dockOf (now (settings .entry)) (now (blockers .entry)) (now (states .entry)) (now (vectors .entry))) slot data_len «scratch_len»)
+        r (dockOf (now (settings .entry)) (now (blockers .entry)) (now (states .exit)) (now (vectors .exit))) ⌝ }
     ensures words { λ r. ⌜ sameTwo (isFinal r) (now (states .entry)) (now (vectors .entry)) (now (states .exit)) (now (vectors .exit)) ⌝ }
 {
     crate::calls::collect(

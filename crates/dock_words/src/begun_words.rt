@@ -30,7 +30,7 @@ ghost use Rattle.dock.specs.Next.{isSoundAt};
 ghost use Rattle.dock.specs.Slots.{PlanSound};
 ghost use Rattle.dock.specs.Begin.{admitAt};
 ghost use Rattle.dock_words.specs.View.{blockersOf, statesOf, vectorsOf};
-ghost use Rattle.dock_words.specs.Kept.{isPlaced, sameThree, seats, placedIn};
+ghost use Rattle.dock_words.specs.CallWords.{isAdmitted, sameThree, StoresJob};
 
 // Whether a job's vector meets that of slot i, of which one reads. A free slot's words are not read.
 fn meets_at(states: &[u64], vectors: &[u64], i: usize, job: Job, v: IoVector) -> bool
@@ -61,7 +61,7 @@ pub(crate) fn overlaps(states: &[u64], vectors: &[u64], job: Job, v: IoVector) -
 }
 
 // The job x comes to `slot`: its bytes are filled, its blocker enters, and it is stored with its vector.
-fn seat(
+fn admit_started(
     blockers: &mut [u64],
     states: &mut [u64],
     vectors: &mut [u64],
@@ -75,11 +75,11 @@ fn seat(
 ) -> Begun
     requires { ⌜ (length (now blockers) ≡ 88) × (length (now states) ≡ 144) × (length (now vectors) ≡ 272) × (slot < 8)
         × (isSoundAt slot x settings buffers (length (now scratch)) ≡ true) ⌝ }
-    ensures dock { λ r. ⌜ seats r (now (blockers .exit)) (now (states .exit)) (now (vectors .exit)) (now (scratch .exit))
-        ≡ placedIn (blockersOf (now (blockers .entry))) (statesOf (now (states .entry))) (vectorsOf (now (vectors .entry))) v
-        (admitAt (blockersOf (now (blockers .entry))) slot (settings .bounce) v (now («data» .entry)) (now (scratch .entry))
-        (Started x)) ⌝ }
-    ensures words { λ r. ⌜ sameThree (isPlaced r) (now (blockers .entry)) (now (states .entry)) (now (vectors .entry))
+    ensures dock { λ r. ⌜ StoresJob (admitAt (blockersOf (now (blockers .entry))) slot (settings .bounce) v
+        (now («data» .entry)) (now (scratch .entry)) (Started x)) v
+        (now (blockers .entry)) (now (states .entry)) (now (vectors .entry))
+        r (now (blockers .exit)) (now (states .exit)) (now (vectors .exit)) (now (scratch .exit)) ⌝ }
+    ensures words { λ r. ⌜ sameThree (isAdmitted r) (now (blockers .entry)) (now (states .entry)) (now (vectors .entry))
         (now (blockers .exit)) (now (states .exit)) (now (vectors .exit)) ⌝ }
 {
     if !may_enter(blockers, slot, x) {
@@ -92,7 +92,7 @@ fn seat(
     let entered = with_blocker(blockers, slot, x);
     put_state_at(states, slot, x);
     put_vector_at(vectors, slot, v);
-    Begun::Placed(slot)
+    Begun::Admitted(slot)
 }
 
 // A decided job comes to its slot.
@@ -110,16 +110,17 @@ pub(crate) fn admit(
 ) -> Begun
     requires { ⌜ (length (now blockers) ≡ 88) × (length (now states) ≡ 144) × (length (now vectors) ≡ 272)
         × PlanSound slot settings buffers (length (now scratch)) plan ⌝ }
-    ensures dock { λ r. ⌜ seats r (now (blockers .exit)) (now (states .exit)) (now (vectors .exit)) (now (scratch .exit))
-        ≡ placedIn (blockersOf (now (blockers .entry))) (statesOf (now (states .entry))) (vectorsOf (now (vectors .entry))) v
-        (admitAt (blockersOf (now (blockers .entry))) slot (settings .bounce) v (now («data» .entry)) (now (scratch .entry)) plan) ⌝ }
-    ensures words { λ r. ⌜ sameThree (isPlaced r) (now (blockers .entry)) (now (states .entry)) (now (vectors .entry))
+    ensures dock { λ r. ⌜ StoresJob (admitAt (blockersOf (now (blockers .entry))) slot (settings .bounce) v
+        (now («data» .entry)) (now (scratch .entry)) plan) v
+        (now (blockers .entry)) (now (states .entry)) (now (vectors .entry))
+        r (now (blockers .exit)) (now (states .exit)) (now (vectors .exit)) (now (scratch .exit)) ⌝ }
+    ensures words { λ r. ⌜ sameThree (isAdmitted r) (now (blockers .entry)) (now (states .entry)) (now (vectors .entry))
         (now (blockers .exit)) (now (states .exit)) (now (vectors .exit)) ⌝ }
 {
     match plan {
         Plan::Done => Begun::Done,
         Plan::Refused(r) => Begun::Refused(r),
-        Plan::Started(x) => seat(
+        Plan::Started(x) => admit_started(
             blockers,
             states,
             vectors,

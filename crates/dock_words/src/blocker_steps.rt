@@ -13,7 +13,7 @@ ghost use Rattle.dock.specs.Begin.{strength, blockersWith};
 ghost use Rattle.dock.specs.Tell.{blockersWithout};
 ghost use Rattle.dock_words.specs.View.{blockersOf};
 ghost use Rattle.arithmetic.specs.Refusals.{isDone};
-ghost use Rattle.dock_words.specs.Kept.{changes};
+ghost use Rattle.dock_words.specs.CallWords.{changes};
 
 fn strength(strong: bool) -> Kind
     ensures { λ k. ⌜ k ≡ strength strong ⌝ }

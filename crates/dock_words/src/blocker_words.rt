@@ -10,8 +10,8 @@ use arithmetic::refusals::Refusal;
 use blockers::Blocker;
 use blockers::Kind;
 use blockers::conflicts;
+use blockers::make_vacant;
 use blockers::range_overlaps;
-use blockers::vacant;
 use dock::dock::SLOTS;
 ghost use mathlib.Core.Path.{_≡_};
 ghost use mathlib.Core.Bool.{_&&_};
@@ -22,7 +22,7 @@ ghost use lib.ListN.{length};
 ghost use Rattle.blockers.specs.Blockers.{present, notes, notesOf, forgetting, enteredOf, leftOf, waitsOf, blockerAt, isEntered};
 ghost use Rattle.dock_words.specs.View.{kindOf, blockerOf, blockerWords, blockersOf};
 ghost use Rattle.arithmetic.specs.Refusals.{isDone};
-ghost use Rattle.dock_words.specs.Kept.{sameUnless};
+ghost use Rattle.dock_words.specs.CallWords.{sameUnless};
 
 // How many words a blocker has.
 const BLOCKER_WORDS: usize = 11;
@@ -157,6 +157,6 @@ pub(crate) fn leave(all: &mut [u64], slot: usize) -> Outcome
     }
     forget(all, slot);
     let e = a + BLOCKER_WORDS;
-    put_blocker(&mut all[a..e], vacant());
+    put_blocker(&mut all[a..e], make_vacant());
     Outcome::Done
 }

@@ -10,7 +10,7 @@ use crate::state_words::put_state_at;
 use crate::state_words::state_at;
 use crate::tags::clear;
 use crate::told_words::is_out;
-use crate::told_words::told_at;
+use crate::told_words::tell_slot;
 use crate::vector_words::count_at;
 use crate::vector_words::put_vector_at;
 use crate::vector_words::vector_at;
@@ -19,13 +19,13 @@ use arithmetic::refusals::Refusal;
 use arithmetic::settings::Buffers;
 use arithmetic::settings::Profile;
 use arithmetic::settings::Settings;
+use arithmetic::settings::check_opening;
 use arithmetic::settings::drive_profile;
-use arithmetic::settings::opening;
 use dock::begin::Asked;
 use dock::begin::Begun;
 use dock::begin::decide;
-use dock::begin::moved;
 use dock::begin::plan_asked;
+use dock::begin::select_vector;
 use dock::dock::SLOTS;
 use dock::dock::check_lent;
 use dock::dock::lent_fits;
@@ -33,19 +33,19 @@ use dock::next::Due;
 use dock::next::Piece;
 use dock::next::due_now;
 use dock::next::piece_in;
-use dock::open::vacant;
+use dock::open::make_vacant;
 use dock::tell::Collected;
 use stages::state::has_ended;
 use vectors::vector::IoVector;
 ghost use mathlib.Core.Path.{_≡_};
 ghost use lib.ListN.{length};
 ghost use Rattle.dock.specs.Dock.{fresh, openOf, openProfileOf};
-ghost use Rattle.dock.specs.Begin.{begins, beginOf};
+ghost use Rattle.dock.specs.Begin.{beginOf};
 ghost use Rattle.dock.specs.Next.{nextOf, pieceOf};
-ghost use Rattle.dock.specs.Tell.{tells, tellOf, collectOf};
+ghost use Rattle.dock.specs.Tell.{tellOf, collectOf, CollectGives};
 ghost use Rattle.dock_words.specs.View.{dockOf, DockWords};
 ghost use Rattle.arithmetic.specs.Refusals.{isDone};
-ghost use Rattle.dock_words.specs.Kept.{isPlaced, isFinal, sameTwo, sameThree, opensOver};
+ghost use Rattle.dock_words.specs.CallWords.{isAdmitted, isFinal, sameTwo, sameThree, opensOver, beginsIn, tellsIn};
 
 // The words of a dock with eight free slots.
 fn set_fresh(
@@ -79,7 +79,7 @@ pub(crate) fn open(
         (now (settings .entry)) (now (blockers .entry)) (now (states .entry)) (now (vectors .entry))
         (now (settings .exit)) (now (blockers .exit)) (now (states .exit)) (now (vectors .exit)) ⌝ }
 {
-    let outcome = opening(s, b);
+    let outcome = check_opening(s, b);
     let Outcome::Done = outcome else {
         return outcome;
     };
@@ -122,20 +122,17 @@ pub(crate) fn begin(
     scratch: &mut [u8],
 ) -> Begun
     requires { ⌜ DockWords (now settings) (now blockers) (now states) (now vectors) ⌝ }
-    ensures dock { λ r. ⌜ begins (record {
-      answer = r;
-      dock = dockOf (now (settings .entry)) (now (blockers .exit)) (now (states .exit))
-          (now (vectors .exit));
-    }) (now (scratch .exit))
-        ≡ beginOf (dockOf (now (settings .entry)) (now (blockers .entry)) (now (states .entry)) (now (vectors .entry))) asked
-        (now («data» .entry)) (now (scratch .entry)) ⌝ }
-    ensures words { λ r. ⌜ sameThree (isPlaced r) (now (blockers .entry)) (now (states .entry)) (now (vectors .entry))
+    ensures dock { λ r. ⌜ beginsIn r (now (settings .entry)) (now (blockers .exit)) (now (states .exit)) (now (vectors .exit))
+        (now (scratch .exit))
+        ≡ beginOf (dockOf (now (settings .entry)) (now (blockers .entry)) (now (states .entry)) (now (vectors .entry)))
+        asked (now («data» .entry)) (now (scratch .entry)) ⌝ }
+    ensures words { λ r. ⌜ sameThree (isAdmitted r) (now (blockers .entry)) (now (states .entry)) (now (vectors .entry))
         (now (blockers .exit)) (now (states .exit)) (now (vectors .exit)) ⌝ }
 {
     let s = get_settings(settings);
     let b = get_buffers(settings);
     let job = asked.job;
-    let v = moved(job, asked.vector);
+    let v = select_vector(job, asked.vector);
     let met = overlaps(states, vectors, job, v);
     let lent = check_lent(s, b, data.len(), scratch.len());
     let free = first_free(states);
@@ -177,9 +174,9 @@ pub(crate) fn next(
         return Due::Refused(Refusal::Slot);
     }
     let x = state_at(states, slot);
-    let waits = waits(blockers, slot);
+    let waiting = waits(blockers, slot);
     let count = count_at(vectors, slot);
-    due_now(x, waits, count)
+    due_now(x, waiting, count)
 }
 
 // Where piece i of the request that is out in `slot` lies.
@@ -225,13 +222,10 @@ pub(crate) fn tell(
     scratch: &mut [u8],
 ) -> Outcome
     requires { ⌜ DockWords (now settings) (now blockers) (now states) (now vectors) ⌝ }
-    ensures dock { λ r. ⌜ tells (record {
-      outcome = r;
-      dock = dockOf (now (settings .entry)) (now (blockers .exit)) (now (states .exit))
-          (now (vectors .entry));
-    }) (now («data» .exit)) (now (scratch .exit))
-        ≡ tellOf (dockOf (now (settings .entry)) (now (blockers .entry)) (now (states .entry)) (now (vectors .entry))) slot code
-        (now («data» .entry)) (now (scratch .entry)) ⌝ }
+    ensures dock { λ r. ⌜ tellsIn r (now (settings .entry)) (now (blockers .exit)) (now (states .exit)) (now (vectors .entry))
+        (now («data» .exit)) (now (scratch .exit))
+        ≡ tellOf (dockOf (now (settings .entry)) (now (blockers .entry)) (now (states .entry)) (now (vectors .entry)))
+        slot code (now («data» .entry)) (now (scratch .entry)) ⌝ }
     ensures words { λ r. ⌜ sameTwo (isDone r) (now (blockers .entry)) (now (states .entry)) (now (blockers .exit)) (now (states .exit)) ⌝ }
 {
     let b = get_buffers(settings);
@@ -243,7 +237,7 @@ pub(crate) fn tell(
     }
     let s = get_settings(settings);
     let x = state_at(states, slot);
-    told_at(
+    tell_slot(
         blockers,
         states,
         vectors,
@@ -268,11 +262,9 @@ pub(crate) fn collect(
     scratch_len: usize,
 ) -> Collected
     requires { ⌜ (length (now settings) ≡ 9) × (length (now states) ≡ 144) × (length (now vectors) ≡ 272) ⌝ }
-    ensures dock { λ r. ⌜ (r ≡ collectOf (dockOf (now (settings .entry)) (now (blockers .entry)) (now (states .entry))
-        (now (vectors .entry))) slot data_len «scratch_len» .answer)
-        × (dockOf (now (settings .entry)) (now (blockers .entry)) (now (states .exit)) (now (vectors .exit))
-        ≡ collectOf (dockOf (now (settings .entry)) (now (blockers .entry)) (now (states .entry)) (now (vectors .entry))) slot data_len
-        «scratch_len» .dock) ⌝ }
+    ensures dock { λ r. ⌜ CollectGives (collectOf
+        (dockOf (now (settings .entry)) (now (blockers .entry)) (now (states .entry)) (now (vectors .entry))) slot data_len «scratch_len»)
+        r (dockOf (now (settings .entry)) (now (blockers .entry)) (now (states .exit)) (now (vectors .exit))) ⌝ }
     ensures words { λ r. ⌜ sameTwo (isFinal r) (now (states .entry)) (now (vectors .entry)) (now (states .exit)) (now (vectors .exit)) ⌝ }
 {
     let lent = get_buffers(settings);
@@ -287,7 +279,7 @@ pub(crate) fn collect(
     if !has_ended(phase) {
         return Collected::Refused(Refusal::Slot);
     }
-    put_state_at(states, slot, vacant());
+    put_state_at(states, slot, make_vacant());
     put_vector_at(vectors, slot, IoVector::new());
     Collected::Final(x.answer)
 }

@@ -16,7 +16,7 @@ use dock::bytes::is_bounced_read;
 use dock::bytes::is_bounced_write;
 use dock::next::is_sound_in;
 use dock::tell::Answered;
-use dock::tell::told;
+use dock::tell::interpret_code;
 use stages::state::State;
 use stages::state::has_ended;
 use stages::state::is_free;
@@ -32,7 +32,7 @@ ghost use Rattle.dock.specs.Tell.{hands, staysAt, endsAt, entersAt, steppedAt, 
 ghost use Rattle.dock.specs.Slots.{filledShare, handedShare, StepSound};
 ghost use Rattle.dock_words.specs.View.{blockersOf, statesOf, vectorsOf};
 ghost use Rattle.arithmetic.specs.Refusals.{isDone};
-ghost use Rattle.dock_words.specs.Kept.{sameUnless, sameTwo, keeps, kept};
+ghost use Rattle.dock_words.specs.CallWords.{sameUnless, sameTwo, StoresStep};
 
 // Whether the request of the job x in `slot` is out.
 pub(crate) fn is_out(blockers: &[u64], x: State, slot: usize) -> bool
@@ -108,10 +108,10 @@ fn stays(
 ) -> Outcome
     requires { ⌜ (length (now states) ≡ 144) × (length (now vectors) ≡ 272) × (slot < 8)
         × (isSoundAt slot y settings buffers (length (now scratch)) ≡ true) ⌝ }
-    ensures dock { λ r. ⌜ keeps r (now (blockers .entry)) (now (states .exit)) (now («data» .entry)) (now (scratch .exit))
-        ≡ kept (blockersOf (now (blockers .entry))) (statesOf (now (states .entry))) slot
-        (staysAt (blockersOf (now (blockers .entry))) (slot * settings .bounce) y
-        (getD (vectorsOf (now (vectors .entry))) slot noVector) (now («data» .entry)) (now (scratch .entry))) ⌝ }
+    ensures dock { λ r. ⌜ StoresStep (staysAt (blockersOf (now (blockers .entry))) (slot * settings .bounce) y
+        (getD (vectorsOf (now (vectors .entry))) slot noVector) (now («data» .entry)) (now (scratch .entry)))
+        slot (now (blockers .entry)) (now (states .entry))
+        r (now (blockers .entry)) (now (states .exit)) (now («data» .entry)) (now (scratch .exit)) ⌝ }
     ensures words { λ r. ⌜ sameUnless (isDone r) (now (states .entry)) (now (states .exit)) ⌝ }
 {
     let outcome = fill(vectors, slot, settings, buffers, y, data, scratch);
@@ -138,10 +138,10 @@ fn ends(
 ) -> Outcome
     requires { ⌜ (length (now blockers) ≡ 88) × (length (now states) ≡ 144) × (length (now vectors) ≡ 272) × (slot < 8)
         × (isSoundAt slot x settings buffers (length (now scratch)) ≡ true) ⌝ }
-    ensures dock { λ r. ⌜ keeps r (now (blockers .exit)) (now (states .exit)) (now («data» .exit)) (now (scratch .entry))
-        ≡ kept (blockersOf (now (blockers .entry))) (statesOf (now (states .entry))) slot
-        (endsAt (blockersOf (now (blockers .entry))) slot (slot * settings .bounce) x code y
-        (getD (vectorsOf (now (vectors .entry))) slot noVector) (now («data» .entry)) (now (scratch .entry))) ⌝ }
+    ensures dock { λ r. ⌜ StoresStep (endsAt (blockersOf (now (blockers .entry))) slot (slot * settings .bounce) x code y
+        (getD (vectorsOf (now (vectors .entry))) slot noVector) (now («data» .entry)) (now (scratch .entry)))
+        slot (now (blockers .entry)) (now (states .entry))
+        r (now (blockers .exit)) (now (states .exit)) (now («data» .exit)) (now (scratch .entry)) ⌝ }
     ensures words { λ r. ⌜ sameTwo (isDone r) (now (blockers .entry)) (now (states .entry)) (now (blockers .exit)) (now (states .exit)) ⌝ }
 {
     if !may_leave(blockers, slot, x) {
@@ -171,10 +171,10 @@ fn enters(
 ) -> Outcome
     requires { ⌜ (length (now blockers) ≡ 88) × (length (now states) ≡ 144) × (length (now vectors) ≡ 272) × (slot < 8)
         × (isSoundAt slot y settings buffers (length (now scratch)) ≡ true) ⌝ }
-    ensures dock { λ r. ⌜ keeps r (now (blockers .exit)) (now (states .exit)) (now («data» .entry)) (now (scratch .exit))
-        ≡ kept (blockersOf (now (blockers .entry))) (statesOf (now (states .entry))) slot
-        (entersAt (blockersOf (now (blockers .entry))) slot (slot * settings .bounce) x y
-        (getD (vectorsOf (now (vectors .entry))) slot noVector) (now («data» .entry)) (now (scratch .entry))) ⌝ }
+    ensures dock { λ r. ⌜ StoresStep (entersAt (blockersOf (now (blockers .entry))) slot (slot * settings .bounce) x y
+        (getD (vectorsOf (now (vectors .entry))) slot noVector) (now («data» .entry)) (now (scratch .entry)))
+        slot (now (blockers .entry)) (now (states .entry))
+        r (now (blockers .exit)) (now (states .exit)) (now («data» .entry)) (now (scratch .exit)) ⌝ }
     ensures words { λ r. ⌜ sameTwo (isDone r) (now (blockers .entry)) (now (states .entry)) (now (blockers .exit)) (now (states .exit)) ⌝ }
 {
     if !may_change(blockers, slot, x, y) {
@@ -205,10 +205,10 @@ fn step(
 ) -> Outcome
     requires { ⌜ (length (now b) ≡ 88) × (length (now xs) ≡ 144) × (length (now vs) ≡ 272) × (slot < 8)
         × StepSound slot s l x (length (now scratch)) step ⌝ }
-    ensures dock { λ r. ⌜ keeps r (now (b .exit)) (now (xs .exit)) (now («data» .exit)) (now (scratch .exit))
-        ≡ kept (blockersOf (now (b .entry))) (statesOf (now (xs .entry))) slot
-        (steppedAt (blockersOf (now (b .entry))) slot (slot * s .bounce) x code (getD (vectorsOf (now (vs .entry))) slot noVector)
-        (now («data» .entry)) (now (scratch .entry)) step) ⌝ }
+    ensures dock { λ r. ⌜ StoresStep (steppedAt (blockersOf (now (b .entry))) slot (slot * s .bounce) x code
+        (getD (vectorsOf (now (vs .entry))) slot noVector) (now («data» .entry)) (now (scratch .entry)) step)
+        slot (now (b .entry)) (now (xs .entry))
+        r (now (b .exit)) (now (xs .exit)) (now («data» .exit)) (now (scratch .exit)) ⌝ }
     ensures words { λ r. ⌜ sameTwo (isDone r) (now (b .entry)) (now (xs .entry)) (now (b .exit)) (now (xs .exit)) ⌝ }
 {
     match step {
@@ -219,7 +219,7 @@ fn step(
 }
 
 // The code for the job x in `slot`, with the same names: 208 where no request of it is out, 209 for what is no answer.
-pub(crate) fn told_at(
+pub(crate) fn tell_slot(
     b: &mut [u64],
     xs: &mut [u64],
     vs: &[u64],
@@ -233,10 +233,10 @@ pub(crate) fn told_at(
 ) -> Outcome
     requires { ⌜ (length (now b) ≡ 88) × (length (now xs) ≡ 144) × (length (now vs) ≡ 272) × (slot < 8)
         × (lentFits l (length (now «data»)) (length (now scratch)) ≡ true) ⌝ }
-    ensures dock { λ r. ⌜ keeps r (now (b .exit)) (now (xs .exit)) (now («data» .exit)) (now (scratch .exit))
-        ≡ kept (blockersOf (now (b .entry))) (statesOf (now (xs .entry))) slot
-        (toldAt (blockersOf (now (b .entry))) slot s l x (getD (vectorsOf (now (vs .entry))) slot noVector) code (now («data» .entry))
-        (now (scratch .entry))) ⌝ }
+    ensures dock { λ r. ⌜ StoresStep (toldAt (blockersOf (now (b .entry))) slot s l x
+        (getD (vectorsOf (now (vs .entry))) slot noVector) code (now («data» .entry)) (now (scratch .entry)))
+        slot (now (b .entry)) (now (xs .entry))
+        r (now (b .exit)) (now (xs .exit)) (now («data» .exit)) (now (scratch .exit)) ⌝ }
     ensures words { λ r. ⌜ sameTwo (isDone r) (now (b .entry)) (now (xs .entry)) (now (b .exit)) (now (xs .exit)) ⌝ }
 {
     if !is_out(b, x, slot) {
@@ -245,7 +245,7 @@ pub(crate) fn told_at(
     if !is_sound_in(x, s, l) {
         return Outcome::Refused(Refusal::Slot);
     }
-    let answer = told(x, s, code);
+    let answer = interpret_code(x, s, code);
     match answer {
         Answered::Refused(r) => Outcome::Refused(r),
         Answered::Leads(t) => { step(b, xs, vs, slot, s, l, x, code, t, data, scratch) }

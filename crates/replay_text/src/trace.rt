@@ -46,7 +46,7 @@ pub fn outcome(o: Outcome) {
 pub fn begun(b: Begun) {
     match b {
         Begun::Done => text(b" done"),
-        Begun::Placed(slot) => pair(b"slot", slot as u64),
+        Begun::Admitted(slot) => pair(b"slot", slot as u64),
         Begun::Refused(r) => refused(r),
     }
 }

@@ -591,12 +591,12 @@ module _ (s : Settings) (fit : settingsFit s ≡ true) (j : Job) (w m : Range) (
       let z : n ≡ o + n - o = omega arith in
       short-by (rangeOf o (o + n)) (subst (λ (k : ℕ). paddedLength R L o k ≤ s .bounce) z (whole-pads s (accepted s fit) o n h))
 
-  pub whole-refused : (o n : ℕ) → hasMiddle Z o n ≡ false → (r : Refusal) → zeroesPlan s j w m c (rangeOf o (o + n)) ≡ Refused r → r
-      ≡ Overflow
+  pub whole-refused : (o n : ℕ) → hasMiddle Z o n ≡ false → (r : Refusal) → zeroesPlan s j w m c (rangeOf o (o + n)) ≡ Refused r
+      → r ≡ Overflow
   whole-refused o n h r e = refused-for (zeroesPlan s j w m c (rangeOf o (o + n))) r (whole-short o n h) e
 
-  pub chunk-refused : (o n : ℕ) (r : Refusal) → zeroesPlan s j w m c (rangeOf o (o + chunkLength R (s .bounce) o n)) ≡ Refused r → r
-      ≡ Overflow
+  pub chunk-refused : (o n : ℕ) (r : Refusal) → zeroesPlan s j w m c (rangeOf o (o + chunkLength R (s .bounce) o n)) ≡ Refused r
+      → r ≡ Overflow
   chunk-refused o n r e =
       let k = chunkLength R (s .bounce) o n in
       let z : k ≡ o + k - o = omega arith in

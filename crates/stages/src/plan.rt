@@ -136,14 +136,7 @@ fn first_phase(g: Stage) -> Phase
 }
 
 // A job in its first stage; `middle` and `course` are those of a zero job.
-fn started(
-    job: Job,
-    range: Range,
-    middle: Range,
-    course: Course,
-    stage: Stage,
-    phase: Phase,
-) -> Plan
+fn start(job: Job, range: Range, middle: Range, course: Course, stage: Stage, phase: Phase) -> Plan
     ensures { λ p. ⌜ p ≡ Plan.Started (stateOf job range middle course stage phase) ⌝ }
 {
     Plan::Started(State {
@@ -195,7 +188,7 @@ fn vector_plan(
     }
     let transfer = direct_or_padded(offset, n, aligned, settings.align);
     if let Transfer::Direct(r) = transfer {
-        return started(job, r, nowhere(), Course::Last, direct_stage(r), direct);
+        return start(job, r, nowhere(), Course::Last, direct_stage(r), direct);
     }
     let Transfer::Bounced(span) = transfer else {
         return Plan::Refused(transfer.refusal());
@@ -206,7 +199,7 @@ fn vector_plan(
     let range = asked_range(offset, n);
     let stage = padded_stage(span, range);
     let phase = bounced_phase(job, stage);
-    started(job, range, nowhere(), Course::Last, stage, phase)
+    start(job, range, nowhere(), Course::Last, stage, phase)
 }
 
 // A read of n bytes at `offset` into a vector that is or is not aligned.
@@ -293,7 +286,7 @@ pub fn zero_plan(settings: Settings, allocate: bool, offset: StoreOffset, n: u64
         }
         ZeroCut::Split(c) => {
             let range = asked_range(offset, n);
-            started(
+            start(
                 job,
                 range,
                 c.middle,
@@ -314,7 +307,7 @@ pub fn discard_plan(settings: Settings, offset: StoreOffset, n: u64) -> Plan
         DiscardCut::Nothing => Plan::Done,
         DiscardCut::Middle(r) => {
             let range = asked_range(offset, n);
-            started(
+            start(
                 Job::Discard,
                 range,
                 nowhere(),

@@ -31,7 +31,7 @@ impl State {
     }
 
     // The job ended, with its final answer.
-    fn ended_with(mut self, answer: u8) -> State
+    fn end_with(mut self, answer: u8) -> State
         ensures { λ y. ⌜ y ≡ endedWith answer self ⌝ }
     {
         self.answer = answer;
@@ -42,7 +42,7 @@ impl State {
     pub fn ends(self, answer: u8) -> Step
         ensures { λ t. ⌜ t ≡ Step.Ends (endedWith answer self) ⌝ }
     {
-        Step::Ends(self.ended_with(answer))
+        Step::Ends(self.end_with(answer))
     }
 
     // A later stage: a refusal, 207 among them, is the job's final answer.

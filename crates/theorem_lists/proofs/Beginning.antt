@@ -34,7 +34,7 @@ use Rattle.dock.specs.SlotLaws.{lowest-free}
 use Rattle.dock.specs.declared.dock.Dock.{Dock}
 use Rattle.dock.specs.declared.begin.Asked.{Asked}
 use Rattle.theorem_lists.specs.Courses.{isZeroJob, bounces, isRegular, suited, never}
-use Rattle.theorem_lists.specs.Calls.{Ready, free-idle, write-vector, copied, placed, free-there, place-held}
+use Rattle.theorem_lists.specs.Calls.{Ready, free-idle, write-vector, copied, admitted, free-there, admit-held}
 use Rattle.theorem_lists.specs.MadeLaws.{data-long}
 use Rattle.theorem_lists.specs.Store.{Bytes}
 use Rattle.theorem_lists.specs.PlainStore.{Tracked, Plain, newBytes, putJob}
@@ -207,7 +207,7 @@ module _ (w : World) (m : Plain) (I : Inv w m) (ask : Asked) (v : IoVector) (x :
   job = record { asked = ask; bytes = bs; first = x; codes = []; steps = [] }
 
   abbrev begun : World
-  begun = called w (placed d p x v (w .memory) (w .scratch) .dock) (w .memory) (placed d p x v (w .memory) (w .scratch) .scratch)
+  begun = called w (admitted d p x v (w .memory) (w .scratch) .dock) (w .memory) (admitted d p x v (w .memory) (w .scratch) .scratch)
 
   abbrev entered : Plain
   entered = putJob m p (some job)
@@ -289,7 +289,7 @@ module _ (w : World) (m : Plain) (I : Inv w m) (ask : Asked) (v : IoVector) (x :
       (λ q g n f u. refl) (λ q i n l. fill-other (d .settings .bounce) p h x v (w .memory) (w .scratch) (room w m I) inside fits q i n l)
       (λ q g n a b c i l. refl)
       (λ q g n. enter-waits (d .blockers) (I .held .rank) (I .held .clock) (I .held .blockers) p q h g n x (free-there d (I .held) v (w .memory) (w .scratch) long x (k .ready) h))
-      (place-held d (I .held) v (w .memory) (w .scratch) long x (k .ready) h)
+      (admit-held d (I .held) v (w .memory) (w .scratch) long x (k .ready) h)
       (rw (fill-length (d .settings .bounce) p h x v (w .memory) (w .scratch) (room w m I) inside fits) (I .long))
       (I .same) own
       (λ q g n f u r. rw is-v (apart-of q g u (rw (is-x, sym (k .asked .job)) at r)))

@@ -39,7 +39,7 @@ use Rattle.blockers.specs.Blockers.{waitsOf}
 use Rattle.stages.specs.declared.told.Step.{Step}
 use Rattle.stages.specs.declared.told.Step.the-variants.{Stays, Ends, Enters}
 use Rattle.dock.specs.Dock.{stateAt, vectorAt, vacant, lentOf, isOutBy, isOut, overlapsOf, firstFree, isReadJob, openOf}
-use Rattle.dock.specs.Begin.{isAligned, Begins, withJob, movedOf, planOf, vectorFor, planFor, decidedFor, beginOf}
+use Rattle.dock.specs.Begin.{isAligned, Begins, withJob, selectedOf, planOf, vectorFor, planFor, decidedFor, beginOf}
 use Rattle.dock.specs.Tell.{Told, refusedTell, tellOf, collectOf}
 use Rattle.dock.specs.SlotLaws.{started}
 use Rattle.dock.specs.declared.dock.Dock.{Dock}
@@ -103,7 +103,7 @@ module _ (d : Dock) (fit : settingsFit (d .settings) ≡ true) (o : StoreOffset)
         before = λ z. rw i at (zero-before (d .settings) fit t o n);
       })
 
-  starts : (j : Job) (n : ℕ) (v : IoVector) → isValid M (movedOf j v) ≡ true → Starts (Start d (ask j n v) (movedOf j v)) (planOf j (d .settings) (d .buffers) o n v)
+  starts : (j : Job) (n : ℕ) (v : IoVector) → isValid M (selectedOf j v) ≡ true → Starts (Start d (ask j n v) (selectedOf j v)) (planOf j (d .settings) (d .buffers) o n v)
   starts Read n v e = starts-from (Start d (ask Read n v) v) (readPlan (d .settings) o (v .total) (al v)) (λ x i.
       let k = read-opens (d .settings) o (v .total) (al v) x i in
       record {

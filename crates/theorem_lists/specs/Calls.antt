@@ -35,12 +35,12 @@ use Rattle.stages.specs.declared.told.Step.{Step}
 use Rattle.stages.specs.declared.told.Step.the-variants.{Stays, Ends, Enters}
 use Rattle.dock.specs.Dock.{noState, noVector, vacant, stateAt, vectorAt, shareAt, isReadJob, firstFree}
 use Rattle.dock.specs.Begin.{isWriteJob, isBouncedWrite, sourceFits, mergedAt, filled, blockersWith, enterAt, admitAt, withJob}
-use Rattle.dock.specs.Begin.{Begins, seated, isAligned, movedOf, planOf}
+use Rattle.dock.specs.Begin.{Begins, storedWith, isAligned, selectedOf, planOf}
 use Rattle.dock.specs.Tell.{blockersWithout, copiedAt, isBouncedRead, handed, staysAt, endsAt, entersAt, steppedAt}
 use Rattle.dock.specs.Tell.{Told, tells, accepted, storedBy, stored}
 use Rattle.dock.specs.SlotLaws.{lowest-free}
 use Rattle.dock.specs.declared.dock.Dock.{Dock}
-use Rattle.dock.specs.declared.begin.Begun.the-variants.{Done as NoRequest, Placed, Refused as BeginRefused}
+use Rattle.dock.specs.declared.begin.Begun.the-variants.{Done as NoRequest, Admitted, Refused as BeginRefused}
 use Rattle.theorem_lists.specs.Courses.{isZeroJob, hasVector, isLast, isRegular, suited, never, Sole, read-regular, write-regular}
 use Rattle.theorem_lists.specs.Courses.{zero-regular, discard-regular, Goes, stays-regular, enters-regular}
 use Rattle.theorem_lists.specs.Held.{SlotOf, Held}
@@ -238,8 +238,8 @@ module _ (s : Settings) (m : ℕ) (o : StoreOffset) where
       (λ x i. bare-ready Discard (asked o n) v x refl (discard-opens s o n x i) (rw i at (discard-regular s o n)))
 
   -- every plan
-  pub planned-ready : (b : Buffers) (j : Job) (n : ℕ) (v : IoVector) → isValid m (movedOf j v) ≡ true
-      → Starts (Ready s m (movedOf j v)) (planOf j s b o n v)
+  pub planned-ready : (b : Buffers) (j : Job) (n : ℕ) (v : IoVector) → isValid m (selectedOf j v) ≡ true
+      → Starts (Ready s m (selectedOf j v)) (planOf j s b o n v)
   planned-ready b Read n v e = read-ready v e (isAligned (alignmentOf (s .align) (b .«data») v))
   planned-ready b Write n v e = write-ready v e (isAligned (alignmentOf (s .align) (b .«data») v))
   planned-ready b Zeroes n v e = zero-ready (vectorOf []) false n
@@ -247,11 +247,11 @@ module _ (s : Settings) (m : ℕ) (o : StoreOffset) where
   planned-ready b Discard n v e = discard-ready (vectorOf []) n
 
 -- the job x with the vector v comes to slot p: its blocker enters, its scratch is filled
-abbrev pub placed : Dock → ℕ → State → IoVector → List ℕ → List ℕ → Begins
-placed d p x v memory scratch =
+abbrev pub admitted : Dock → ℕ → State → IoVector → List ℕ → List ℕ → Begins
+admitted d p x v memory scratch =
     record {
       dock = withJob d p (blockersWith (d .blockers) p x .blockers) x v;
-      answer = Placed p;
+      answer = Admitted p;
       scratch = filled (shareAt d p) x v memory scratch .scratch;
     }
 
@@ -259,7 +259,7 @@ placed d p x v memory scratch =
 abbrev pub begunRule : Dock → IoVector → List ℕ → List ℕ → Plan → Begins
 begunRule d v memory scratch NothingToDo = record { dock = d; answer = NoRequest; scratch = scratch }
 begunRule d v memory scratch (PlanRefused r) = record { dock = d; answer = BeginRefused r; scratch = scratch }
-begunRule d v memory scratch (Started x) = placed d (firstFree (d .states)) x v memory scratch
+begunRule d v memory scratch (Started x) = admitted d (firstFree (d .states)) x v memory scratch
 
 module _ (d : Dock) (H : Held d) where
   abbrev N : ℕ
@@ -285,12 +285,12 @@ module _ (d : Dock) (H : Held d) where
           (λ u. let k = r .vector (write-vector (x .job) u) in copied memory v (sizeOf (x .stage .asked)) (rw l (k .1)) (rw (k .0) (k .2)))
 
       -- the begin is not refused at the slot
-      pub place-done : seated d v (admitAt (d .blockers) p N v memory scratch (Started x)) ≡ placed d p x v memory scratch
+      pub admit-done : storedWith d v (admitAt (d .blockers) p N v memory scratch (Started x)) ≡ admitted d p x v memory scratch
       unfolding enterAt
-      place-done = simp (enters .done, fills)
+      admit-done = simp (enters .done, fills)
 
-      pub place-held : Held (placed d p x v memory scratch .dock)
-      place-held =
+      pub admit-held : Held (admitted d p x v memory scratch .dock)
+      admit-held =
           slot-anew d H p h x (set (d .vectors) p v) (blockersWith (d .blockers) p x) enters (length-set (d .vectors) p v ∙ H .vectors)
           (λ q n. getD-set-other (d .vectors) p q v noVector n)
           (rw (getD-set-same (d .vectors) p v noVector (rw (H .vectors) h))

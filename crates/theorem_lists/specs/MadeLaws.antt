@@ -23,9 +23,9 @@ use Rattle.stages.specs.declared.plan.Plan.{Plan}
 use Rattle.stages.specs.declared.plan.Plan.the-variants.{Done as NothingToDo, Started, Refused as PlanRefused}
 use Rattle.dock.specs.Dock.{stateAt, vectorAt, shareAt, vacant, openOf, openBy, openProfileOf, lentFits, lentOf, isOutBy, isOut, overlapsOf}
 use Rattle.dock.specs.Dock.{firstFree}
-use Rattle.dock.specs.Begin.{admitAt, withJob, Begins, seated, vectorFor, planFor, decidedFor, beginOf}
+use Rattle.dock.specs.Begin.{admitAt, withJob, Begins, storedWith, vectorFor, planFor, decidedFor, beginOf}
 use Rattle.dock.specs.Next.{isSoundIn, isSoundOf}
-use Rattle.dock.specs.Tell.{steps, unstepped, answeredOf, answeredBy, toldAt, Told, refusedTell, stored, tellOf, collectOf}
+use Rattle.dock.specs.Tell.{steps, refusedStep, answeredOf, answeredBy, toldAt, Told, refusedTell, stored, tellOf, collectOf}
 use Rattle.dock.specs.SlotLaws.{started, lent-done}
 use Rattle.dock.specs.declared.dock.Dock.{Dock}
 use Rattle.dock.specs.declared.begin.Asked.{Asked}
@@ -34,7 +34,7 @@ use Rattle.dock.specs.declared.tell.Collects.{Collects}
 use Rattle.dock.specs.declared.tell.Collected.the-variants.{Final, Refused as NotCollected}
 use Rattle.theorem_lists.specs.Held.{Held, Made, opens, opens-profile, begins, tells, collects}
 use Rattle.theorem_lists.specs.Keeping.{fresh-held}
-use Rattle.theorem_lists.specs.Calls.{Ready, planned-ready, begunRule, place-done, place-held, after, told-done, told-held}
+use Rattle.theorem_lists.specs.Calls.{Ready, planned-ready, begunRule, admit-done, admit-held, after, told-done, told-held}
 use Rattle.theorem_lists.specs.Calls.{freed-held}
 
 -- ---- what a call is lent
@@ -71,11 +71,11 @@ module _ (d : Dock) (H : Held d) (q : Asked) (memory scratch : List ℕ) where
   begin-is = go plan refl
     where
       go : (z : Plan) → plan ≡ z
-          → seated d (vectorFor q) (admitAt (d .blockers) (firstFree (d .states)) (d .settings .bounce) (vectorFor q) memory scratch z)
+          → storedWith d (vectorFor q) (admitAt (d .blockers) (firstFree (d .states)) (d .settings .bounce) (vectorFor q) memory scratch z)
           ≡ begunRule d (vectorFor q) memory scratch z
       go NothingToDo e = refl
       go (PlanRefused r) e = refl
-      go (Started x) e = let k = decided-ready x e in place-done d H (vectorFor q) memory scratch (k .0) x (k .1) (k .2)
+      go (Started x) e = let k = decided-ready x e in admit-done d H (vectorFor q) memory scratch (k .0) x (k .1) (k .2)
 
   begin-held : Held (beginOf d q memory scratch .dock)
   begin-held = subst (λ (b : Begins). Held (b .dock)) (sym begin-is) (go plan refl)
@@ -83,7 +83,7 @@ module _ (d : Dock) (H : Held d) (q : Asked) (memory scratch : List ℕ) where
       go : (z : Plan) → plan ≡ z → Held (begunRule d (vectorFor q) memory scratch z .dock)
       go NothingToDo e = H
       go (PlanRefused r) e = H
-      go (Started x) e = let k = decided-ready x e in place-held d H (vectorFor q) memory scratch (k .0) x (k .1) (k .2)
+      go (Started x) e = let k = decided-ready x e in admit-held d H (vectorFor q) memory scratch (k .0) x (k .1) (k .2)
 
 -- ---- tell
 
@@ -116,7 +116,7 @@ module _ (d : Dock) (H : Held d) (p : ℕ) where
         stored d p (pick (t && isSoundIn (stateAt d p) (d .settings) (d .buffers))
         (answeredBy (pick u (Leads (toldOf (d .settings) (stateAt d p) code)) (NoLead NoAnswer)) (d .blockers) p (shareAt d p)
         (stateAt d p) code (vectorAt d p)
-        memory scratch) (steps (unstepped (d .blockers) (stateAt d p) Slot) memory scratch))
+        memory scratch) (steps (refusedStep (d .blockers) (stateAt d p) Slot) memory scratch))
 
     there : p < 8 → length memory ≡ d .buffers .«data» .length → (t u : Bool) → isOutBy (d .blockers) (stateAt d p) p ≡ t
         → told t u ≡ pick t (pick u step (refusedTell d memory scratch NoAnswer)) (refusedTell d memory scratch Slot)

@@ -29,7 +29,7 @@ use Rattle.stages.specs.declared.told.Step.the-variants.{Stays, Ends, Enters}
 use Rattle.dock.specs.Begin.{vectorFor, planFor}
 use Rattle.dock.specs.declared.begin.Asked.{Asked}
 use Rattle.dock.specs.declared.begin.Begun.{Begun}
-use Rattle.dock.specs.declared.begin.Begun.the-variants.{Done as NoRequest, Placed, Refused as BeginRefused}
+use Rattle.dock.specs.declared.begin.Begun.the-variants.{Done as NoRequest, Admitted, Refused as BeginRefused}
 use Rattle.dock.specs.declared.tell.Collected.{Collected}
 use Rattle.dock.specs.declared.tell.Collected.the-variants.{Final, Refused as NotCollected}
 use Rattle.theorem_lists.specs.Store.{Bytes, Choice, changed, becomesNew, window, laidAt}
@@ -182,7 +182,7 @@ tracked q bs NothingToDo = none
 tracked q bs (PlanRefused r) = none
 
 abbrev pub entersBy : Begun → Plain → Asked → List ℕ → Plan → Plain
-entersBy (Placed p) m q bs plan = putJob m p (tracked q bs plan)
+entersBy (Admitted p) m q bs plan = putJob m p (tracked q bs plan)
 entersBy NoRequest m q bs plan = m
 entersBy (BeginRefused r) m q bs plan = m
 

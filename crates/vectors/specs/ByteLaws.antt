@@ -281,8 +281,8 @@ gather-scatter l (p ∷ ps) src h d e =
     ∙ take-append-drop n src
 
 -- byte i of src then stands at place i
-pub scatter-at : (l : List ℕ) (ps : List Segment) (src : List ℕ) (i : ℕ) → allSegments (liesIn (length l)) ps ≡ true → selfOverlapOf ps
-    ≡ false → length src ≡ sizeOf ps → i < sizeOf ps
+pub scatter-at : (l : List ℕ) (ps : List Segment) (src : List ℕ) (i : ℕ) → allSegments (liesIn (length l)) ps ≡ true
+    → selfOverlapOf ps ≡ false → length src ≡ sizeOf ps → i < sizeOf ps
     → getD (scatterOf l ps src) (placeOf ps i) 0 ≡ getD src i 0
 scatter-at l ps src i e d n h =
     let long = scatter-length l ps src e in

@@ -153,8 +153,8 @@ overlap-sym ps qs = from-both (overlapOf ps qs) (overlapOf qs ps) (turn ps qs) (
 -- ---- one list
 
 -- of segments that do not overlap, none shares an index with a later one
-pub self-apart : (ps : List Segment) (i j : ℕ) → selfOverlapOf ps ≡ false → i < j → j < length ps → shares (getD ps i none) (getD ps j none)
-    ≡ false
+pub self-apart : (ps : List Segment) (i j : ℕ) → selfOverlapOf ps ≡ false → i < j → j < length ps
+    → shares (getD ps i none) (getD ps j none) ≡ false
 unfolding selfOverlapOf
 self-apart [] i j e h l = absurd (omega arith)
 self-apart (p ∷ ps) i zero e h l = absurd (omega arith)
@@ -164,8 +164,8 @@ self-apart (p ∷ ps) (suc i) (suc j) e h l = self-apart ps i j (or-right (anySe
     (le-of-suc-le-suc l)
 
 -- and where two share one, they overlap
-pub self-shared : (ps : List Segment) (i j : ℕ) → i < j → j < length ps → shares (getD ps i none) (getD ps j none) ≡ true → selfOverlapOf ps
-    ≡ true
+pub self-shared : (ps : List Segment) (i j : ℕ) → i < j → j < length ps → shares (getD ps i none) (getD ps j none) ≡ true
+    → selfOverlapOf ps ≡ true
 unfolding selfOverlapOf
 self-shared [] i j h l e = absurd (omega arith)
 self-shared (p ∷ ps) i zero h l e = absurd (omega arith)

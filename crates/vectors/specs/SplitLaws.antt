@@ -217,8 +217,8 @@ tail-place (p ∷ ps) mid i l =
           rw (le-ltb i (p .length - mid) g, le-ltb (mid + i) (p .length) m) (ap (placeOf ps) e)
     ])
 
-    past : Past p ps mid → placeOf (tailOf ps (mid - p .length)) i ≡ placeOf ps (mid - p .length + i) → placeOf (tailOf (p ∷ ps) mid) i
-        ≡ placeOf (p ∷ ps) (mid + i)
+    past : Past p ps mid → placeOf (tailOf ps (mid - p .length)) i ≡ placeOf ps (mid - p .length + i)
+        → placeOf (tailOf (p ∷ ps) mid) i ≡ placeOf (p ∷ ps) (mid + i)
     past b f =
         let m : p .length ≤ mid + i = omega (arith, b .is) in
         let e : mid - p .length + i ≡ mid + i - p .length = omega (arith, b .is) in

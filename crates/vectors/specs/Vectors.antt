@@ -131,6 +131,16 @@ copies memory v n = isValid (length memory) v && eqb n (v .total)
 abbrev pub outcomeOf : Bool → Outcome
 outcomeOf t = pick t Done (Refused BadSegment)
 
+-- the slice, the memory that the slice is copied to, and the memory that the byte b fills: as they were where that is refused
+abbrev pub copiedInto : List ℕ → IoVector → List ℕ → List ℕ
+copiedInto memory v slice = pick (copies memory v (length slice)) (bytesOf memory (segmentsOf v)) slice
+
+abbrev pub copiedFrom : List ℕ → IoVector → List ℕ → List ℕ
+copiedFrom memory v slice = pick (copies memory v (length slice)) (scatterOf memory (segmentsOf v) slice) memory
+
+abbrev pub filledWith : List ℕ → IoVector → ℕ → List ℕ
+filledWith memory v b = pick (isValid (length memory) v) (fillOf memory (segmentsOf v) b) memory
+
 -- ---- which vectors share a byte (the test of 203)
 
 -- the segments share an index

@@ -5,8 +5,8 @@ use arithmetic::refusals::Refusal;
 ghost use mathlib.Core.Path.{_≡_};
 ghost use mathlib.Core.Bool.{true};
 ghost use lib.ListN.{length, replicate};
-ghost use Rattle.arithmetic.specs.Rounding.{pick};
 ghost use Rattle.vectors.specs.Vectors.{segmentsOf, isValid, bytesOf, scatterOf, fillOf, copies, outcomeOf};
+ghost use Rattle.vectors.specs.Vectors.{copiedInto, copiedFrom, filledWith};
 
 // `part` becomes `source`: both have the same length.
 fn copy(part: &mut [u8], source: &[u8])
@@ -91,8 +91,7 @@ impl IoVector {
     // `slice`, as long as the vector, becomes its bytes. Refused where it is of another length.
     pub fn copy_into_slice(self, data: &[u8], slice: &mut [u8]) -> Outcome
         ensures outcome { λ r. ⌜ r ≡ outcomeOf (copies (now («data» .entry)) self (length (now (slice .entry)))) ⌝ }
-        ensures bytes { λ _. ⌜ now (slice .exit) ≡ pick (copies (now («data» .entry)) self (length (now (slice .entry))))
-            (bytesOf (now («data» .entry)) (segmentsOf self)) (now (slice .entry)) ⌝ }
+        ensures bytes { λ _. ⌜ now (slice .exit) ≡ copiedInto (now («data» .entry)) self (now (slice .entry)) ⌝ }
     {
         if !self.valid(data.len()) {
             return Outcome::Refused(Refusal::Segment);
@@ -108,8 +107,7 @@ impl IoVector {
     // Refused where it is of another length.
     pub fn copy_from_slice(self, data: &mut [u8], slice: &[u8]) -> Outcome
         ensures outcome { λ r. ⌜ r ≡ outcomeOf (copies (now («data» .entry)) self (length (now (slice .entry)))) ⌝ }
-        ensures bytes { λ _. ⌜ now («data» .exit) ≡ pick (copies (now («data» .entry)) self (length (now (slice .entry))))
-            (scatterOf (now («data» .entry)) (segmentsOf self) (now (slice .entry))) (now («data» .entry)) ⌝ }
+        ensures bytes { λ _. ⌜ now («data» .exit) ≡ copiedFrom (now («data» .entry)) self (now (slice .entry)) ⌝ }
     {
         if !self.valid(data.len()) {
             return Outcome::Refused(Refusal::Segment);
@@ -124,8 +122,7 @@ impl IoVector {
     // Every byte of the segments becomes `value`.
     pub fn fill(self, data: &mut [u8], value: u8) -> Outcome
         ensures outcome { λ r. ⌜ r ≡ outcomeOf (isValid (length (now («data» .entry))) self) ⌝ }
-        ensures bytes { λ _. ⌜ now («data» .exit) ≡ pick (isValid (length (now («data» .entry))) self)
-            (fillOf (now («data» .entry)) (segmentsOf self) value) (now («data» .entry)) ⌝ }
+        ensures bytes { λ _. ⌜ now («data» .exit) ≡ filledWith (now («data» .entry)) self value ⌝ }
     {
         if !self.valid(data.len()) {
             return Outcome::Refused(Refusal::Segment);
@@ -137,8 +134,7 @@ impl IoVector {
     // A copy in a lent `buffer`, as long as the vector: there is no allocation. Refused where it is of another length.
     pub fn try_into_owned(self, data: &[u8], buffer: &mut [u8]) -> Outcome
         ensures outcome { λ r. ⌜ r ≡ outcomeOf (copies (now («data» .entry)) self (length (now (buffer .entry)))) ⌝ }
-        ensures bytes { λ _. ⌜ now (buffer .exit) ≡ pick (copies (now («data» .entry)) self (length (now (buffer .entry))))
-            (bytesOf (now («data» .entry)) (segmentsOf self)) (now (buffer .entry)) ⌝ }
+        ensures bytes { λ _. ⌜ now (buffer .exit) ≡ copiedInto (now («data» .entry)) self (now (buffer .entry)) ⌝ }
     {
         self.copy_into_slice(data, buffer)
     }

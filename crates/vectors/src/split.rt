@@ -37,7 +37,7 @@ impl IoVector {
         ensures { λ r. ⌜ r ≡ splitTailOf data_len self mid ⌝ }
     {
         if !self.valid(data_len) {
-            return self.refused();
+            return self.refuse();
         }
         let split = self.do_split_at(mid);
         Changed {
@@ -93,12 +93,12 @@ impl IoVector {
     {
         let index = position.index;
         let inside = position.inside;
-        let head = IoVector::new().joined(self, 0, index);
+        let head = IoVector::new().join(self, 0, index);
         if inside == 0 {
             return head;
         }
         let p = self.segments[index];
-        head.with(Segment {
+        head.add(Segment {
             start: p.start,
             length: inside,
         })
@@ -113,13 +113,13 @@ impl IoVector {
         let index = position.index;
         let inside = position.inside;
         if inside == 0 {
-            return IoVector::new().joined(self, index, n - index);
+            return IoVector::new().join(self, index, n - index);
         }
         let p = self.segments[index];
-        let first = IoVector::new().with(Segment {
+        let first = IoVector::new().add(Segment {
             start: p.start + inside,
             length: p.length - inside,
         });
-        first.joined(self, index + 1, n - (index + 1))
+        first.join(self, index + 1, n - (index + 1))
     }
 }

@@ -139,7 +139,7 @@ impl IoVector {
     }
 
     // With one segment more at the end.
-    pub(crate) fn with(mut self, segment: Segment) -> IoVector
+    pub(crate) fn add(mut self, segment: Segment) -> IoVector
         requires { ⌜ Room self segment ⌝ }
         ensures { λ r. ⌜ r ≡ vectorOf (segmentsOf self ++ (segment ∷ [])) ⌝ }
     {
@@ -151,7 +151,7 @@ impl IoVector {
     }
 
     // With n segments of `other`, from `start` on, at the end.
-    pub(crate) fn joined(self, other: IoVector, start: usize, n: usize) -> IoVector
+    pub(crate) fn join(self, other: IoVector, start: usize, n: usize) -> IoVector
         requires { ⌜ Joins self other start n ⌝ }
         ensures { λ r. ⌜ r ≡ vectorOf (segmentsOf self ++ take n (drop start (segmentsOf other))) ⌝ }
     {
@@ -159,14 +159,14 @@ impl IoVector {
         let mut i = 0usize;
         while i < n {
             let p = other.segments[start + i];
-            v = v.with(p);
+            v = v.add(p);
             i += 1;
         }
         v
     }
 
     // 202: the vector stays as it was.
-    pub(crate) fn refused(self) -> Changed
+    pub(crate) fn refuse(self) -> Changed
         ensures { λ r. ⌜ r ≡ refusedVector self ⌝ }
     {
         Changed {
@@ -188,19 +188,19 @@ impl IoVector {
     {
         let n = self.count;
         if n < index {
-            return self.refused();
+            return self.refuse();
         }
         if !self.valid(data_len) {
-            return self.refused();
+            return self.refuse();
         }
         if !segment.lies_in(data_len) {
-            return self.refused();
+            return self.refuse();
         }
         if !self.has_room(1, segment.length as u64) {
-            return self.refused();
+            return self.refuse();
         }
-        let front = IoVector::new().joined(self, 0, index).with(segment);
-        let vector = front.joined(self, index, n - index);
+        let front = IoVector::new().join(self, 0, index).add(segment);
+        let vector = front.join(self, index, n - index);
         Changed {
             vector,
             outcome: Outcome::Done,
@@ -212,16 +212,16 @@ impl IoVector {
         ensures { λ r. ⌜ r ≡ appendOf data_len self other ⌝ }
     {
         if !other.valid(data_len) {
-            return self.refused();
+            return self.refuse();
         }
         if !self.valid(data_len) {
-            return self.refused();
+            return self.refuse();
         }
         if !self.has_room(other.count, other.total) {
-            return self.refused();
+            return self.refuse();
         }
-        let front = IoVector::new().joined(self, 0, self.count);
-        let vector = front.joined(other, 0, other.count);
+        let front = IoVector::new().join(self, 0, self.count);
+        let vector = front.join(other, 0, other.count);
         Changed {
             vector,
             outcome: Outcome::Done,

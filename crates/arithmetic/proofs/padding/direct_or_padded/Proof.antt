@@ -60,9 +60,9 @@ length-align-requires : tie.Need-length-align-requires
 unfolding transferOf
 length-align-requires c κs = search needs
 
-padded-requires : tie.Need-padded-requires
+pad-to-requires : tie.Need-pad-to-requires
 unfolding transferOf
-padded-requires c κs = let k = known (c .before .before .before .before .before .before .before) in rw (c .length-align .ensures) (k .req .positive, k .positive, k .req-le, k .of-req)
+pad-to-requires c κs = let k = known (c .before .before .before .before .before .before .before) in rw (c .length-align .ensures) (k .req .positive, k .positive, k .req-le, k .of-req)
 
 enum-known-span : tie.Need-enum-known-span
 unfolding transferOf
@@ -79,8 +79,8 @@ returns-4 c =
     let b = p .before .before .before .before in
     let d = p .before .before .before in
     let n = sym (d .is-direct .ensures) ∙ p .before .before .if2 .left in
-    let e : p .padded .result ≡ Padded (c .before .span .given .0 .0) = cc in
-    simp (fit-is (b .before .before .before .before), end-is b .ok, n) (ap bounced (sym e ∙ (rw (p .before .length-align .ensures) at (p .padded .ensures))))
+    let e : p .pad-to .result ≡ Padded (c .before .span .given .0 .0) = cc in
+    simp (fit-is (b .before .before .before .before), end-is b .ok, n) (ap bounced (sym e ∙ (rw (p .before .length-align .ensures) at (p .pad-to .ensures))))
 
 returns-5 : tie.Need-returns-5
 unfolding transferOf
@@ -89,8 +89,8 @@ returns-5 c =
     let b = p .before .before .before .before in
     let d = p .before .before .before in
     let n = sym (d .is-direct .ensures) ∙ p .before .before .if2 .left in
-    let e : p .padded .result ≡ Refused (c .before .r .given .0 .0) = cc in
-    simp (fit-is (b .before .before .before .before), end-is b .ok, n) (ap bounced (sym e ∙ (rw (p .before .length-align .ensures) at (p .padded .ensures))))
+    let e : p .pad-to .result ≡ Refused (c .before .r .given .0 .0) = cc in
+    simp (fit-is (b .before .before .before .before), end-is b .ok, n) (ap bounced (sym e ∙ (rw (p .before .length-align .ensures) at (p .pad-to .ensures))))
 
 pub direct-or-padded-spec : {M : Type 1} → statement M
 direct-or-padded-spec =
@@ -105,7 +105,7 @@ direct-or-padded-spec =
     is-direct-requires
     returns-3
     length-align-requires
-    padded-requires
+    pad-to-requires
     enum-known-span
     enum-known-r
     returns-4

@@ -23,13 +23,13 @@ returns c = simp (sym (c .before .fit .ensures) ∙ not-true _ (c .if1 .taken))
 length-align-requires : tie.Need-length-align-requires
 length-align-requires c κs = search needs
 
-padded-requires : tie.Need-padded-requires
-padded-requires c κs = let k = aligned (c .before .before .before .args .align) (fit-is (c .before)) in rw (c .length-align .ensures) (k .req .positive, k .positive, k .req-le, k .of-req)
+pad-to-requires : tie.Need-pad-to-requires
+pad-to-requires c κs = let k = aligned (c .before .before .before .args .align) (fit-is (c .before)) in rw (c .length-align .ensures) (k .req .positive, k .positive, k .req-le, k .of-req)
 
 returns-2 : tie.Need-returns-2
 unfolding paddingOf
-returns-2 c = simp (fit-is (c .before .before)) (rw (← c .before .length-align .ensures) (c .padded .ensures))
+returns-2 c = simp (fit-is (c .before .before)) (rw (← c .before .length-align .ensures) (c .pad-to .ensures))
 
 pub pad-spec : {M : Type 1} → statement M
 pad-spec =
-    tie.close (tie.spec fit-requires returns length-align-requires padded-requires returns-2)
+    tie.close (tie.spec fit-requires returns length-align-requires pad-to-requires returns-2)

@@ -5,11 +5,11 @@ use borrow.Author.Needs.{needs}
 use Rattle.blockers.proofs.Blockers.enter.Statement.{statement}
 use Rattle.blockers.proofs.Blockers.enter.Tie as tie
 
-refused-requires : tie.Need-refused-requires
-refused-requires c κs = search needs
+refuse-requires : tie.Need-refuse-requires
+refuse-requires c κs = search needs
 
 returns : tie.Need-returns
-returns c = c .refused .ensures ∙ sym (enter-past _ _ _ _ (c .before .if1 .taken))
+returns c = c .refuse .ensures ∙ sym (enter-past _ _ _ _ (c .before .if1 .taken))
 
 mul-there : tie.Need-mul-there
 mul-there c = search needs
@@ -20,11 +20,11 @@ element-copy-out-there c = search needs
 is-entered-requires : tie.Need-is-entered-requires
 is-entered-requires c κs = search needs
 
-refused-requires-2 : tie.Need-refused-requires-2
-refused-requires-2 c κs = search needs
+refuse-requires-2 : tie.Need-refuse-requires-2
+refuse-requires-2 c κs = search needs
 
 returns-2 : tie.Need-returns-2
-returns-2 c = c .refused2 .ensures ∙ sym (enter-taken _ _ _ _ (sym (c .before .before .is-entered .ensures) ∙ c .before .if2 .taken))
+returns-2 c = c .refuse2 .ensures ∙ sym (enter-taken _ _ _ _ (sym (c .before .before .is-entered .ensures) ∙ c .before .if2 .taken))
 
 notes-requires : tie.Need-notes-requires
 notes-requires c κs = search needs
@@ -43,12 +43,12 @@ pub enter-spec : {M : Type 1} → statement M
 enter-spec =
     tie.close
     (tie.spec
-    refused-requires
+    refuse-requires
     returns
     mul-there
     element-copy-out-there
     is-entered-requires
-    refused-requires-2
+    refuse-requires-2
     returns-2
     notes-requires
     mul-t10

@@ -28,8 +28,8 @@ mul-b c = search needs
 element-copy-out-b : tie.Need-element-copy-out-b Inv-loop μ-loop
 element-copy-out-b c = search needs
 
-forgetting-requires : tie.Need-forgetting-requires Inv-loop μ-loop
-forgetting-requires c κs = search needs
+forget-slot-requires : tie.Need-forget-slot-requires Inv-loop μ-loop
+forget-slot-requires c κs = search needs
 
 mul-c : tie.Need-mul-c Inv-loop μ-loop
 mul-c c = search needs
@@ -47,7 +47,7 @@ loop-again : tie.Need-loop-again Inv-loop μ-loop
 loop-again c =
     let s = c .before .before .before .before in
     let l = c .before .before .before .loop in
-    (search needs, rw (c .forgetting .ensures) (mapped-more (forgetting (s .args .slot)) nowhere (s .args .t1 .slots) (l .self .slots) (l .i) (omega (arith, whole s)) (l .inv .1)))
+    (search needs, rw (c .forget-slot .ensures) (mapped-more (forgetting (s .args .slot)) nowhere (s .args .t1 .slots) (l .self .slots) (l .i) (omega (arith, whole s)) (l .inv .1)))
 
 returns : tie.Need-returns Inv-loop μ-loop
 returns c = like-all _ (c .before .loop .self .slots) (c .before .loop .i) (omega (arith, whole (c .before .before), length-map (c .before .before .args .t1 .slots) (forgetting (c .before .before .args .slot)))) (c .before .loop .inv .1 .0)
@@ -61,7 +61,7 @@ forget-spec =
     loop-holds
     mul-b
     element-copy-out-b
-    forgetting-requires
+    forget-slot-requires
     mul-c
     element-set-from-c
     add-i

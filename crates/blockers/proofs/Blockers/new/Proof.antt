@@ -4,12 +4,12 @@ use borrow.Author.Needs.{needs}
 use Rattle.blockers.proofs.Blockers.new.Statement.{statement}
 use Rattle.blockers.proofs.Blockers.new.Tie as tie
 
-vacant-requires : tie.Need-vacant-requires
-vacant-requires c κs = search needs
+make-vacant-requires : tie.Need-make-vacant-requires
+make-vacant-requires c κs = search needs
 
 returns : tie.Need-returns
 unfolding noBlockers
-returns c = rw (c .vacant .ensures)
+returns c = rw (c .make-vacant .ensures)
 
 pub new-spec : {M : Type 1} → statement M
-new-spec = tie.close (tie.spec vacant-requires returns)
+new-spec = tie.close (tie.spec make-vacant-requires returns)

@@ -8,7 +8,7 @@ use Rattle.dock.specs.Begin.{PlanInShare, admits, admitAt}
 use Rattle.dock.specs.declared.begin.Admission.{Admission}
 use Rattle.dock.proofs.Merging.{in-share}
 use Rattle.dock.proofs.SlotsOf.{share-in}
-use Rattle.dock.proofs.Steps.{admit-refused, admit-placed}
+use Rattle.dock.proofs.Steps.{admit-refused, admit-done}
 use borrow.Author.Needs.{needs}
 use Rattle.dock.proofs.begin.admit.Statement.{statement}
 use Rattle.dock.proofs.begin.admit.Tie as tie
@@ -16,20 +16,20 @@ use Rattle.dock.proofs.begin.admit.Tie as tie
 enum-told : tie.Need-enum-told
 enum-told c = search needs
 
-unplaced-requires : tie.Need-unplaced-requires
-unplaced-requires c κs = search needs
+admit-none-requires : tie.Need-admit-none-requires
+admit-none-requires c κs = search needs
 
 returns : tie.Need-returns
-returns c = let a = c .before .before .before .before .before .args in ap (λ (z : Admission). admits z (now (a .scratch))) (c .unplaced .ensures) ∙ sym (ap (λ (q : Plan). admitAt (a .b) (a .slot) (a .bounce) (a .v) (now (a .«data»)) (now (a .scratch)) q) (c .before .enum-told .given .1))
+returns c = let a = c .before .before .before .before .before .args in ap (λ (z : Admission). admits z (now (a .scratch))) (c .admit-none .ensures) ∙ sym (ap (λ (q : Plan). admitAt (a .b) (a .slot) (a .bounce) (a .v) (now (a .«data»)) (now (a .scratch)) q) (c .before .enum-told .given .1))
 
 enum-known-plan : tie.Need-enum-known-plan
 enum-known-plan c = search needs
 
-unplaced-requires-2 : tie.Need-unplaced-requires-2
-unplaced-requires-2 c κs = search needs
+admit-none-requires-2 : tie.Need-admit-none-requires-2
+admit-none-requires-2 c κs = search needs
 
 returns-2 : tie.Need-returns-2
-returns-2 c = let a = c .before .before .before .before .before .before .args in ap (λ (z : Admission). admits z (now (a .scratch))) (c .unplaced2 .ensures) ∙ sym (ap (λ (q : Plan). admitAt (a .b) (a .slot) (a .bounce) (a .v) (now (a .«data»)) (now (a .scratch)) q) (c .before .before .plan .given .1))
+returns-2 c = let a = c .before .before .before .before .before .before .args in ap (λ (z : Admission). admits z (now (a .scratch))) (c .admit-none2 .ensures) ∙ sym (ap (λ (q : Plan). admitAt (a .b) (a .slot) (a .bounce) (a .v) (now (a .«data»)) (now (a .scratch)) q) (c .before .before .plan .given .1))
 
 enum-known-plan-2 : tie.Need-enum-known-plan-2
 enum-known-plan-2 c = search needs
@@ -43,14 +43,14 @@ enter-requires c κs = let s = c .before .before .before .before .before .before
 enum-known-there : tie.Need-enum-known-there
 enum-known-there c = search needs
 
-unplaced-requires-3 : tie.Need-unplaced-requires-3
-unplaced-requires-3 c κs = search needs
+admit-none-requires-3 : tie.Need-admit-none-requires-3
+admit-none-requires-3 c κs = search needs
 
 same-length : tie.Need-same-length
 same-length c = search needs
 
 returns-3 : tie.Need-returns-3
-returns-3 c = let a = c .before .before .before .before .before .before .before .before .before .before .before .before .before .args in admit-refused (a .b) (a .slot) (a .bounce) (a .v) (now (a .«data»)) (now (a .scratch)) (a .plan) _ (c .before .before .before .before .before .before .before .before .before .plan2 .given .1) _ _ (c .before .before .before .before .before .before .enter .ensures) _ (c .before .before .there .given .1) _ (c .unplaced3 .ensures)
+returns-3 c = let a = c .before .before .before .before .before .before .before .before .before .before .before .before .before .args in admit-refused (a .b) (a .slot) (a .bounce) (a .v) (now (a .«data»)) (now (a .scratch)) (a .plan) _ (c .before .before .before .before .before .before .before .before .before .plan2 .given .1) _ _ (c .before .before .before .before .before .before .enter .ensures) _ (c .before .before .there .given .1) _ (c .admit-none3 .ensures)
 
 enum-told-2 : tie.Need-enum-told-2
 enum-told-2 c = search needs
@@ -59,23 +59,23 @@ same-length-2 : tie.Need-same-length-2
 same-length-2 c = search needs
 
 returns-4 : tie.Need-returns-4
-returns-4 c = let a = c .before .before .before .before .before .before .before .before .before .before .before .before .args in admit-placed (a .b) (a .slot) (a .bounce) (a .v) (now (a .«data»)) (now (a .scratch)) (a .plan) _ (c .before .before .before .before .before .before .before .before .plan2 .given .1) _ _ (c .before .before .before .before .before .enter .ensures) (c .before .enum-told2 .given .1)
+returns-4 c = let a = c .before .before .before .before .before .before .before .before .before .before .before .before .args in admit-done (a .b) (a .slot) (a .bounce) (a .v) (now (a .«data»)) (now (a .scratch)) (a .plan) _ (c .before .before .before .before .before .before .before .before .plan2 .given .1) _ _ (c .before .before .before .before .before .enter .ensures) (c .before .enum-told2 .given .1)
 
 pub admit-spec : {M : Type 1} → statement M
 admit-spec =
     tie.close
     (tie.spec
     enum-told
-    unplaced-requires
+    admit-none-requires
     returns
     enum-known-plan
-    unplaced-requires-2
+    admit-none-requires-2
     returns-2
     enum-known-plan-2
     mul-share
     enter-requires
     enum-known-there
-    unplaced-requires-3
+    admit-none-requires-3
     same-length
     returns-3
     enum-told-2

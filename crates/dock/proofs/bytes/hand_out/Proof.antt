@@ -19,7 +19,7 @@ read : (c : tie.Then1) → (isBouncedRead (c .before .before .before .before .be
 read c = ap (λ (t : Bool). t && eqb (c .before .before .before .before .before .before .before .args .code) 0) (sym (c .before .is-bounced-read .ensures)) ∙ c .if1 .taken
 
 lies : (c : tie.Then1) → c .before .before .before .before .before .before .before .args .share + c .before .before .before .before .before .before .before .args .x .stage .head .0 + sizeOf (c .before .before .before .before .before .before .before .args .x .stage .asked) ≤ length (now (c .before .before .before .before .before .before .before .args .scratch))
-lies c = c .before .before .before .before .before .before .before .pre (reads-use (c .before .before .before .before .before .before .before .args .x .phase) (and-left (isBouncedRead (c .before .before .before .before .before .before .before .args .x .phase)) (eqb (c .before .before .before .before .before .before .before .args .code) 0) (read c)))
+lies c = let k = c .before .before .before .before .before .before .before in k .pre (reads-use (k .args .x .phase) (and-left (isBouncedRead (k .args .x .phase)) (eqb (k .args .code) 0) (read c)))
 
 size-requires : tie.Need-size-requires
 size-requires c κs = search needs

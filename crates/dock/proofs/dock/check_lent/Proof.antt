@@ -6,8 +6,8 @@ use borrow.Author.Needs.{needs}
 use Rattle.dock.proofs.dock.check_lent.Statement.{statement}
 use Rattle.dock.proofs.dock.check_lent.Tie as tie
 
-opening-requires : tie.Need-opening-requires
-opening-requires c κs = tt
+check-opening-requires : tie.Need-check-opening-requires
+check-opening-requires c κs = tt
 
 enum-known-r : tie.Need-enum-known-r
 enum-known-r c = search needs
@@ -22,28 +22,28 @@ returns : tie.Need-returns
 unfolding lentOf
 returns c =
     let o = c .before .before .before .before in
-    let e : o .opening .result ≡ Done = c .before .before .enum-told .given .1 in
-    simp (sym (o .opening .ensures) ∙ e, sym (c .before .lent-fits .ensures) ∙ c .if1 .taken)
+    let e : o .check-opening .result ≡ Done = c .before .before .enum-told .given .1 in
+    simp (sym (o .check-opening .ensures) ∙ e, sym (c .before .lent-fits .ensures) ∙ c .if1 .taken)
 
 returns-2 : tie.Need-returns-2
 unfolding lentOf
 returns-2 c =
     let o = c .before .before .before in
-    let e : o .opening .result ≡ Refused (c .before .r .given .0 .0) = cc in
-    simp (sym (o .opening .ensures) ∙ e)
+    let e : o .check-opening .result ≡ Refused (c .before .r .given .0 .0) = cc in
+    simp (sym (o .check-opening .ensures) ∙ e)
 
 returns-3 : tie.Need-returns-3
 unfolding lentOf
 returns-3 c =
     let o = c .before .before .before .before in
-    let e : o .opening .result ≡ Done = c .before .before .enum-told .given .1 in
-    simp (sym (o .opening .ensures) ∙ e, sym (c .before .lent-fits .ensures) ∙ c .if1 .left)
+    let e : o .check-opening .result ≡ Done = c .before .before .enum-told .given .1 in
+    simp (sym (o .check-opening .ensures) ∙ e, sym (c .before .lent-fits .ensures) ∙ c .if1 .left)
 
 pub check-lent-spec : {M : Type 1} → statement M
 check-lent-spec =
     tie.close
     (tie.spec
-    opening-requires
+    check-opening-requires
     enum-known-r
     enum-told
     lent-fits-requires

@@ -3,15 +3,15 @@ use Rattle.dock.specs.Dock.{openOf}
 use Rattle.dock.proofs.open.open.Statement.{statement}
 use Rattle.dock.proofs.open.open.Tie as tie
 
-opening-requires : tie.Need-opening-requires
-opening-requires c κs = tt
+check-opening-requires : tie.Need-check-opening-requires
+check-opening-requires c κs = tt
 
-fresh-requires : tie.Need-fresh-requires
-fresh-requires c κs = tt
+make-fresh-requires : tie.Need-make-fresh-requires
+make-fresh-requires c κs = tt
 
 returns : tie.Need-returns
 unfolding openOf
-returns c = rw (c .fresh .ensures, c .before .opening .ensures)
+returns c = rw (c .make-fresh .ensures, c .before .check-opening .ensures)
 
 pub open-spec : {M : Type 1} → statement M
-open-spec = tie.close (tie.spec opening-requires fresh-requires returns)
+open-spec = tie.close (tie.spec check-opening-requires make-fresh-requires returns)

@@ -20,8 +20,8 @@ open-requires c κs = tt
 enum-known-r : tie.Need-enum-known-r
 enum-known-r c = search needs
 
-fresh-requires : tie.Need-fresh-requires
-fresh-requires c κs = tt
+make-fresh-requires : tie.Need-make-fresh-requires
+make-fresh-requires c κs = tt
 
 returns : tie.Need-returns
 unfolding openProfileOf
@@ -35,7 +35,7 @@ unfolding openProfileOf
 returns-2 c =
     let o = c .before .before .before .before in
     let e : o .drive-profile .result ≡ NoProfile (c .before .before .r .given .0 .0) = cc in
-    simp (sym (o .drive-profile .ensures) ∙ e) (ap (λ (d : Dock). record { dock = d; outcome = Refused (c .before .before .r .given .0 .0) }) (c .fresh .ensures))
+    simp (sym (o .drive-profile .ensures) ∙ e) (ap (λ (d : Dock). record { dock = d; outcome = Refused (c .before .before .r .given .0 .0) }) (c .make-fresh .ensures))
 
 pub open-profile-spec : {M : Type 1} → statement M
 open-profile-spec =
@@ -45,6 +45,6 @@ open-profile-spec =
     enum-known-align
     open-requires
     enum-known-r
-    fresh-requires
+    make-fresh-requires
     returns
     returns-2)

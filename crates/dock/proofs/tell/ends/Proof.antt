@@ -11,11 +11,11 @@ without-blocker-requires c κs = search needs
 enum-known-gone : tie.Need-enum-known-gone
 enum-known-gone c = search needs
 
-unstepped-requires : tie.Need-unstepped-requires
-unstepped-requires c κs = search needs
+refuse-step-requires : tie.Need-refuse-step-requires
+refuse-step-requires c κs = search needs
 
 returns : tie.Need-returns
-returns c = let a = c .before .before .before .before .before .before .before .args in ends-blocked (a .b) (a .slot) (a .share) (a .x) (a .code) (a .y) (a .v) (now (a .«data»)) (now (a .scratch)) _ (c .before .before .before .before .without-blocker .ensures) _ (c .before .before .gone .given .1) _ (c .unstepped .ensures)
+returns c = let a = c .before .before .before .before .before .before .before .args in ends-blocked (a .b) (a .slot) (a .share) (a .x) (a .code) (a .y) (a .v) (now (a .«data»)) (now (a .scratch)) _ (c .before .before .before .before .without-blocker .ensures) _ (c .before .before .gone .given .1) _ (c .refuse-step .ensures)
 
 enum-told : tie.Need-enum-told
 enum-told c = search needs
@@ -35,7 +35,7 @@ ends-spec =
     (tie.spec
     without-blocker-requires
     enum-known-gone
-    unstepped-requires
+    refuse-step-requires
     returns
     enum-told
     hand-out-requires

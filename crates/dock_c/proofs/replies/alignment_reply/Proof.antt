@@ -9,14 +9,14 @@ use Rattle.dock_c.proofs.replies.alignment_reply.Tie as tie
 enum-told : tie.Need-enum-told
 enum-told c = search needs
 
-valued-requires : tie.Need-valued-requires
-valued-requires c κs = search needs
+reply-values-requires : tie.Need-reply-values-requires
+reply-values-requires c κs = search needs
 
 enum-told-2 : tie.Need-enum-told-2
 enum-told-2 c = search needs
 
-valued-requires-2 : tie.Need-valued-requires-2
-valued-requires-2 c κs = search needs
+reply-values-requires-2 : tie.Need-reply-values-requires-2
+reply-values-requires-2 c κs = search needs
 
 enum-known-a : tie.Need-enum-known-a
 enum-known-a c = search needs
@@ -24,33 +24,33 @@ enum-known-a c = search needs
 number-requires : tie.Need-number-requires
 number-requires c κs = search needs
 
-cast-numbered : tie.Need-cast-numbered
-cast-numbered c = search needs
+cast-reply-number : tie.Need-cast-reply-number
+cast-reply-number c = search needs
 
-numbered-requires : tie.Need-numbered-requires
-numbered-requires c κs = search needs
+reply-number-requires : tie.Need-reply-number-requires
+reply-number-requires c κs = search needs
 
 returns : tie.Need-returns
-returns c = c .valued .ensures ∙ sym (ap (λ (z : Alignment). replyOf (alignmentPaper z)) (c .before .enum-told .given .1))
+returns c = c .reply-values .ensures ∙ sym (ap (λ (z : Alignment). replyOf (alignmentPaper z)) (c .before .enum-told .given .1))
 
 returns-2 : tie.Need-returns-2
-returns-2 c = c .valued2 .ensures ∙ sym (ap (λ (z : Alignment). replyOf (alignmentPaper z)) (c .before .enum-told2 .given .1))
+returns-2 c = c .reply-values2 .ensures ∙ sym (ap (λ (z : Alignment). replyOf (alignmentPaper z)) (c .before .enum-told2 .given .1))
 
 returns-3 : tie.Need-returns-3
-returns-3 c = c .numbered .ensures ∙ ap numbers (c .before .number .ensures) ∙ sym (ap (λ (z : Alignment). replyOf (alignmentPaper z)) (c .before .before .before .a .given .1))
+returns-3 c = c .reply-number .ensures ∙ ap numbers (c .before .number .ensures) ∙ sym (ap (λ (z : Alignment). replyOf (alignmentPaper z)) (c .before .before .before .a .given .1))
 
 pub alignment-reply-spec : {M : Type 1} → statement M
 alignment-reply-spec =
     tie.close
     (tie.spec
     enum-told
-    valued-requires
+    reply-values-requires
     enum-told-2
-    valued-requires-2
+    reply-values-requires-2
     enum-known-a
     number-requires
-    cast-numbered
-    numbered-requires
+    cast-reply-number
+    reply-number-requires
     returns
     returns-2
     returns-3)

@@ -10,14 +10,14 @@ use Rattle.dock_c.proofs.replies.begun_reply.Tie as tie
 enum-told : tie.Need-enum-told
 enum-told c = search needs
 
-numbered-requires : tie.Need-numbered-requires
-numbered-requires c κs = search needs
+reply-number-requires : tie.Need-reply-number-requires
+reply-number-requires c κs = search needs
 
 enum-known-b : tie.Need-enum-known-b
 enum-known-b c = search needs
 
-valued-requires : tie.Need-valued-requires
-valued-requires c κs = search needs
+reply-values-requires : tie.Need-reply-values-requires
+reply-values-requires c κs = search needs
 
 enum-known-b-2 : tie.Need-enum-known-b-2
 enum-known-b-2 c = search needs
@@ -25,33 +25,33 @@ enum-known-b-2 c = search needs
 number-requires : tie.Need-number-requires
 number-requires c κs = search needs
 
-cast-numbered : tie.Need-cast-numbered
-cast-numbered c = search needs
+cast-reply-number : tie.Need-cast-reply-number
+cast-reply-number c = search needs
 
-numbered-requires-2 : tie.Need-numbered-requires-2
-numbered-requires-2 c κs = search needs
+reply-number-requires-2 : tie.Need-reply-number-requires-2
+reply-number-requires-2 c κs = search needs
 
 returns : tie.Need-returns
-returns c = c .numbered .ensures ∙ sym (ap (λ (z : Begun). replyOf (begunPaper z)) (c .before .enum-told .given .1))
+returns c = c .reply-number .ensures ∙ sym (ap (λ (z : Begun). replyOf (begunPaper z)) (c .before .enum-told .given .1))
 
 returns-2 : tie.Need-returns-2
-returns-2 c = c .valued .ensures ∙ sym (ap (λ (z : Begun). replyOf (begunPaper z)) (c .before .before .b .given .1))
+returns-2 c = c .reply-values .ensures ∙ sym (ap (λ (z : Begun). replyOf (begunPaper z)) (c .before .before .b .given .1))
 
 returns-3 : tie.Need-returns-3
-returns-3 c = c .numbered2 .ensures ∙ ap numbers (c .before .number .ensures) ∙ sym (ap (λ (z : Begun). replyOf (begunPaper z)) (c .before .before .before .b2 .given .1))
+returns-3 c = c .reply-number2 .ensures ∙ ap numbers (c .before .number .ensures) ∙ sym (ap (λ (z : Begun). replyOf (begunPaper z)) (c .before .before .before .b2 .given .1))
 
 pub begun-reply-spec : {M : Type 1} → statement M
 begun-reply-spec =
     tie.close
     (tie.spec
     enum-told
-    numbered-requires
+    reply-number-requires
     enum-known-b
-    valued-requires
+    reply-values-requires
     enum-known-b-2
     number-requires
-    cast-numbered
-    numbered-requires-2
+    cast-reply-number
+    reply-number-requires-2
     returns
     returns-2
     returns-3)

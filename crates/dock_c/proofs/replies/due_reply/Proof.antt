@@ -10,8 +10,8 @@ use Rattle.dock_c.proofs.replies.due_reply.Tie as tie
 enum-told : tie.Need-enum-told
 enum-told c = search needs
 
-valued-requires : tie.Need-valued-requires
-valued-requires c κs = search needs
+reply-values-requires : tie.Need-reply-values-requires
+reply-values-requires c κs = search needs
 
 enum-known-d : tie.Need-enum-known-d
 enum-known-d c = search needs
@@ -22,11 +22,11 @@ request-reply-requires c κs = search needs
 enum-known-d-2 : tie.Need-enum-known-d-2
 enum-known-d-2 c = search needs
 
-cast-numbered : tie.Need-cast-numbered
-cast-numbered c = search needs
+cast-reply-number : tie.Need-cast-reply-number
+cast-reply-number c = search needs
 
-numbered-requires : tie.Need-numbered-requires
-numbered-requires c κs = search needs
+reply-number-requires : tie.Need-reply-number-requires
+reply-number-requires c κs = search needs
 
 enum-known-d-3 : tie.Need-enum-known-d-3
 enum-known-d-3 c = search needs
@@ -34,39 +34,39 @@ enum-known-d-3 c = search needs
 number-requires : tie.Need-number-requires
 number-requires c κs = search needs
 
-cast-numbered-2 : tie.Need-cast-numbered-2
-cast-numbered-2 c = search needs
+cast-reply-number-2 : tie.Need-cast-reply-number-2
+cast-reply-number-2 c = search needs
 
-numbered-requires-2 : tie.Need-numbered-requires-2
-numbered-requires-2 c κs = search needs
+reply-number-requires-2 : tie.Need-reply-number-requires-2
+reply-number-requires-2 c κs = search needs
 
 returns : tie.Need-returns
-returns c = c .valued .ensures ∙ sym (ap (λ (z : Due). replyOf (duePaper z)) (c .before .enum-told .given .1))
+returns c = c .reply-values .ensures ∙ sym (ap (λ (z : Due). replyOf (duePaper z)) (c .before .enum-told .given .1))
 
 returns-2 : tie.Need-returns-2
 returns-2 c = c .request-reply .ensures ∙ sym (ap (λ (z : Due). replyOf (duePaper z)) (c .before .before .d .given .1))
 
 returns-3 : tie.Need-returns-3
-returns-3 c = c .numbered .ensures ∙ sym (ap (λ (z : Due). replyOf (duePaper z)) (c .before .before .d2 .given .1))
+returns-3 c = c .reply-number .ensures ∙ sym (ap (λ (z : Due). replyOf (duePaper z)) (c .before .before .d2 .given .1))
 
 returns-4 : tie.Need-returns-4
-returns-4 c = c .numbered2 .ensures ∙ ap numbers (c .before .number .ensures) ∙ sym (ap (λ (z : Due). replyOf (duePaper z)) (c .before .before .before .d3 .given .1))
+returns-4 c = c .reply-number2 .ensures ∙ ap numbers (c .before .number .ensures) ∙ sym (ap (λ (z : Due). replyOf (duePaper z)) (c .before .before .before .d3 .given .1))
 
 pub due-reply-spec : {M : Type 1} → statement M
 due-reply-spec =
     tie.close
     (tie.spec
     enum-told
-    valued-requires
+    reply-values-requires
     enum-known-d
     request-reply-requires
     enum-known-d-2
-    cast-numbered
-    numbered-requires
+    cast-reply-number
+    reply-number-requires
     enum-known-d-3
     number-requires
-    cast-numbered-2
-    numbered-requires-2
+    cast-reply-number-2
+    reply-number-requires-2
     returns
     returns-2
     returns-3

@@ -14,8 +14,8 @@ enum-known-p c = search needs
 size-requires : tie.Need-size-requires
 size-requires c κs = search needs
 
-valued-requires : tie.Need-valued-requires
-valued-requires c κs = search needs
+reply-values-requires : tie.Need-reply-values-requires
+reply-values-requires c κs = search needs
 
 enum-known-p-2 : tie.Need-enum-known-p-2
 enum-known-p-2 c = search needs
@@ -23,17 +23,17 @@ enum-known-p-2 c = search needs
 number-requires : tie.Need-number-requires
 number-requires c κs = search needs
 
-cast-numbered : tie.Need-cast-numbered
-cast-numbered c = search needs
+cast-reply-number : tie.Need-cast-reply-number
+cast-reply-number c = search needs
 
-numbered-requires : tie.Need-numbered-requires
-numbered-requires c κs = search needs
+reply-number-requires : tie.Need-reply-number-requires
+reply-number-requires c κs = search needs
 
 returns : tie.Need-returns
-returns c = c .valued .ensures ∙ ap (λ (n : ℕ). record { number = 256; count = 2; first = c .before .before .before .before .p .given .0 .0 .start .0; second = n; third = 0; fourth = 0 }) (c .before .size .ensures) ∙ sym (ap (λ (z : Planned). replyOf (plannedPaper z)) (c .before .before .before .before .p .given .1))
+returns c = c .reply-values .ensures ∙ ap (λ (n : ℕ). record { number = 256; count = 2; first = c .before .before .before .before .p .given .0 .0 .start .0; second = n; third = 0; fourth = 0 }) (c .before .size .ensures) ∙ sym (ap (λ (z : Planned). replyOf (plannedPaper z)) (c .before .before .before .before .p .given .1))
 
 returns-2 : tie.Need-returns-2
-returns-2 c = c .numbered .ensures ∙ ap numbers (c .before .number .ensures) ∙ sym (ap (λ (z : Planned). replyOf (plannedPaper z)) (c .before .before .before .p2 .given .1))
+returns-2 c = c .reply-number .ensures ∙ ap numbers (c .before .number .ensures) ∙ sym (ap (λ (z : Planned). replyOf (plannedPaper z)) (c .before .before .before .p2 .given .1))
 
 pub planned-reply-spec : {M : Type 1} → statement M
 planned-reply-spec =
@@ -41,10 +41,10 @@ planned-reply-spec =
     (tie.spec
     enum-known-p
     size-requires
-    valued-requires
+    reply-values-requires
     enum-known-p-2
     number-requires
-    cast-numbered
-    numbered-requires
+    cast-reply-number
+    reply-number-requires
     returns
     returns-2)

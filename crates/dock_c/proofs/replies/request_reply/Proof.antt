@@ -8,11 +8,11 @@ use Rattle.dock_c.proofs.replies.request_reply.Tie as tie
 kind-number-requires : tie.Need-kind-number-requires
 kind-number-requires c κs = search needs
 
-valued-requires : tie.Need-valued-requires
-valued-requires c κs = search needs
+reply-values-requires : tie.Need-reply-values-requires
+reply-values-requires c κs = search needs
 
 returns : tie.Need-returns
-returns c = let a = c .before .before .before .args in c .valued .ensures ∙ ap (λ (n : ℕ). record { number = 256; count = 4; first = n; second = a .q .offset .0; third = a .q .length; fourth = a .q .segments }) (c .before .kind-number .ensures)
+returns c = let a = c .before .before .before .args in c .reply-values .ensures ∙ ap (λ (n : ℕ). record { number = 256; count = 4; first = n; second = a .q .offset .0; third = a .q .length; fourth = a .q .segments }) (c .before .kind-number .ensures)
 
 pub request-reply-spec : {M : Type 1} → statement M
-request-reply-spec = tie.close (tie.spec kind-number-requires valued-requires returns)
+request-reply-spec = tie.close (tie.spec kind-number-requires reply-values-requires returns)

@@ -1,7 +1,7 @@
 -- `dock_words::blocker_steps::may_change` meets its contract: a blocker that can leave makes way for the next one. Assumes nothing.
 use mathlib.Core.Path.{sym, _∙_}
 use Rattle.dock_words.specs.View.{blockersOf}
-use Rattle.dock_words.specs.KeptLaws.{changes-blocking, changes-plain}
+use Rattle.dock_words.specs.CallWordsLaws.{changes-blocking, changes-plain}
 use borrow.Author.Needs.{needs}
 use Rattle.dock_words.proofs.blocker_steps.may_change.Statement.{statement}
 use Rattle.dock_words.proofs.blocker_steps.may_change.Tie as tie

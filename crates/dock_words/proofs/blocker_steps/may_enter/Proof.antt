@@ -3,7 +3,7 @@ use mathlib.Core.Path.{sym, ap, _∙_}
 use mathlib.Core.Bool.{not}
 use borrow.Author.Tests.{not-true, not-false}
 use Rattle.dock_words.specs.View.{blockersOf}
-use Rattle.dock_words.specs.KeptLaws.{enters-plain, enters-past, enters-vacant}
+use Rattle.dock_words.specs.CallWordsLaws.{enters-plain, enters-past, enters-vacant}
 use borrow.Author.Needs.{needs}
 use Rattle.dock_words.proofs.blocker_steps.may_enter.Statement.{statement}
 use Rattle.dock_words.proofs.blocker_steps.may_enter.Tie as tie

@@ -2,7 +2,7 @@
 use mathlib.Core.Path.{sym, _∙_}
 use borrow.Author.Tests.{not-true, not-false}
 use Rattle.dock_words.specs.View.{blockersOf}
-use Rattle.dock_words.specs.KeptLaws.{leaves-plain, leaves-entered}
+use Rattle.dock_words.specs.CallWordsLaws.{leaves-plain, leaves-entered}
 use borrow.Author.Needs.{needs}
 use Rattle.dock_words.proofs.blocker_steps.may_leave.Statement.{statement}
 use Rattle.dock_words.proofs.blocker_steps.may_leave.Tie as tie

@@ -5,7 +5,7 @@ use Rattle.blockers.specs.Laws.{enter-done, enter-past, enter-taken}
 use Rattle.dock_words.specs.Rows.{part-length}
 use Rattle.dock_words.specs.View.{blockersOf}
 use Rattle.dock_words.specs.Laws.{kind-word, blocker-part}
-use Rattle.dock_words.specs.KeptLaws.{same-words, done-words}
+use Rattle.dock_words.specs.CallWordsLaws.{same-words, done-words}
 use borrow.Author.Needs.{needs}
 use Rattle.dock_words.proofs.blocker_words.enter.Statement.{statement}
 use Rattle.dock_words.proofs.blocker_words.enter.Tie as tie

@@ -6,7 +6,7 @@ use Rattle.blockers.specs.Laws.{leave-done, leave-past, leave-none}
 use Rattle.dock_words.specs.Rows.{part-length}
 use Rattle.dock_words.specs.View.{blockersOf}
 use Rattle.dock_words.specs.Laws.{kind-word, blocker-part}
-use Rattle.dock_words.specs.KeptLaws.{same-words, done-words}
+use Rattle.dock_words.specs.CallWordsLaws.{same-words, done-words}
 use borrow.Author.Needs.{needs}
 use Rattle.dock_words.proofs.blocker_words.leave.Statement.{statement}
 use Rattle.dock_words.proofs.blocker_words.leave.Tie as tie
@@ -50,8 +50,8 @@ part-put-blocker-start c = search needs
 part-put-blocker-end : tie.Need-part-put-blocker-end
 part-put-blocker-end c = search needs
 
-vacant-requires : tie.Need-vacant-requires
-vacant-requires c κs = search needs
+make-vacant-requires : tie.Need-make-vacant-requires
+make-vacant-requires c κs = search needs
 
 put-blocker-requires : tie.Need-put-blocker-requires
 put-blocker-requires c κs = search needs
@@ -67,7 +67,7 @@ returns-3 c = let a = c .before .before .before .before .before .before .before 
     let e = ap present (kind-word w (a .slot) h) ∙ sym (c .before .before .before .before .before .before .before .before .before .before .is-entered .ensures) ∙ not-false _ (c .before .before .before .before .before .before .before .before .before .if2 .left) in
     let l = c .before .before .before .before .before .before .all .given ∙ c .before .before .before .before .before .before .before .before .before .before .before .before .before .before .pre in
     let n = c .before .all2 .given .0 ∙ part-length 11 (a .slot) f (search needs) in
-    rw (leave-done (a .slot) (blockersOf w) h e) (refl, blocker-part f (a .slot) (c .before .before .before .vacant .result) (c .before .before .put-blocker .last .0) h l n (c .before .before .put-blocker .ensures) ∙ rw (c .before .before .before .before .before .before .before .forget .ensures, c .before .before .before .vacant .ensures), done-words _ _ _ refl)
+    rw (leave-done (a .slot) (blockersOf w) h e) (refl, blocker-part f (a .slot) (c .before .before .before .make-vacant .result) (c .before .before .put-blocker .last .0) h l n (c .before .before .put-blocker .ensures) ∙ rw (c .before .before .before .before .before .before .before .forget .ensures, c .before .before .before .make-vacant .ensures), done-words _ _ _ refl)
 
 pub leave-spec : {M : Type 1} → statement M
 leave-spec =
@@ -85,7 +85,7 @@ leave-spec =
     sub-put-blocker
     part-put-blocker-start
     part-put-blocker-end
-    vacant-requires
+    make-vacant-requires
     put-blocker-requires
     same-length
     returns-3)

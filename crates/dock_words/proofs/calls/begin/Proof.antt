@@ -11,8 +11,8 @@ get-settings-requires c κs = search needs
 get-buffers-requires : tie.Need-get-buffers-requires
 get-buffers-requires c κs = search needs
 
-moved-requires : tie.Need-moved-requires
-moved-requires c κs = search needs
+select-vector-requires : tie.Need-select-vector-requires
+select-vector-requires c κs = search needs
 
 overlaps-requires : tie.Need-overlaps-requires
 overlaps-requires c κs = search needs
@@ -33,7 +33,7 @@ decide-requires : tie.Need-decide-requires
 decide-requires c κs = search needs
 
 admit-requires : tie.Need-admit-requires
-admit-requires c κs = let a = c .before .before .before .before .before .before .before .before .before .before .before .before .before .before .before .before .before .before .before .before .before .before .args in (c .before .before .before .before .before .before .before .before .before .before .before .before .before .before .before .before .before .before .before .before .before .before .pre .1, c .before .before .before .before .before .before .before .before .before .before .before .before .before .before .before .before .before .before .before .before .before .before .pre .2, c .before .before .before .before .before .before .before .before .before .before .before .before .before .before .before .before .before .before .before .before .before .before .pre .3, decided-sound (a .asked .job) _ _ (a .asked .offset) (a .asked .length) (a .asked .vector) _ _ _ (c .before .before .before .before .before .before .before .before .before .check-lent .ensures) _ _ (c .before .before .before .before .before .before .plan-asked .ensures) _ _ _ (c .before .before .before .before .decide .ensures))
+admit-requires c κs = let k = c .before .before .before .before .before .before .before .before .before .before .before .before .before .before .before .before .before .before .before .before .before .before in let a = k .args in (k .pre .1, k .pre .2, k .pre .3, decided-sound (a .asked .job) _ _ (a .asked .offset) (a .asked .length) (a .asked .vector) _ _ _ (c .before .before .before .before .before .before .before .before .before .check-lent .ensures) _ _ (c .before .before .before .before .before .before .plan-asked .ensures) _ _ _ (c .before .before .before .before .decide .ensures))
 
 same-length : tie.Need-same-length
 same-length c = search needs
@@ -48,7 +48,7 @@ same-length-4 : tie.Need-same-length-4
 same-length-4 c = search needs
 
 returns : tie.Need-returns
-returns c = ((let a = c .before .before .before .before .before .before .before .before .before .before .before .before .before .before .before .before .before .before .before .before .before .before .before .before .before .before .before .before .before .before .before .args in begin-there (a .settings .now) (a .blockers .now) (a .states .now) (a .vectors .now) (a .asked) (a .«data» .now) (a .scratch .now) _ (c .before .before .before .before .before .before .before .before .before .before .before .before .before .before .before .before .before .before .before .before .before .before .before .before .get-settings .ensures) _ (c .before .before .before .before .before .before .before .before .before .before .before .before .before .before .before .before .before .before .before .before .before .before .before .get-buffers .ensures) _ (c .before .before .before .before .before .before .before .before .before .before .before .before .before .before .before .before .before .before .before .before .before .before .moved .ensures) _ (c .before .before .before .before .before .before .before .before .before .before .before .before .before .before .before .before .before .before .before .overlaps .ensures) _ (c .before .before .before .before .before .before .before .before .before .before .before .before .before .before .before .before .before .before .check-lent .ensures) _ (c .before .before .before .before .before .before .before .before .before .before .before .before .before .before .before .before .first-free .ensures) _ (c .before .before .before .before .before .before .before .before .before .before .before .before .before .before .before .plan-asked .ensures) _ (c .before .before .before .before .before .before .before .before .before .before .before .before .before .before .valid .ensures) _ (c .before .before .before .before .before .before .before .before .before .before .before .before .before .decide .ensures) _ _ _ _ _ (c .before .before .before .before .before .before .before .before .admit .ensures .0)), c .before .before .before .before .before .before .before .before .admit .ensures .1)
+returns c = let k = c .before .before .before .before .before .before .before .before .before .before .before .before .before in ((let a = k .before .before .before .before .before .before .before .before .before .before .before .before .before .before .before .before .before .before .args in begin-there (a .settings .now) (a .blockers .now) (a .states .now) (a .vectors .now) (a .asked) (a .«data» .now) (a .scratch .now) _ (k .before .before .before .before .before .before .before .before .before .before .before .get-settings .ensures) _ (k .before .before .before .before .before .before .before .before .before .before .get-buffers .ensures) _ (k .before .before .before .before .before .before .before .before .before .select-vector .ensures) _ (k .before .before .before .before .before .before .overlaps .ensures) _ (k .before .before .before .before .before .check-lent .ensures) _ (k .before .before .before .first-free .ensures) _ (k .before .before .plan-asked .ensures) _ (k .before .valid .ensures) _ (k .decide .ensures) _ _ _ _ _ (c .before .before .before .before .before .before .before .before .admit .ensures .0)), c .before .before .before .before .before .before .before .before .admit .ensures .1)
 
 pub begin-spec : {M : Type 1} → statement M
 begin-spec =
@@ -56,7 +56,7 @@ begin-spec =
     (tie.spec
     get-settings-requires
     get-buffers-requires
-    moved-requires
+    select-vector-requires
     overlaps-requires
     check-lent-requires
     first-free-requires

@@ -14,7 +14,7 @@ use Rattle.dock.specs.Tell.{collectOf}
 use Rattle.dock.specs.declared.tell.Collected.the-variants.{Final, Refused}
 use Rattle.dock.specs.declared.dock.Dock.{Dock}
 use Rattle.dock_words.specs.View.{dockOf}
-use Rattle.dock_words.specs.KeptLaws.{same-words, done-words}
+use Rattle.dock_words.specs.CallWordsLaws.{same-words, done-words}
 use borrow.Author.Needs.{needs}
 use Rattle.dock_words.proofs.calls.collect.Statement.{statement}
 use Rattle.dock_words.proofs.calls.collect.Tie as tie
@@ -62,8 +62,8 @@ same-length c = search needs
 returns-3 : tie.Need-returns-3
 returns-3 c = ((let a = c .before .before .before .before .before .before .before .before .before .before .before .before .args in not-ended (dockOf (a .settings .now) (a .blockers .now) (a .states .now) (a .vectors .now)) (a .slot) (a .data-len) (a .scratch-len) (rw (← c .before .before .before .before .before .before .before .get-buffers .ensures) (sym (c .before .before .before .before .before .before .lent-fits .ensures) ∙ not-false _ (c .before .before .before .before .before .if1 .left))) (c .before .before .before .before .if2 .left) (rw (← c .before .before .state-at .ensures) (sym (c .before .has-ended .ensures) ∙ not-true _ (c .if3 .taken)))), (same-words _ _, same-words _ _))
 
-vacant-requires : tie.Need-vacant-requires
-vacant-requires c κs = search needs
+make-vacant-requires : tie.Need-make-vacant-requires
+make-vacant-requires c κs = search needs
 
 put-state-at-requires : tie.Need-put-state-at-requires
 put-state-at-requires c κs = (c .before .before .before .before .before .before .before .before .before .before .before .before .before .before .pre .1, c .before .before .before .before .before .before .if2 .left)
@@ -81,7 +81,7 @@ same-length-3 : tie.Need-same-length-3
 same-length-3 c = search needs
 
 returns-4 : tie.Need-returns-4
-returns-4 c = ((let a = c .before .before .before .before .before .before .before .before .before .before .before .before .before .before .before .before .before .before .before .before .before .before .args in let x = c .before .before .before .before .before .before .before .before .before .before .before .before .state-at in let r = collected (dockOf (a .settings .now) (a .blockers .now) (a .states .now) (a .vectors .now)) (a .slot) (a .data-len) (a .scratch-len) (rw (← c .before .before .before .before .before .before .before .before .before .before .before .before .before .before .before .before .before .get-buffers .ensures) (sym (c .before .before .before .before .before .before .before .before .before .before .before .before .before .before .before .before .lent-fits .ensures) ∙ not-false _ (c .before .before .before .before .before .before .before .before .before .before .before .before .before .before .before .if1 .left))) (dockOf (a .settings .now) (a .blockers .now) (c .before .before .before .before .before .before .before .put-state-at .last .0) (c .before .before .put-vector-at .last .0)) (c .before .before .before .before .before .before .before .before .before .before .before .before .before .before .if2 .left) (rw (← x .ensures) (sym (c .before .before .before .before .before .before .before .before .before .before .before .has-ended .ensures) ∙ not-false _ (c .before .before .before .before .before .before .before .before .before .before .if3 .left))) (rw (c .before .before .before .before .before .before .before .put-state-at .ensures, c .before .before .put-vector-at .ensures, c .before .before .before .before .before .before .before .before .vacant .ensures, c .before .before .before .new .ensures)) in (ap (λ (y : State). Final (y .answer)) (x .ensures) ∙ r .0, r .1)), (done-words _ _ _ refl, done-words _ _ _ refl))
+returns-4 c = let k = c .before .before .before .before .before .before .before in ((let a = k .before .before .before .before .before .before .before .before .before .before .before .before .before .before .before .args in let x = k .before .before .before .before .before .state-at in let r = collected (dockOf (a .settings .now) (a .blockers .now) (a .states .now) (a .vectors .now)) (a .slot) (a .data-len) (a .scratch-len) (rw (← k .before .before .before .before .before .before .before .before .before .before .get-buffers .ensures) (sym (k .before .before .before .before .before .before .before .before .before .lent-fits .ensures) ∙ not-false _ (k .before .before .before .before .before .before .before .before .if1 .left))) (dockOf (a .settings .now) (a .blockers .now) (k .put-state-at .last .0) (c .before .before .put-vector-at .last .0)) (k .before .before .before .before .before .before .before .if2 .left) (rw (← x .ensures) (sym (k .before .before .before .before .has-ended .ensures) ∙ not-false _ (k .before .before .before .if3 .left))) (rw (k .put-state-at .ensures, c .before .before .put-vector-at .ensures, k .before .make-vacant .ensures, c .before .before .before .new .ensures)) in (ap (λ (y : State). Final (y .answer)) (x .ensures) ∙ r .0, r .1)), (done-words _ _ _ refl, done-words _ _ _ refl))
 
 pub collect-spec : {M : Type 1} → statement M
 collect-spec =
@@ -95,7 +95,7 @@ collect-spec =
     has-ended-requires
     same-length
     returns-3
-    vacant-requires
+    make-vacant-requires
     put-state-at-requires
     new-requires
     put-vector-at-requires

@@ -1,7 +1,7 @@
 -- `dock_words::calls::open_profile` meets its contract: each answer of `drive_profile` is its case of the definition. Assumes nothing.
 use mathlib.Core.Path.{refl, sym, _∙_}
 use Rattle.dock.specs.Dock.{openProfileOf}
-use Rattle.dock_words.specs.KeptLaws.{not-opened, same-words}
+use Rattle.dock_words.specs.CallWordsLaws.{not-opened, same-words}
 use borrow.Author.Needs.{needs}
 use Rattle.dock_words.proofs.calls.open_profile.Statement.{statement}
 use Rattle.dock_words.proofs.calls.open_profile.Tie as tie

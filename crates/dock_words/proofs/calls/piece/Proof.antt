@@ -62,7 +62,7 @@ piece-in-requires : tie.Need-piece-in-requires
 piece-in-requires c κs = search needs
 
 returns-4 : tie.Need-returns-4
-returns-4 c = let a = c .before .before .before .before .before .before .before .before .before .before .before .before .before .before .args in piece-there (dockOf (a .settings .now) (a .blockers .now) (a .states .now) (a .vectors .now)) (a .slot) (a .i) (a .data-len) (a .scratch-len) (rw (← c .before .before .before .before .before .before .before .before .before .get-buffers .ensures) (sym (c .before .before .before .before .before .before .before .before .lent-fits .ensures) ∙ not-false _ (c .before .before .before .before .before .before .before .if1 .left))) (c .before .before .before .before .before .before .if2 .left) (c .before .before .before .before .before .state-at .ensures) (sym (c .before .before .before .before .is-out .ensures) ∙ not-false _ (c .before .before .before .if3 .left)) (c .before .before .get-settings .ensures) (c .before .before .before .before .before .before .before .before .before .get-buffers .ensures) (c .before .vector-at .ensures) (c .piece-in .ensures)
+returns-4 c = let k = c .before .before .before .before .before in let a = k .before .before .before .before .before .before .before .before .before .args in piece-there (dockOf (a .settings .now) (a .blockers .now) (a .states .now) (a .vectors .now)) (a .slot) (a .i) (a .data-len) (a .scratch-len) (rw (← k .before .before .before .before .get-buffers .ensures) (sym (k .before .before .before .lent-fits .ensures) ∙ not-false _ (k .before .before .if1 .left))) (k .before .if2 .left) (k .state-at .ensures) (sym (c .before .before .before .before .is-out .ensures) ∙ not-false _ (c .before .before .before .if3 .left)) (c .before .before .get-settings .ensures) (k .before .before .before .before .get-buffers .ensures) (c .before .vector-at .ensures) (c .piece-in .ensures)
 
 pub piece-spec : {M : Type 1} → statement M
 piece-spec =

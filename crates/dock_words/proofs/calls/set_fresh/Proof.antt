@@ -63,7 +63,7 @@ same-length-4 c = search needs
 
 returns : tie.Need-returns
 unfolding fresh
-returns c = let a = c .before .before .before .before .before .before .before .before .before .before .before .before .before .before .before .before .before .before .before .before .args in made (a .s) (a .b) _ _ _ _ (c .before .before .before .before .before .before .before .before .before .before .before .before .before .before .put-settings .ensures) (c .before .before .before .before .before .before .before .before .before .before .clear .ensures ∙ ap (λ (n : ℕ). replicate {A = ℕ} n 0) (c .before .before .before .before .before .before .before .before .before .before .before .before .before .before .before .before .before .before .before .before .pre .1)) (c .before .before .before .before .before .before .clear2 .ensures ∙ ap (λ (n : ℕ). replicate {A = ℕ} n 0) (c .before .before .before .before .before .before .before .before .before .before .before .before .before .before .before .before .before .before .before .before .pre .2)) (c .before .before .clear3 .ensures ∙ ap (λ (n : ℕ). replicate {A = ℕ} n 0) (c .before .before .before .before .before .before .before .before .before .before .before .before .before .before .before .before .before .before .before .before .pre .3))
+returns c = let k = c .before .before .before .before .before .before .before .before .before .before .before .before .before .before .before .before .before .before .before .before in let a = k .args in made (a .s) (a .b) _ _ _ _ (c .before .before .before .before .before .before .before .before .before .before .before .before .before .before .put-settings .ensures) (c .before .before .before .before .before .before .before .before .before .before .clear .ensures ∙ ap (λ (n : ℕ). replicate {A = ℕ} n 0) (k .pre .1)) (c .before .before .before .before .before .before .clear2 .ensures ∙ ap (λ (n : ℕ). replicate {A = ℕ} n 0) (k .pre .2)) (c .before .before .clear3 .ensures ∙ ap (λ (n : ℕ). replicate {A = ℕ} n 0) (k .pre .3))
 
 pub set-fresh-spec : {M : Type 1} → statement M
 set-fresh-spec =

@@ -2,7 +2,7 @@
 use mathlib.Core.Path.{sym, _∙_}
 use borrow.Author.Tests.{not-true, not-false}
 use Rattle.dock_words.proofs.Told.{tell-not-lent, tell-no-slot, tell-there}
-use Rattle.dock_words.specs.KeptLaws.{same-words}
+use Rattle.dock_words.specs.CallWordsLaws.{same-words}
 use borrow.Author.Needs.{needs}
 use Rattle.dock_words.proofs.calls.tell.Statement.{statement}
 use Rattle.dock_words.proofs.calls.tell.Tie as tie
@@ -25,8 +25,8 @@ get-settings-requires c κs = search needs
 state-at-requires : tie.Need-state-at-requires
 state-at-requires c κs = search needs
 
-told-at-requires : tie.Need-told-at-requires
-told-at-requires c κs = (c .before .before .before .before .before .before .before .before .before .before .before .before .before .before .before .before .before .pre .1, c .before .before .before .before .before .before .before .before .before .before .before .before .before .before .before .before .before .pre .2, c .before .before .before .before .before .before .before .before .before .before .before .before .before .before .before .before .before .pre .3, c .before .before .before .before .before .before .before .if2 .left, (sym (c .before .before .before .before .before .before .before .before .before .lent-fits .ensures) ∙ not-false _ (c .before .before .before .before .before .before .before .before .if1 .left)))
+tell-slot-requires : tie.Need-tell-slot-requires
+tell-slot-requires c κs = let k = c .before .before .before .before .before .before .before in (k .before .before .before .before .before .before .before .before .before .before .pre .1, k .before .before .before .before .before .before .before .before .before .before .pre .2, k .before .before .before .before .before .before .before .before .before .before .pre .3, k .if2 .left, (sym (k .before .before .lent-fits .ensures) ∙ not-false _ (k .before .if1 .left)))
 
 same-length : tie.Need-same-length
 same-length c = search needs
@@ -41,7 +41,7 @@ same-length-4 : tie.Need-same-length-4
 same-length-4 c = search needs
 
 returns-3 : tie.Need-returns-3
-returns-3 c = ((let a = c .before .before .before .before .before .before .before .before .before .before .before .before .before .before .before .before .before .before .before .before .before .before .before .before .before .before .args in tell-there (a .settings .now) (a .blockers .now) (a .states .now) (a .vectors .now) (a .slot) (a .code) (a .«data» .now) (a .scratch .now) (rw (← c .before .before .before .before .before .before .before .before .before .before .before .before .before .before .before .before .before .before .before .get-buffers .ensures) (sym (c .before .before .before .before .before .before .before .before .before .before .before .before .before .before .before .before .before .before .lent-fits .ensures) ∙ not-false _ (c .before .before .before .before .before .before .before .before .before .before .before .before .before .before .before .before .before .if1 .left))) (c .before .before .before .before .before .before .before .before .before .before .before .before .before .before .before .before .if2 .left) _ (c .before .before .before .before .before .before .before .before .before .before .before .before .before .state-at .ensures) _ (c .before .before .before .before .before .before .before .before .before .before .before .before .before .before .before .get-settings .ensures) _ (c .before .before .before .before .before .before .before .before .before .before .before .before .before .before .before .before .before .before .before .get-buffers .ensures) _ _ _ _ _ (c .before .before .before .before .before .before .before .before .told-at .ensures .0)), c .before .before .before .before .before .before .before .before .told-at .ensures .1)
+returns-3 c = let k = c .before .before .before .before .before .before .before .before .before .before .before .before .before in ((let a = k .before .before .before .before .before .before .before .before .before .before .before .before .before .args in tell-there (a .settings .now) (a .blockers .now) (a .states .now) (a .vectors .now) (a .slot) (a .code) (a .«data» .now) (a .scratch .now) (rw (← k .before .before .before .before .before .before .get-buffers .ensures) (sym (k .before .before .before .before .before .lent-fits .ensures) ∙ not-false _ (k .before .before .before .before .if1 .left))) (k .before .before .before .if2 .left) _ (k .state-at .ensures) _ (k .before .before .get-settings .ensures) _ (k .before .before .before .before .before .before .get-buffers .ensures) _ _ _ _ _ (c .before .before .before .before .before .before .before .before .tell-slot .ensures .0)), c .before .before .before .before .before .before .before .before .tell-slot .ensures .1)
 
 pub tell-spec : {M : Type 1} → statement M
 tell-spec =
@@ -53,7 +53,7 @@ tell-spec =
     returns-2
     get-settings-requires
     state-at-requires
-    told-at-requires
+    tell-slot-requires
     same-length
     same-length-2
     same-length-3

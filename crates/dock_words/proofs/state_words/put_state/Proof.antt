@@ -45,7 +45,7 @@ same-length : tie.Need-same-length
 same-length c = omega (arith, c .before .row3 .given, c .before .before .before .before .before .row2 .given, simp length-set at (c .before .before .before .before .before .before .before .before .before .row .given))
 
 returns : tie.Need-returns
-returns c = let s = c .before .before .before .before .before .before .before .before .before .before .before .before .before .before .before .before .before in rw (c .before .before .put-stage .ensures, c .before .before .before .before .before .before .put-range2 .ensures, c .before .before .before .before .before .before .before .before .before .before .put-range .ensures, c .before .before .before .before .before .before .before .before .before .before .before .before .course-tag .ensures, c .before .before .before .before .before .before .before .before .before .before .before .before .before .job-tag .ensures, c .before .before .before .before .before .before .before .before .before .before .before .before .before .before .byte-word .ensures, c .before .before .before .before .before .before .before .before .before .before .before .before .before .before .before .phase-tag .ensures) (whole (s .args .row .now) (stateWords (s .args .x)) (sym (s .pre)))
+returns c = let k = c .before .before .before .before .before .before .before .before .before .before in let s = k .before .before .before .before .before .before .before in rw (c .before .before .put-stage .ensures, c .before .before .before .before .before .before .put-range2 .ensures, k .put-range .ensures, k .before .before .course-tag .ensures, k .before .before .before .job-tag .ensures, k .before .before .before .before .byte-word .ensures, k .before .before .before .before .before .phase-tag .ensures) (whole (s .args .row .now) (stateWords (s .args .x)) (sym (s .pre)))
 
 pub put-state-spec : {M : Type 1} → statement M
 put-state-spec =

@@ -7,7 +7,7 @@ use Rattle.dock.specs.Dock.{noVector}
 use Rattle.dock_words.specs.View.{vectorsOf}
 use Rattle.dock.specs.SlotLaws.{handed-share}
 use Rattle.dock_words.proofs.Told.{ends-not, ends-refused, ends-done}
-use Rattle.dock_words.specs.KeptLaws.{same-words, done-words}
+use Rattle.dock_words.specs.CallWordsLaws.{same-words, done-words}
 use Rattle.arithmetic.specs.Refusals.{isDone}
 use borrow.Author.Needs.{needs}
 use Rattle.dock_words.proofs.told_words.ends.Statement.{statement}
@@ -56,7 +56,7 @@ same-length-6 : tie.Need-same-length-6
 same-length-6 c = search needs
 
 returns-3 : tie.Need-returns-3
-returns-3 c = ((let a = c .before .before .before .before .before .before .before .before .before .before .before .before .before .before .before .before .before .before .before .before .before .before .args in ends-done (a .blockers .now) (a .states .now) (a .slot) (a .slot * a .settings .bounce) (a .x) (a .code) (a .y) (getD (vectorsOf (a .vectors .now)) (a .slot) noVector) (a .«data» .now) (a .scratch .now) (sym (c .before .before .before .before .before .before .before .before .before .before .before .before .before .before .before .may-leave .ensures) ∙ not-false _ (c .before .before .before .before .before .before .before .before .before .before .before .before .before .before .if1 .left)) _ _ (c .before .before .before .before .before .before .before .before .before .before .before .before .hand-out .ensures ∙ handed-share (a .slot) (a .settings) (a .buffers) (a .x) (a .code) (getD (vectorsOf (a .vectors .now)) (a .slot) noVector) (a .«data» .now) (a .scratch .now) (c .before .before .before .before .before .before .before .before .before .before .before .before .before .before .before .before .before .before .before .before .before .before .pre .4)) (c .before .before .before .before .before .before .before .before .enum-told .given .1) _ (c .before .before .before .before .before .before .without-blocker .ensures .0) _ _ (c .before .before .before .before .before .before .without-blocker .ensures .1) (c .before .before .put-state-at .ensures)), let e = ap isDone (c .before .before .before .before .before .before .without-blocker .ensures .0) ∙ sym (c .before .before .before .before .before .before .before .before .before .before .before .before .before .before .before .may-leave .ensures) ∙ not-false _ (c .before .before .before .before .before .before .before .before .before .before .before .before .before .before .if1 .left) in (done-words _ _ _ e, done-words _ _ _ e))
+returns-3 c = let k = c .before .before .before .before .before .before .before .before .before .before .before .before in ((let a = k .before .before .before .before .before .before .before .before .before .before .args in ends-done (a .blockers .now) (a .states .now) (a .slot) (a .slot * a .settings .bounce) (a .x) (a .code) (a .y) (getD (vectorsOf (a .vectors .now)) (a .slot) noVector) (a .«data» .now) (a .scratch .now) (sym (k .before .before .before .may-leave .ensures) ∙ not-false _ (k .before .before .if1 .left)) _ _ (k .hand-out .ensures ∙ handed-share (a .slot) (a .settings) (a .buffers) (a .x) (a .code) (getD (vectorsOf (a .vectors .now)) (a .slot) noVector) (a .«data» .now) (a .scratch .now) (k .before .before .before .before .before .before .before .before .before .before .pre .4)) (c .before .before .before .before .before .before .before .before .enum-told .given .1) _ (c .before .before .before .before .before .before .without-blocker .ensures .0) _ _ (c .before .before .before .before .before .before .without-blocker .ensures .1) (c .before .before .put-state-at .ensures)), let e = ap isDone (c .before .before .before .before .before .before .without-blocker .ensures .0) ∙ sym (k .before .before .before .may-leave .ensures) ∙ not-false _ (k .before .before .if1 .left) in (done-words _ _ _ e, done-words _ _ _ e))
 
 pub ends-spec : {M : Type 1} → statement M
 ends-spec =

@@ -7,7 +7,7 @@ use Rattle.dock.specs.Dock.{noVector}
 use Rattle.dock_words.specs.View.{vectorsOf}
 use Rattle.dock.specs.SlotLaws.{filled-share}
 use Rattle.dock_words.proofs.Told.{enters-not, enters-refused, enters-done}
-use Rattle.dock_words.specs.KeptLaws.{same-words, done-words}
+use Rattle.dock_words.specs.CallWordsLaws.{same-words, done-words}
 use borrow.Author.Needs.{needs}
 use Rattle.dock_words.proofs.told_words.enters.Statement.{statement}
 use Rattle.dock_words.proofs.told_words.enters.Tie as tie
@@ -55,7 +55,7 @@ same-length-6 : tie.Need-same-length-6
 same-length-6 c = search needs
 
 returns-3 : tie.Need-returns-3
-returns-3 c = ((let a = c .before .before .before .before .before .before .before .before .before .before .before .before .before .before .before .before .before .before .before .before .before .before .args in enters-done (a .blockers .now) (a .states .now) (a .slot) (a .slot * a .settings .bounce) (a .x) (a .y) (getD (vectorsOf (a .vectors .now)) (a .slot) noVector) (a .«data» .now) (a .scratch .now) (sym (c .before .before .before .before .before .before .before .before .before .before .before .before .before .before .before .may-change .ensures) ∙ not-false _ (c .before .before .before .before .before .before .before .before .before .before .before .before .before .before .if1 .left)) _ _ (c .before .before .before .before .before .before .before .before .before .before .before .before .fill .ensures ∙ filled-share (a .slot) (a .settings) (a .buffers) (a .y) (getD (vectorsOf (a .vectors .now)) (a .slot) noVector) (a .«data» .now) (a .scratch .now) (c .before .before .before .before .before .before .before .before .before .before .before .before .before .before .before .before .before .before .before .before .before .before .pre .4)) (c .before .before .before .before .before .before .before .before .enum-told .given .1) _ _ (c .before .before .before .before .before .before .change-blocker .ensures) (c .before .before .put-state-at .ensures)), (done-words _ _ _ refl, done-words _ _ _ refl))
+returns-3 c = let k = c .before .before .before .before .before .before .before .before .before .before .before .before in ((let a = k .before .before .before .before .before .before .before .before .before .before .args in enters-done (a .blockers .now) (a .states .now) (a .slot) (a .slot * a .settings .bounce) (a .x) (a .y) (getD (vectorsOf (a .vectors .now)) (a .slot) noVector) (a .«data» .now) (a .scratch .now) (sym (k .before .before .before .may-change .ensures) ∙ not-false _ (k .before .before .if1 .left)) _ _ (k .fill .ensures ∙ filled-share (a .slot) (a .settings) (a .buffers) (a .y) (getD (vectorsOf (a .vectors .now)) (a .slot) noVector) (a .«data» .now) (a .scratch .now) (k .before .before .before .before .before .before .before .before .before .before .pre .4)) (c .before .before .before .before .before .before .before .before .enum-told .given .1) _ _ (c .before .before .before .before .before .before .change-blocker .ensures) (c .before .before .put-state-at .ensures)), (done-words _ _ _ refl, done-words _ _ _ refl))
 
 pub enters-spec : {M : Type 1} → statement M
 enters-spec =

@@ -6,7 +6,7 @@ use Rattle.dock.specs.Dock.{noVector}
 use Rattle.dock_words.specs.View.{vectorsOf}
 use Rattle.dock.specs.SlotLaws.{filled-share}
 use Rattle.dock_words.proofs.Told.{stays-refused, stays-done}
-use Rattle.dock_words.specs.KeptLaws.{same-words, done-words}
+use Rattle.dock_words.specs.CallWordsLaws.{same-words, done-words}
 use borrow.Author.Needs.{needs}
 use Rattle.dock_words.proofs.told_words.stays.Statement.{statement}
 use Rattle.dock_words.proofs.told_words.stays.Tie as tie

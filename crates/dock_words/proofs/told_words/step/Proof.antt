@@ -6,8 +6,8 @@ use Rattle.stages.specs.declared.told.Step.{Step}
 use Rattle.dock.specs.Dock.{noVector}
 use Rattle.dock.specs.Tell.{steppedAt}
 use Rattle.dock_words.specs.View.{blockersOf, statesOf, vectorsOf}
-use Rattle.dock_words.specs.Kept.{kept}
-use Rattle.dock_words.specs.KeptLaws.{same-words}
+use Rattle.dock_words.specs.CallWords.{storedWords}
+use Rattle.dock_words.specs.CallWordsLaws.{same-words}
 use borrow.Author.Needs.{needs}
 use Rattle.dock_words.proofs.told_words.step.Statement.{statement}
 use Rattle.dock_words.proofs.told_words.step.Tie as tie
@@ -16,19 +16,19 @@ enum-known-step : tie.Need-enum-known-step
 enum-known-step c = search needs
 
 stays-requires : tie.Need-stays-requires
-stays-requires c κs = (c .before .before .before .before .before .before .before .before .before .before .before .before .pre .1, c .before .before .before .before .before .before .before .before .before .before .before .before .pre .2, c .before .before .before .before .before .before .before .before .before .before .before .before .pre .3, rw (c .before .before .before .before .before .step .given .1) at (c .before .before .before .before .before .before .before .before .before .before .before .before .pre .4))
+stays-requires c κs = let k = c .before .before .before .before .before .before .before .before .before .before .before .before in (k .pre .1, k .pre .2, k .pre .3, rw (c .before .before .before .before .before .step .given .1) at (k .pre .4))
 
 enum-known-step-2 : tie.Need-enum-known-step-2
 enum-known-step-2 c = search needs
 
 ends-requires : tie.Need-ends-requires
-ends-requires c κs = (c .before .before .before .before .before .before .before .before .before .before .before .before .pre .0, c .before .before .before .before .before .before .before .before .before .before .before .before .pre .1, c .before .before .before .before .before .before .before .before .before .before .before .before .pre .2, c .before .before .before .before .before .before .before .before .before .before .before .before .pre .3, rw (c .before .before .before .before .before .step2 .given .1) at (c .before .before .before .before .before .before .before .before .before .before .before .before .pre .4))
+ends-requires c κs = let k = c .before .before .before .before .before .before .before .before .before .before .before .before in (k .pre .0, k .pre .1, k .pre .2, k .pre .3, rw (c .before .before .before .before .before .step2 .given .1) at (k .pre .4))
 
 enum-known-step-3 : tie.Need-enum-known-step-3
 enum-known-step-3 c = search needs
 
 enters-requires : tie.Need-enters-requires
-enters-requires c κs = (c .before .before .before .before .before .before .before .before .before .before .before .before .pre .0, c .before .before .before .before .before .before .before .before .before .before .before .before .pre .1, c .before .before .before .before .before .before .before .before .before .before .before .before .pre .2, c .before .before .before .before .before .before .before .before .before .before .before .before .pre .3, rw (c .before .before .before .before .before .step3 .given .1) at (c .before .before .before .before .before .before .before .before .before .before .before .before .pre .4))
+enters-requires c κs = let k = c .before .before .before .before .before .before .before .before .before .before .before .before in (k .pre .0, k .pre .1, k .pre .2, k .pre .3, rw (c .before .before .before .before .before .step3 .given .1) at (k .pre .4))
 
 same-length : tie.Need-same-length
 same-length c = search needs
@@ -43,7 +43,7 @@ same-length-4 : tie.Need-same-length-4
 same-length-4 c = search needs
 
 returns : tie.Need-returns
-returns c = ((let a = c .before .before .before .before .before .before .before .before .before .before .before .before .before .before .before .before .before .args in c .before .before .before .before .stays .ensures .0 ∙ sym (ap (λ (q : Step). kept (blockersOf (a .b .now)) (statesOf (a .xs .now)) (a .slot) (steppedAt (blockersOf (a .b .now)) (a .slot) (a .slot * a .s .bounce) (a .x) (a .code) (getD (vectorsOf (a .vs .now)) (a .slot) noVector) (a .«data» .now) (a .scratch .now) q)) (c .before .before .before .before .before .before .before .before .before .before .step .given .1))), (same-words _ _, c .before .before .before .before .stays .ensures .1))
+returns c = ((let a = c .before .before .before .before .before .before .before .before .before .before .before .before .before .before .before .before .before .args in c .before .before .before .before .stays .ensures .0 ∙ sym (ap (λ (q : Step). storedWords (blockersOf (a .b .now)) (statesOf (a .xs .now)) (a .slot) (steppedAt (blockersOf (a .b .now)) (a .slot) (a .slot * a .s .bounce) (a .x) (a .code) (getD (vectorsOf (a .vs .now)) (a .slot) noVector) (a .«data» .now) (a .scratch .now) q)) (c .before .before .before .before .before .before .before .before .before .before .step .given .1))), (same-words _ _, c .before .before .before .before .stays .ensures .1))
 
 same-length-5 : tie.Need-same-length-5
 same-length-5 c = search needs
@@ -58,7 +58,7 @@ same-length-8 : tie.Need-same-length-8
 same-length-8 c = search needs
 
 returns-2 : tie.Need-returns-2
-returns-2 c = ((let a = c .before .before .before .before .before .before .before .before .before .before .before .before .before .before .before .before .before .before .before .args in c .before .before .before .before .before .before .ends .ensures .0 ∙ sym (ap (λ (q : Step). kept (blockersOf (a .b .now)) (statesOf (a .xs .now)) (a .slot) (steppedAt (blockersOf (a .b .now)) (a .slot) (a .slot * a .s .bounce) (a .x) (a .code) (getD (vectorsOf (a .vs .now)) (a .slot) noVector) (a .«data» .now) (a .scratch .now) q)) (c .before .before .before .before .before .before .before .before .before .before .before .before .step2 .given .1))), c .before .before .before .before .before .before .ends .ensures .1)
+returns-2 c = ((let a = c .before .before .before .before .before .before .before .before .before .before .before .before .before .before .before .before .before .before .before .args in c .before .before .before .before .before .before .ends .ensures .0 ∙ sym (ap (λ (q : Step). storedWords (blockersOf (a .b .now)) (statesOf (a .xs .now)) (a .slot) (steppedAt (blockersOf (a .b .now)) (a .slot) (a .slot * a .s .bounce) (a .x) (a .code) (getD (vectorsOf (a .vs .now)) (a .slot) noVector) (a .«data» .now) (a .scratch .now) q)) (c .before .before .before .before .before .before .before .before .before .before .before .before .step2 .given .1))), c .before .before .before .before .before .before .ends .ensures .1)
 
 same-length-9 : tie.Need-same-length-9
 same-length-9 c = search needs
@@ -73,7 +73,7 @@ same-length-12 : tie.Need-same-length-12
 same-length-12 c = search needs
 
 returns-3 : tie.Need-returns-3
-returns-3 c = ((let a = c .before .before .before .before .before .before .before .before .before .before .before .before .before .before .before .before .before .before .before .args in c .before .before .before .before .before .before .enters .ensures .0 ∙ sym (ap (λ (q : Step). kept (blockersOf (a .b .now)) (statesOf (a .xs .now)) (a .slot) (steppedAt (blockersOf (a .b .now)) (a .slot) (a .slot * a .s .bounce) (a .x) (a .code) (getD (vectorsOf (a .vs .now)) (a .slot) noVector) (a .«data» .now) (a .scratch .now) q)) (c .before .before .before .before .before .before .before .before .before .before .before .before .step3 .given .1))), c .before .before .before .before .before .before .enters .ensures .1)
+returns-3 c = ((let a = c .before .before .before .before .before .before .before .before .before .before .before .before .before .before .before .before .before .before .before .args in c .before .before .before .before .before .before .enters .ensures .0 ∙ sym (ap (λ (q : Step). storedWords (blockersOf (a .b .now)) (statesOf (a .xs .now)) (a .slot) (steppedAt (blockersOf (a .b .now)) (a .slot) (a .slot * a .s .bounce) (a .x) (a .code) (getD (vectorsOf (a .vs .now)) (a .slot) noVector) (a .«data» .now) (a .scratch .now) q)) (c .before .before .before .before .before .before .before .before .before .before .before .before .step3 .given .1))), c .before .before .before .before .before .before .enters .ensures .1)
 
 pub step-spec : {M : Type 1} → statement M
 step-spec =

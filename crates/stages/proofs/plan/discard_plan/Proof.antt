@@ -26,8 +26,8 @@ nowhere-requires c κs = tt
 direct-stage-requires : tie.Need-direct-stage-requires
 direct-stage-requires c κs = tt
 
-started-requires : tie.Need-started-requires
-started-requires c κs = tt
+start-requires : tie.Need-start-requires
+start-requires c κs = tt
 
 enum-known-r-2 : tie.Need-enum-known-r-2
 enum-known-r-2 c = c .match .keys3
@@ -42,7 +42,7 @@ returns-2 : tie.Need-returns-2
 unfolding discardPlan
 returns-2 c =
     let a = c .before .before .before .before .before .before .before .before .args in
-    from-parts _ _ _ _ _ _ _ _ _ _ (c .started .ensures) (c .before .before .before .asked-range .ensures) (c .before .before .nowhere .ensures) (c .before .direct-stage .ensures) refl
+    from-parts _ _ _ _ _ _ _ _ _ _ (c .start .ensures) (c .before .before .before .asked-range .ensures) (c .before .before .nowhere .ensures) (c .before .direct-stage .ensures) refl
     ∙ sym (ap (discardBy (a .offset) (a .n)) (sym (c .before .before .before .before .before .before .before .discard-cut .ensures) ∙ c .before .before .before .before .before .r .given .1))
 
 returns-3 : tie.Need-returns-3
@@ -61,7 +61,7 @@ discard-plan-spec =
     asked-range-requires
     nowhere-requires
     direct-stage-requires
-    started-requires
+    start-requires
     enum-known-r-2
     returns
     returns-2

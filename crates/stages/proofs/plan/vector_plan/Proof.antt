@@ -42,13 +42,13 @@ nowhere-requires c κs = tt
 direct-stage-requires : tie.Need-direct-stage-requires
 direct-stage-requires c κs = tt
 
-started-requires : tie.Need-started-requires
-started-requires c κs = tt
+start-requires : tie.Need-start-requires
+start-requires c κs = tt
 
 returns-2 : tie.Need-returns-2
 returns-2 c =
     let t = c .before .before .before .before .transfer .given in
-    by (c .before .before .before .before .before .before) (Direct (t .0 .0)) (t .1) (from-parts _ _ _ _ _ _ _ _ _ _ (c .started .ensures) refl (c .before .before .nowhere .ensures) (c .before .direct-stage .ensures) refl)
+    by (c .before .before .before .before .before .before) (Direct (t .0 .0)) (t .1) (from-parts _ _ _ _ _ _ _ _ _ _ (c .start .ensures) refl (c .before .before .nowhere .ensures) (c .before .direct-stage .ensures) refl)
 
 enum-known-transfer-2 : tie.Need-enum-known-transfer-2
 enum-known-transfer-2 c = c .match2 .keys1
@@ -78,8 +78,8 @@ bounced-phase-requires c κs = tt
 nowhere-requires-2 : tie.Need-nowhere-requires-2
 nowhere-requires-2 c κs = tt
 
-started-requires-2 : tie.Need-started-requires-2
-started-requires-2 c κs = tt
+start-requires-2 : tie.Need-start-requires-2
+start-requires-2 c κs = tt
 
 returns-5 : tie.Need-returns-5
 returns-5 c =
@@ -88,7 +88,7 @@ returns-5 c =
     let r = c .before .before .before .before .asked-range .ensures in
     by (c .before .before .before .before .before .before .before .before .before .before .before .before) (Bounced (span t)) (t .transfer2 .given .1)
     (in-bounce (a .settings) (span t) _ (c .before .before .before .before .before .if2 .left)
-    (padded-parts (bouncedPhase (a .job)) _ _ _ _ _ _ (span t) _ _ _ _ (c .started2 .ensures) r (c .before .nowhere2 .ensures) (c .before .before .before .padded-stage .ensures) r (c .before .before .bounced-phase .ensures)))
+    (padded-parts (bouncedPhase (a .job)) _ _ _ _ _ _ (span t) _ _ _ _ (c .start2 .ensures) r (c .before .nowhere2 .ensures) (c .before .before .before .padded-stage .ensures) r (c .before .before .bounced-phase .ensures)))
 
 pub vector-plan-spec : {M : Type 1} → statement M
 vector-plan-spec =
@@ -99,7 +99,7 @@ vector-plan-spec =
     enum-known-transfer
     nowhere-requires
     direct-stage-requires
-    started-requires
+    start-requires
     returns-2
     enum-known-transfer-2
     refusal-requires
@@ -109,5 +109,5 @@ vector-plan-spec =
     padded-stage-requires
     bounced-phase-requires
     nowhere-requires-2
-    started-requires-2
+    start-requires-2
     returns-5)

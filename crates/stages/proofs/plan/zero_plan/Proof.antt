@@ -37,8 +37,8 @@ asked-range-requires c κs =
 direct-stage-requires-2 : tie.Need-direct-stage-requires-2
 direct-stage-requires-2 c κs = tt
 
-started-requires : tie.Need-started-requires
-started-requires c κs = tt
+start-requires : tie.Need-start-requires
+start-requires c κs = tt
 
 enum-known-r-2 : tie.Need-enum-known-r-2
 enum-known-r-2 c = c .match .keys4
@@ -58,7 +58,7 @@ returns-3 : tie.Need-returns-3
 returns-3 c =
     let a = c .before .before .before .before .before .before .before .before .args in
     zero-by (a .settings) (a .allocate) (a .offset) (a .n) _ (c .before .before .before .before .before .before .zero-cut .ensures) (c .before .before .before .before .c .given .1)
-    (from-job _ _ _ _ _ _ _ _ _ (c .started .ensures) (c .before .before .before .before .before .before .before .zero-job .ensures) (c .before .before .asked-range .ensures) (c .before .direct-stage2 .ensures))
+    (from-job _ _ _ _ _ _ _ _ _ (c .start .ensures) (c .before .before .before .before .before .before .before .zero-job .ensures) (c .before .before .asked-range .ensures) (c .before .direct-stage2 .ensures))
 
 returns-4 : tie.Need-returns-4
 returns-4 c =
@@ -79,7 +79,7 @@ zero-plan-spec =
     enum-known-c
     asked-range-requires
     direct-stage-requires-2
-    started-requires
+    start-requires
     enum-known-r-2
     returns
     returns-2

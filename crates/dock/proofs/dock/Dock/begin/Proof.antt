@@ -11,11 +11,11 @@ use native.Mathlib.Omega.{arith}
 use lib.ListN.{length}
 use Rattle.arithmetic.specs.Loops.{anyBelow}
 use Rattle.dock.specs.declared.begin.Begun.{Begun}
-use Rattle.dock.specs.declared.begin.Begun.the-variants.{Done as NoRequest, Placed, Refused}
+use Rattle.dock.specs.declared.begin.Begun.the-variants.{Done as NoRequest, Admitted, Refused}
 use Rattle.dock.proofs.begin.Begun.{enum}
 use Rattle.dock.specs.Dock.{meetsAt, meetsItself}
 use Rattle.dock.specs.SlotLaws.{met-none, met-more, met-all}
-use Rattle.dock.proofs.Steps.{decided-in-share, admitted-slot, begin-placed, begin-unplaced}
+use Rattle.dock.proofs.Steps.{decided-in-share, admitted-at, begin-admitted, begin-not-admitted}
 use borrow.Author.Needs.{needs}
 use Rattle.dock.proofs.dock.Dock.begin.Statement.{statement}
 use Rattle.dock.proofs.dock.Dock.begin.Tie as tie
@@ -27,19 +27,19 @@ abbrev μ-loop : tie.MeasureT-loop
 μ-loop asked «data» scratch self settings buffers job v met₀ i₀ met i = 8 - i
 
 -- an answer of another kind is no slot
-unplaced : (b : Begun) (p : ℕ) → OneOf (0 ∷ 2 ∷ []) (tagOf (declared enum) b) → b ≢ Placed p
-unplaced (Placed q) p k e = ⊎-elim (λ e. omega arith) (λ e. omega arith) k
-unplaced NoRequest p k e = let z : _≡_ {A = ℕ} 0 1 = cc in omega arith
-unplaced (Refused r) p k e = let z : _≡_ {A = ℕ} 0 1 = cc in omega arith
+admitNone : (b : Begun) (p : ℕ) → OneOf (0 ∷ 2 ∷ []) (tagOf (declared enum) b) → b ≢ Admitted p
+admitNone (Admitted q) p k e = ⊎-elim (λ e. omega arith) (λ e. omega arith) k
+admitNone NoRequest p k e = let z : _≡_ {A = ℕ} 0 1 = cc in omega arith
+admitNone (Refused r) p k e = let z : _≡_ {A = ℕ} 0 1 = cc in omega arith
 
-moved-requires : tie.Need-moved-requires Inv-loop μ-loop
-moved-requires c κs = tt
+select-vector-requires : tie.Need-select-vector-requires Inv-loop μ-loop
+select-vector-requires c κs = tt
 
 meets-itself-requires : tie.Need-meets-itself-requires Inv-loop μ-loop
 meets-itself-requires c κs = tt
 
 loop-holds : tie.Need-loop-holds Inv-loop μ-loop
-loop-holds c = let a = c .before .before .before .before .before .before .args in (search needs, c .meets-itself .ensures ∙ met-none (meetsItself (a .asked .job) (c .before .moved .result)) (meetsAt (a .t1 .states) (a .t1 .vectors) (a .asked .job) (c .before .moved .result)))
+loop-holds c = let a = c .before .before .before .before .before .before .args in (search needs, c .meets-itself .ensures ∙ met-none (meetsItself (a .asked .job) (c .before .select-vector .result)) (meetsAt (a .t1 .states) (a .t1 .vectors) (a .asked .job) (c .before .select-vector .result)))
 
 mul-x : tie.Need-mul-x Inv-loop μ-loop
 mul-x c = search needs
@@ -64,7 +64,7 @@ loop-less c = search needs
 
 loop-again : tie.Need-loop-again Inv-loop μ-loop
 unfolding meetsAt
-loop-again c = let a = c .before .before .before .before .before .before .before .before .before .before .before .args in let l = c .before .before .before .before .loop in (search needs, met-more _ _ (l .i) (meetsItself (a .asked .job) (c .before .before .before .before .before .before .moved .result)) (meetsAt (a .t1 .states) (a .t1 .vectors) (a .asked .job) (c .before .before .before .before .before .before .moved .result)) (l .inv .1) (c .meets .ensures))
+loop-again c = let a = c .before .before .before .before .before .before .before .before .before .before .before .args in let l = c .before .before .before .before .loop in (search needs, met-more _ _ (l .i) (meetsItself (a .asked .job) (c .before .before .before .before .before .before .select-vector .result)) (meetsAt (a .t1 .states) (a .t1 .vectors) (a .asked .job) (c .before .before .before .before .before .before .select-vector .result)) (l .inv .1) (c .meets .ensures))
 
 last : (c : tie.After-loop Inv-loop μ-loop) → c .before .loop .i ≡ 8
 last c = search needs
@@ -94,13 +94,13 @@ same-length : tie.Need-same-length Inv-loop μ-loop
 same-length c = search needs
 
 returns : tie.Need-returns Inv-loop μ-loop
-returns c = let a = c .before .before .before .before .before .before .before .before .before .before .before .before .before .before .before .before .before .before .before .before .args in begin-unplaced (a .t1) (a .asked) (now (a .«data»)) (now (a .scratch)) _ (c .before .before .before .before .before .before .before .before .before .before .before .before .before .before .before .moved .ensures) _ (met-all (a .t1 .states) (a .t1 .vectors) (a .asked .job) (c .before .before .before .before .before .before .before .before .before .before .before .before .before .before .before .moved .result) _ (c .before .before .before .before .before .before .before .before .before .before .before .before .before .loop .i) (last (c .before .before .before .before .before .before .before .before .before .before .before .before)) (c .before .before .before .before .before .before .before .before .before .before .before .before .before .loop .inv .1)) _ (c .before .before .before .before .before .before .before .before .before .before .before .check-lent .ensures) _ (c .before .before .before .before .before .before .before .before .before .first-free .ensures) _ (c .before .before .before .before .before .before .before .before .plan-asked .ensures) _ (c .before .before .before .before .before .before .before .valid .ensures) _ (c .before .before .before .before .before .before .decide .ensures) _ _ (c .before .before .before .admit .ensures) (λ p e. unplaced _ p (c .match .keys2) e)
+returns c = let k = c .before .before .before .before .before .before .before .before .before .before .before in let a = k .before .before .before .before .before .before .before .before .before .args in begin-not-admitted (a .t1) (a .asked) (now (a .«data»)) (now (a .scratch)) _ (k .before .before .before .before .select-vector .ensures) _ (met-all (a .t1 .states) (a .t1 .vectors) (a .asked .job) (k .before .before .before .before .select-vector .result) _ (k .before .before .loop .i) (last (k .before)) (k .before .before .loop .inv .1)) _ (k .check-lent .ensures) _ (c .before .before .before .before .before .before .before .before .before .first-free .ensures) _ (c .before .before .before .before .before .before .before .before .plan-asked .ensures) _ (c .before .before .before .before .before .before .before .valid .ensures) _ (c .before .before .before .before .before .before .decide .ensures) _ _ (c .before .before .before .admit .ensures) (λ p e. admitNone _ p (c .match .keys2) e)
 
 -- the slot that was found free is one of the eight
 slot : (c : tie.After-state Inv-loop μ-loop) → c .before .before .before .answer .given .0 .0 < 8
 slot c =
     let a = c .before .before .before .before .before .before .before .before .before .before .before .before .before .before .before .before .before .before .before .before .before .before .before .before .args in
-    admitted-slot (a .t1 .blockers) (a .t1 .settings .bounce) (c .before .before .before .before .before .before .before .before .before .before .before .before .before .before .before .before .before .before .before .moved .result) (now (a .«data»)) (now (a .scratch)) (c .before .before .before .before .before .before .before .before .before .before .before .before .before .before .before .check-lent .result) (c .before .before .before .before .before .before .before .before .before .before .before .valid .result) (c .before .before .before .before .before .before .before .before .before .before .before .before .plan-asked .result) (c .before .before .before .before .before .before .before .before .before .before .before .before .before .before .before .before .before .loop .met) (c .before .before .before .before .before .before .before .before .before .before .before .before .before .first-free .result) (c .before .before .before .before .before .before .before .before .before .before .decide .result) (c .before .before .before .before .before .before .before .before .before .before .decide .ensures) _ _ (c .before .before .before .before .before .before .before .admit .ensures) _ (c .before .before .before .answer .given .1)
+    admitted-at (a .t1 .blockers) (a .t1 .settings .bounce) (c .before .before .before .before .before .before .before .before .before .before .before .before .before .before .before .before .before .before .before .select-vector .result) (now (a .«data»)) (now (a .scratch)) (c .before .before .before .before .before .before .before .before .before .before .before .before .before .before .before .check-lent .result) (c .before .before .before .before .before .before .before .before .before .before .before .valid .result) (c .before .before .before .before .before .before .before .before .before .before .before .before .plan-asked .result) (c .before .before .before .before .before .before .before .before .before .before .before .before .before .before .before .before .before .loop .met) (c .before .before .before .before .before .before .before .before .before .before .before .before .before .first-free .result) (c .before .before .before .before .before .before .before .before .before .before .decide .result) (c .before .before .before .before .before .before .before .before .before .before .decide .ensures) _ _ (c .before .before .before .before .before .before .before .admit .ensures) _ (c .before .before .before .answer .given .1)
 
 mul-state : tie.Need-mul-state Inv-loop μ-loop
 mul-state c = omega (arith, slot c)
@@ -118,7 +118,7 @@ same-length-2 : tie.Need-same-length-2 Inv-loop μ-loop
 same-length-2 c = search needs
 
 returns-2 : tie.Need-returns-2 Inv-loop μ-loop
-returns-2 c = let a = c .before .before .before .before .before .before .before .before .before .before .before .before .before .before .before .before .before .before .before .before .before .before .before .before .args in begin-placed (a .t1) (a .asked) (now (a .«data»)) (now (a .scratch)) _ (c .before .before .before .before .before .before .before .before .before .before .before .before .before .before .before .before .before .before .before .moved .ensures) _ (met-all (a .t1 .states) (a .t1 .vectors) (a .asked .job) (c .before .before .before .before .before .before .before .before .before .before .before .before .before .before .before .before .before .before .before .moved .result) _ (c .before .before .before .before .before .before .before .before .before .before .before .before .before .before .before .before .before .loop .i) (last (c .before .before .before .before .before .before .before .before .before .before .before .before .before .before .before .before)) (c .before .before .before .before .before .before .before .before .before .before .before .before .before .before .before .before .before .loop .inv .1)) _ (c .before .before .before .before .before .before .before .before .before .before .before .before .before .before .before .check-lent .ensures) _ (c .before .before .before .before .before .before .before .before .before .before .before .before .before .first-free .ensures) _ (c .before .before .before .before .before .before .before .before .before .before .before .before .plan-asked .ensures) _ (c .before .before .before .before .before .before .before .before .before .before .before .valid .ensures) _ (c .before .before .before .before .before .before .before .before .before .before .decide .ensures) _ _ (c .before .before .before .before .before .before .before .admit .ensures) _ (c .before .before .before .answer .given .1)
+returns-2 c = let k = c .before .before .before .before .before .before .before .before .before .before in let a = k .before .before .before .before .before .before .before .before .before .before .before .before .before .before .args in begin-admitted (a .t1) (a .asked) (now (a .«data»)) (now (a .scratch)) _ (k .before .before .before .before .before .before .before .before .before .select-vector .ensures) _ (met-all (a .t1 .states) (a .t1 .vectors) (a .asked .job) (k .before .before .before .before .before .before .before .before .before .select-vector .result) _ (k .before .before .before .before .before .before .before .loop .i) (last (k .before .before .before .before .before .before)) (k .before .before .before .before .before .before .before .loop .inv .1)) _ (k .before .before .before .before .before .check-lent .ensures) _ (k .before .before .before .first-free .ensures) _ (k .before .before .plan-asked .ensures) _ (k .before .valid .ensures) _ (k .decide .ensures) _ _ (c .before .before .before .before .before .before .before .admit .ensures) _ (c .before .before .before .answer .given .1)
 
 pub begin-spec : {M : Type 1} → statement M
 begin-spec =
@@ -126,7 +126,7 @@ begin-spec =
     (tie.spec
     Inv-loop
     μ-loop
-    moved-requires
+    select-vector-requires
     meets-itself-requires
     loop-holds
     mul-x

@@ -65,8 +65,8 @@ has-ended-requires c κs = tt
 returns-3 : tie.Need-returns-3
 returns-3 c = not-ended (c .before .before .before .before .before .before .before .before .before .args .t1) (c .before .before .before .before .before .before .before .before .before .args .slot) _ _ (fit-is (c .before .before .before .before)) (c .before .before .before .if2 .left) (sym (c .before .has-ended .ensures) ∙ not-true _ (c .if3 .taken))
 
-vacant-requires : tie.Need-vacant-requires
-vacant-requires c κs = tt
+make-vacant-requires : tie.Need-make-vacant-requires
+make-vacant-requires c κs = tt
 
 new-requires : tie.Need-new-requires
 new-requires c κs = tt
@@ -84,7 +84,7 @@ element-set-from-none : tie.Need-element-set-from-none
 element-set-from-none c = search needs
 
 returns-4 : tie.Need-returns-4
-returns-4 c = collected (c .before .before .before .before .before .before .before .before .before .before .before .args .t1) (c .before .before .before .before .before .before .before .before .before .before .before .args .slot) _ _ (fit-is (c .before .before .before .before .before .before)) (c .before .vacant .result) (c .new .result) (c .before .before .before .before .before .if2 .left) (sym (c .before .before .before .has-ended .ensures) ∙ not-false _ (c .before .before .if3 .left)) (c .before .vacant .ensures) (c .new .ensures)
+returns-4 c = collected (c .before .before .before .before .before .before .before .before .before .before .before .args .t1) (c .before .before .before .before .before .before .before .before .before .before .before .args .slot) _ _ (fit-is (c .before .before .before .before .before .before)) (c .before .make-vacant .result) (c .new .result) (c .before .before .before .before .before .if2 .left) (sym (c .before .before .before .has-ended .ensures) ∙ not-false _ (c .before .before .if3 .left)) (c .before .make-vacant .ensures) (c .new .ensures)
 
 pub collect-spec : {M : Type 1} → statement M
 collect-spec =
@@ -97,7 +97,7 @@ collect-spec =
     element-copy-out-x
     has-ended-requires
     returns-3
-    vacant-requires
+    make-vacant-requires
     new-requires
     mul-free
     element-set-from-free

@@ -28,8 +28,8 @@ mul-v c = search needs
 element-copy-out-v : tie.Need-element-copy-out-v
 element-copy-out-v c = search needs
 
-told-at-requires : tie.Need-told-at-requires
-told-at-requires c κs = (search needs, sym (c .before .before .before .before .before .before .before .lent-fits .ensures) ∙ not-false _ (c .before .before .before .before .before .before .if1 .left))
+tell-slot-requires : tie.Need-tell-slot-requires
+tell-slot-requires c κs = (search needs, sym (c .before .before .before .before .before .before .before .lent-fits .ensures) ∙ not-false _ (c .before .before .before .before .before .before .if1 .left))
 
 enum-told : tie.Need-enum-told
 enum-told c = search needs
@@ -44,7 +44,7 @@ same-length-2 : tie.Need-same-length-2
 same-length-2 c = search needs
 
 returns-3 : tie.Need-returns-3
-returns-3 c = let a = c .before .before .before .before .before .before .before .before .before .before .before .before .before .before .before .before .before .before .before .args in tell-refused (a .t1) (a .slot) (a .code) (now (a .«data»)) (now (a .scratch)) (sym (c .before .before .before .before .before .before .before .before .before .before .before .before .before .before .lent-fits .ensures) ∙ not-false _ (c .before .before .before .before .before .before .before .before .before .before .before .before .before .if1 .left)) (search needs) _ _ _ (c .before .before .before .before .before .before .told-at .ensures) _ (c .enum-told2 .given .1)
+returns-3 c = let a = c .before .before .before .before .before .before .before .before .before .before .before .before .before .before .before .before .before .before .before .args in tell-refused (a .t1) (a .slot) (a .code) (now (a .«data»)) (now (a .scratch)) (sym (c .before .before .before .before .before .before .before .before .before .before .before .before .before .before .lent-fits .ensures) ∙ not-false _ (c .before .before .before .before .before .before .before .before .before .before .before .before .before .if1 .left)) (search needs) _ _ _ (c .before .before .before .before .before .before .tell-slot .ensures) _ (c .enum-told2 .given .1)
 
 mul-state : tie.Need-mul-state
 mul-state c = search needs
@@ -59,7 +59,7 @@ same-length-4 : tie.Need-same-length-4
 same-length-4 c = search needs
 
 returns-4 : tie.Need-returns-4
-returns-4 c = let a = c .before .before .before .before .before .before .before .before .before .before .before .before .before .before .before .before .before .before .before .before .before .args in tell-stored (a .t1) (a .slot) (a .code) (now (a .«data»)) (now (a .scratch)) (sym (c .before .before .before .before .before .before .before .before .before .before .before .before .before .before .before .before .lent-fits .ensures) ∙ not-false _ (c .before .before .before .before .before .before .before .before .before .before .before .before .before .before .before .if1 .left)) (search needs) _ _ _ (c .before .before .before .before .before .before .before .before .told-at .ensures) (c .before .before .enum-told .given .1)
+returns-4 c = let a = c .before .before .before .before .before .before .before .before .before .before .before .before .before .before .before .before .before .before .before .before .before .args in tell-stored (a .t1) (a .slot) (a .code) (now (a .«data»)) (now (a .scratch)) (sym (c .before .before .before .before .before .before .before .before .before .before .before .before .before .before .before .before .lent-fits .ensures) ∙ not-false _ (c .before .before .before .before .before .before .before .before .before .before .before .before .before .before .before .if1 .left)) (search needs) _ _ _ (c .before .before .before .before .before .before .before .before .tell-slot .ensures) (c .before .before .enum-told .given .1)
 
 pub tell-spec : {M : Type 1} → statement M
 tell-spec =
@@ -72,7 +72,7 @@ tell-spec =
     element-copy-out-x
     mul-v
     element-copy-out-v
-    told-at-requires
+    tell-slot-requires
     enum-told
     enum-told-2
     same-length

@@ -35,56 +35,56 @@ room-of c = sym (c .before .has-room .ensures) ∙ not-false _ (c .if3 .left)
 valid-requires : tie.Need-valid-requires
 valid-requires c κs = search needs
 
-refused-requires : tie.Need-refused-requires
-refused-requires c κs = search needs
+refuse-requires : tie.Need-refuse-requires
+refuse-requires c κs = search needs
 
 returns : tie.Need-returns
-returns c = c .refused .ensures ∙ append-other _ _ _ (sym (c .before .before .valid .ensures) ∙ not-true _ (c .before .if1 .taken))
+returns c = c .refuse .ensures ∙ append-other _ _ _ (sym (c .before .before .valid .ensures) ∙ not-true _ (c .before .if1 .taken))
 
 valid-requires-2 : tie.Need-valid-requires-2
 valid-requires-2 c κs = search needs
 
-refused-requires-2 : tie.Need-refused-requires-2
-refused-requires-2 c κs = search needs
+refuse-requires-2 : tie.Need-refuse-requires-2
+refuse-requires-2 c κs = search needs
 
 returns-2 : tie.Need-returns-2
-returns-2 c = c .refused2 .ensures ∙ not-valid _ _ _ (sym (c .before .before .valid2 .ensures) ∙ not-true _ (c .before .if2 .taken)) ∙ append-is (c .before .before .before .before .before .args .data-len) (c .before .before .before .before .before .args .self) (c .before .before .before .before .before .args .other) (other-of (c .before .before .before))
+returns-2 c = c .refuse2 .ensures ∙ not-valid _ _ _ (sym (c .before .before .valid2 .ensures) ∙ not-true _ (c .before .if2 .taken)) ∙ append-is (c .before .before .before .before .before .args .data-len) (c .before .before .before .before .before .args .self) (c .before .before .before .before .before .args .other) (other-of (c .before .before .before))
 
 has-room-requires : tie.Need-has-room-requires
 has-room-requires c κs = (valid-of c .few, omega (arith, valid-of c .total, valid-of c .fit .small))
 
-refused-requires-3 : tie.Need-refused-requires-3
-refused-requires-3 c κs = search needs
+refuse-requires-3 : tie.Need-refuse-requires-3
+refuse-requires-3 c κs = search needs
 
 returns-3 : tie.Need-returns-3
-returns-3 c = let k = c .before .before .before in c .refused3 .ensures ∙ append-full _ _ _ (wide-of k) (wide-other k) (valid-of k) (valid _ _ (other-of (k .before .before))) (sym (c .before .before .has-room .ensures) ∙ not-true _ (c .before .if3 .taken))
+returns-3 c = let k = c .before .before .before in c .refuse3 .ensures ∙ append-full _ _ _ (wide-of k) (wide-other k) (valid-of k) (valid _ _ (other-of (k .before .before))) (sym (c .before .before .has-room .ensures) ∙ not-true _ (c .before .if3 .taken))
 
 new-requires : tie.Need-new-requires
 new-requires c κs = search needs
 
-joined-requires : tie.Need-joined-requires
-joined-requires c κs = let k = c .before .before .before in append-first _ _ _ (wide-of k) (wide-other k) (valid-of k) (valid _ _ (other-of (k .before .before))) (room-of (c .before)) (c .new .result) (c .new .ensures)
+join-requires : tie.Need-join-requires
+join-requires c κs = let k = c .before .before .before in append-first _ _ _ (wide-of k) (wide-other k) (valid-of k) (valid _ _ (other-of (k .before .before))) (room-of (c .before)) (c .new .result) (c .new .ensures)
 
-joined-requires-2 : tie.Need-joined-requires-2
-joined-requires-2 c κs = let k = c .before .before .before .before in append-rest _ _ _ (wide-of k) (wide-other k) (valid-of k) (valid _ _ (other-of (k .before .before))) (room-of (c .before .before)) (c .joined .result) (grown [] _ (c .before .new .ensures) (c .joined .ensures))
+join-requires-2 : tie.Need-join-requires-2
+join-requires-2 c κs = let k = c .before .before .before .before in append-rest _ _ _ (wide-of k) (wide-other k) (valid-of k) (valid _ _ (other-of (k .before .before))) (room-of (c .before .before)) (c .join .result) (grown [] _ (c .before .new .ensures) (c .join .ensures))
 
 returns-4 : tie.Need-returns-4
-returns-4 c = let k = c .before .before .before .before .before in append-done _ _ _ (wide-of k) (wide-other k) (valid-of k) (valid _ _ (other-of (k .before .before))) (room-of (c .before .before .before)) (c .joined2 .result) (grown _ _ (grown [] _ (c .before .before .new .ensures) (c .before .joined .ensures)) (c .joined2 .ensures))
+returns-4 c = let k = c .before .before .before .before .before in append-done _ _ _ (wide-of k) (wide-other k) (valid-of k) (valid _ _ (other-of (k .before .before))) (room-of (c .before .before .before)) (c .join2 .result) (grown _ _ (grown [] _ (c .before .before .new .ensures) (c .before .join .ensures)) (c .join2 .ensures))
 
 pub append-spec : {M : Type 1} → statement M
 append-spec =
     tie.close
     (tie.spec
     valid-requires
-    refused-requires
+    refuse-requires
     returns
     valid-requires-2
-    refused-requires-2
+    refuse-requires-2
     returns-2
     has-room-requires
-    refused-requires-3
+    refuse-requires-3
     returns-3
     new-requires
-    joined-requires
-    joined-requires-2
+    join-requires
+    join-requires-2
     returns-4)

@@ -24,11 +24,11 @@ tail-is c = ap (λ (s : Split). s .tail) (c .do-split-at .ensures)
 valid-requires : tie.Need-valid-requires
 valid-requires c κs = search needs
 
-refused-requires : tie.Need-refused-requires
-refused-requires c κs = search needs
+refuse-requires : tie.Need-refuse-requires
+refuse-requires c κs = search needs
 
 returns : tie.Need-returns
-returns c = c .refused .ensures ∙ tail-refused _ _ (c .before .before .before .args .mid) (sym (c .before .before .valid .ensures) ∙ not-true _ (c .before .if1 .taken))
+returns c = c .refuse .ensures ∙ tail-refused _ _ (c .before .before .before .args .mid) (sym (c .before .before .valid .ensures) ∙ not-true _ (c .before .if1 .taken))
 
 do-split-at-requires : tie.Need-do-split-at-requires
 do-split-at-requires c κs = valid _ _ (valid-of c) .few
@@ -44,7 +44,7 @@ split-tail-at-spec =
     tie.close
     (tie.spec
     valid-requires
-    refused-requires
+    refuse-requires
     returns
     do-split-at-requires
     tail-from-requires

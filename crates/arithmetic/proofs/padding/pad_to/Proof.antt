@@ -1,4 +1,4 @@
--- `arithmetic::padding::padded` meets its contract: each sum that fits is the definition's, and the first that does not is its 207. Assumes nothing.
+-- `arithmetic::padding::pad_to` meets its contract: each sum that fits is the definition's, and the first that does not is its 207. Assumes nothing.
 use borrow.Author.Needs.{needs}
 use mathlib.Core.Path.{_≡_, _∙_}
 use Prim.Native.Nat.{ℕ, _-_, _<_, _≤_}
@@ -10,10 +10,10 @@ use Rattle.arithmetic.specs.Offsets.{bufferAt, in-buffer-at}
 use Rattle.arithmetic.specs.declared.offsets.InBuffer.the-variants.{At as BufferAt}
 use Rattle.arithmetic.specs.declared.offsets.Sum.the-variants.{Fits}
 use Rattle.arithmetic.proofs.Padded.{over-end, over-rounded, over-length, over-padded, padded-all, end-is, rounded-is, padded-end-is}
-use Rattle.arithmetic.proofs.padding.padded.Statement.{statement}
-use Rattle.arithmetic.proofs.padding.padded.Tie as tie
-use Rattle.arithmetic.proofs.padding.padded.Reads as reads
-use Rattle.arithmetic.proofs.padding.padded.Lts as lts
+use Rattle.arithmetic.proofs.padding.pad_to.Statement.{statement}
+use Rattle.arithmetic.proofs.padding.pad_to.Tie as tie
+use Rattle.arithmetic.proofs.padding.pad_to.Reads as reads
+use Rattle.arithmetic.proofs.padding.pad_to.Lts as lts
 use Rattle.arithmetic.proofs.offsets.add.Reads as add-reads
 use Rattle.arithmetic.proofs.offsets.down.Reads as down-reads
 use Rattle.arithmetic.proofs.offsets.up.Reads as up-reads
@@ -212,8 +212,8 @@ returns-6 c =
     padded-all _ _ _ _ (end-of (first b)) (rounded-of b) (d .down .result) (length-of t) (e1 (first b)) (e2 b) (d .down .ensures) (e3 t)
     (padded-end-of q) (c .before .edge .result) (c .edge2 .result) _ (e4 q) g (c .before .edge .ensures) (c .edge2 .ensures)
 
-pub padded-spec : {M : Type 1} → statement M
-padded-spec =
+pub pad-to-spec : {M : Type 1} → statement M
+pad-to-spec =
     tie.close
     (tie.spec
     add-requires

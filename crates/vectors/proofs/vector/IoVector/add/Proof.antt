@@ -1,8 +1,8 @@
--- `vectors::vector::IoVector::with` meets its contract: the first unused segment becomes the new one. Assumes nothing.
+-- `vectors::vector::IoVector::add` meets its contract: the first unused segment becomes the new one. Assumes nothing.
 use Rattle.vectors.proofs.Building.{with-room}
 use borrow.Author.Needs.{needs}
-use Rattle.vectors.proofs.vector.IoVector.with.Statement.{statement}
-use Rattle.vectors.proofs.vector.IoVector.with.Tie as tie
+use Rattle.vectors.proofs.vector.IoVector.add.Statement.{statement}
+use Rattle.vectors.proofs.vector.IoVector.add.Tie as tie
 
 mul-segment : tie.Need-mul-segment
 mul-segment c = search needs
@@ -19,5 +19,5 @@ add-self-2 c = search needs
 returns : tie.Need-returns
 returns c = with-room (c .args .t1) (c .args .segment) (c .pre)
 
-pub with-spec : {M : Type 1} → statement M
-with-spec = tie.close (tie.spec mul-segment element-set-from-segment add-self add-self-2 returns)
+pub add-spec : {M : Type 1} → statement M
+add-spec = tie.close (tie.spec mul-segment element-set-from-segment add-self add-self-2 returns)

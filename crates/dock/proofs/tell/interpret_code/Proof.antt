@@ -1,4 +1,4 @@
--- `dock::tell::told` meets its contract: each arm is its range of codes in the definition. Assumes nothing.
+-- `dock::tell::interpret_code` meets its contract: each arm is its range of codes in the definition. Assumes nothing.
 use mathlib.Core.Path.{sym, ap, _∙_}
 use Prim.Native.Nat.{ℕ}
 use borrow.Author.Tests.{ne-eqb, lt-ltb, le-ltb}
@@ -6,8 +6,8 @@ use Rattle.stages.specs.Stages.{toldOf}
 use Rattle.dock.specs.Tell.{answeredOf}
 use Rattle.dock.specs.declared.tell.Answered.the-variants.{Leads}
 use borrow.Author.Needs.{needs}
-use Rattle.dock.proofs.tell.told.Statement.{statement}
-use Rattle.dock.proofs.tell.told.Tie as tie
+use Rattle.dock.proofs.tell.interpret_code.Statement.{statement}
+use Rattle.dock.proofs.tell.interpret_code.Tie as tie
 
 done-requires : tie.Need-done-requires
 done-requires c κs = search needs
@@ -34,8 +34,8 @@ returns-4 : tie.Need-returns-4
 unfolding answeredOf
 returns-4 c = simp (le-ltb (c .before .before .args .code) 200 (c .if1 .left))
 
-pub told-spec : {M : Type 1} → statement M
-told-spec =
+pub interpret-code-spec : {M : Type 1} → statement M
+interpret-code-spec =
     tie.close
     (tie.spec
     done-requires

@@ -1,11 +1,11 @@
--- `arithmetic::settings::opening` meets its contract: 201, then 205. Assumes nothing.
+-- `arithmetic::settings::check_opening` meets its contract: 201, then 205. Assumes nothing.
 use borrow.Author.Tests.{not-true, not-false}
 use mathlib.Core.Path.{_≡_, sym, _∙_}
 use mathlib.Core.Bool.{true}
 use Rattle.arithmetic.specs.Settings.{openingOf, settingsFit}
 use borrow.Author.Needs.{needs}
-use Rattle.arithmetic.proofs.settings.opening.Statement.{statement}
-use Rattle.arithmetic.proofs.settings.opening.Tie as tie
+use Rattle.arithmetic.proofs.settings.check_opening.Statement.{statement}
+use Rattle.arithmetic.proofs.settings.check_opening.Tie as tie
 
 -- past the first test the settings fit
 fit-is : (c : tie.Else1) → settingsFit (c .before .before .args .s) ≡ true
@@ -29,5 +29,5 @@ returns-3 : tie.Need-returns-3
 unfolding openingOf
 returns-3 c = simp (fit-is (c .before .before), sym (c .before .fit2 .ensures) ∙ not-false _ (c .if2 .left))
 
-pub opening-spec : {M : Type 1} → statement M
-opening-spec = tie.close (tie.spec fit-requires returns fit-requires-2 returns-2 returns-3)
+pub check-opening-spec : {M : Type 1} → statement M
+check-opening-spec = tie.close (tie.spec fit-requires returns fit-requires-2 returns-2 returns-3)

@@ -1,5 +1,5 @@
--- A step kept in words, and a job placed there, are what Tell and Begin say of the dock; when a blocker can leave, enter or change. Assumes
--- nothing.
+-- A step stored in words, and a job stored there, are what Tell and Begin say of the dock; when a blocker can leave, enter or change.
+-- Assumes nothing.
 use mathlib.Core.Path.{_≡_, refl, sym, ap, _∙_}
 use mathlib.Core.Bool.{Bool, true, false, not, _&&_}
 use mathlib.Core.List.{List}
@@ -25,15 +25,15 @@ use Rattle.blockers.specs.declared.Blockers.{Blockers}
 use Rattle.blockers.specs.declared.Changed.{Changed}
 use Rattle.stages.specs.Stages.{isBlocking}
 use Rattle.stages.specs.declared.state.State.{State}
-use Rattle.dock.specs.Begin.{Begins, begins, strength, blockersWith, filled, enterAt, Admitted, seatedBy, seated}
-use Rattle.dock.specs.Tell.{Told, tells, blockersWithout, handed, Stepped, steps, unstepped, storedBy, stored, entersBy, endsAt, entersAt}
+use Rattle.dock.specs.Begin.{Begins, begins, strength, blockersWith, filled, enterAt, Admits, storedWithBy, storedWith}
+use Rattle.dock.specs.Tell.{Told, tells, blockersWithout, handed, Stepped, steps, refusedStep, storedBy, stored, entersBy, endsAt, entersAt}
 use Rattle.dock.specs.declared.dock.Dock.{Dock}
 use Rattle.dock.specs.declared.open.Opened.{Opened}
 use Rattle.dock.specs.declared.begin.Begun.{Begun}
-use Rattle.dock.specs.declared.begin.Begun.the-variants.{Done as NoRequest, Placed, Refused as BeginRefused}
+use Rattle.dock.specs.declared.begin.Begun.the-variants.{Done as NoRequest, Admitted, Refused as BeginRefused}
 use Rattle.dock_words.specs.View.{blockersOf, statesOf, vectorsOf, settingsOf, buffersOf, dockOf}
-use Rattle.dock_words.specs.Kept.{sameUnless, opensAs, opensOver}
-use Rattle.dock_words.specs.Kept.{changes, Kept, keeps, keptBy, kept, Seats, seats, placedBy, placedIn}
+use Rattle.dock_words.specs.CallWords.{sameUnless, opensAs, opensOver, changes, ToldWords, tellsWords, storedWordsBy, storedWords}
+use Rattle.dock_words.specs.CallWords.{BegunWords, beginsWords, storedJobBy, storedJob}
 
 -- ---- what a call leaves in every word
 
@@ -73,12 +73,12 @@ module _ (made : Opened) (o : Outcome) (e : o ≡ made .outcome) (s b x v : List
 -- ---- what a call left, held beside the dock
 
 module _ (s b x v : List ℕ) where
-  pub told-kept : (p : ℕ) (o : Outcome) (b′ x′ memory scratch : List ℕ) (t : Stepped) → keeps o b′ x′ memory scratch
-      ≡ kept (blockersOf b) (statesOf x) p t
+  pub tell-stored : (p : ℕ) (o : Outcome) (b′ x′ memory scratch : List ℕ) (t : Stepped)
+      → tellsWords o b′ x′ memory scratch ≡ storedWords (blockersOf b) (statesOf x) p t
       → tells (record { outcome = o; dock = dockOf s b′ x′ v }) memory scratch ≡ stored (dockOf s b x v) p t
-  told-kept p o b′ x′ memory scratch t e = ap by e ∙ go (t .outcome)
+  tell-stored p o b′ x′ memory scratch t e = ap by e ∙ go (t .outcome)
     where
-      by : Kept → Told
+      by : ToldWords → Told
       by k = tells (record {
         outcome = k .outcome;
         dock = record {
@@ -90,16 +90,16 @@ module _ (s b x v : List ℕ) where
         };
       }) (k .memory) (k .scratch)
 
-      go : (o : Outcome) → by (keptBy o (blockersOf b) (statesOf x) p t) ≡ storedBy o (dockOf s b x v) p t
+      go : (o : Outcome) → by (storedWordsBy o (blockersOf b) (statesOf x) p t) ≡ storedBy o (dockOf s b x v) p t
       go Done = refl
       go (Refused r) = refl
 
-  pub begun-placed : (r : Begun) (b′ x′ v′ scratch : List ℕ) (w : IoVector) (a : Admitted) → seats r b′ x′ v′ scratch
-      ≡ placedIn (blockersOf b) (statesOf x) (vectorsOf v) w a
-      → begins (record { answer = r; dock = dockOf s b′ x′ v′ }) scratch ≡ seated (dockOf s b x v) w a
-  begun-placed r b′ x′ v′ scratch w a e = ap by e ∙ go (a .answer)
+  pub begin-stored : (r : Begun) (b′ x′ v′ scratch : List ℕ) (w : IoVector) (a : Admits)
+      → beginsWords r b′ x′ v′ scratch ≡ storedJob (blockersOf b) (statesOf x) (vectorsOf v) w a
+      → begins (record { answer = r; dock = dockOf s b′ x′ v′ }) scratch ≡ storedWith (dockOf s b x v) w a
+  begin-stored r b′ x′ v′ scratch w a e = ap by e ∙ go (a .answer)
     where
-      by : Seats → Begins
+      by : BegunWords → Begins
       by k = begins (record {
         answer = k .answer;
         dock = record {
@@ -111,20 +111,20 @@ module _ (s b x v : List ℕ) where
         };
       }) (k .scratch)
 
-      go : (z : Begun) → by (placedBy z (blockersOf b) (statesOf x) (vectorsOf v) w a) ≡ seatedBy z (dockOf s b x v) w a
+      go : (z : Begun) → by (storedJobBy z (blockersOf b) (statesOf x) (vectorsOf v) w a) ≡ storedWithBy z (dockOf s b x v) w a
       go NoRequest = refl
-      go (Placed p) = refl
+      go (Admitted p) = refl
       go (BeginRefused y) = refl
 
--- a step that is done is kept; one that is refused leaves blockers and states
+-- a step that is done is stored; one that is refused leaves blockers and states
 module _ (B : Blockers) (xs : List State) (p : ℕ) (t : Stepped) (b x memory scratch : List ℕ) where
-  pub kept-done : t .outcome ≡ Done → blockersOf b ≡ t .blockers → statesOf x ≡ set xs p (t .state) → memory ≡ t .memory → scratch
-      ≡ t .scratch → keeps Done b x memory scratch ≡ kept B xs p t
-  kept-done o e f m n = rw (e, f, m, n) (sym (ap (λ (z : Outcome). keptBy z B xs p t) o))
+  pub stored-done : t .outcome ≡ Done → blockersOf b ≡ t .blockers → statesOf x ≡ set xs p (t .state) → memory ≡ t .memory
+      → scratch ≡ t .scratch → tellsWords Done b x memory scratch ≡ storedWords B xs p t
+  stored-done o e f m n = rw (e, f, m, n) (sym (ap (λ (z : Outcome). storedWordsBy z B xs p t) o))
 
-  pub kept-refused : (r : Refusal) → t .outcome ≡ Refused r → blockersOf b ≡ B → statesOf x ≡ xs → memory ≡ t .memory → scratch ≡ t .scratch
-      → keeps (Refused r) b x memory scratch ≡ kept B xs p t
-  kept-refused r o e f m n = rw (e, f, m, n) (sym (ap (λ (z : Outcome). keptBy z B xs p t) o))
+  pub stored-refused : (r : Refusal) → t .outcome ≡ Refused r → blockersOf b ≡ B → statesOf x ≡ xs → memory ≡ t .memory
+      → scratch ≡ t .scratch → tellsWords (Refused r) b x memory scratch ≡ storedWords B xs p t
+  stored-refused r o e f m n = rw (e, f, m, n) (sym (ap (λ (z : Outcome). storedWordsBy z B xs p t) o))
 
 -- ---- when a blocker can leave, enter or change
 
@@ -178,8 +178,8 @@ module _ (b : Blockers) (p : ℕ) where
     unfolding blockersWith
     enters-past e h = simp e (sym (enter-is (strength (x .stage .strong)) (x .stage .request) ∙ simp (le-ltb p 8 h)))
 
-    pub enters-vacant : isBlocking (x .phase) ≡ true → p < 8 → not (ltb p 8 && isEntered (blockerAt b p))
-        ≡ isDone (blockersWith b p x .outcome)
+    pub enters-vacant : isBlocking (x .phase) ≡ true → p < 8
+        → not (ltb p 8 && isEntered (blockerAt b p)) ≡ isDone (blockersWith b p x .outcome)
     unfolding blockersWith
     enters-vacant e h = simp e (simp (lt-ltb p 8 h) (sym (enter-is (strength (x .stage .strong)) (x .stage .request)
         ∙ simp (lt-ltb p 8 h))))
@@ -198,8 +198,8 @@ module _ (b : Blockers) (p : ℕ) where
         go false t l e = let z : _≡_ {A = ℕ} 0 1 = cc in absurd (omega arith)
 
 -- where a blocker has left, the next one enters
-after-left : (b : Blockers) (p : ℕ) (y : State) → isDone (leftOf p b .outcome) ≡ true → blockersWith (leftOf p b .blockers) p y .outcome
-    ≡ Done
+after-left : (b : Blockers) (p : ℕ) (y : State) → isDone (leftOf p b .outcome) ≡ true
+    → blockersWith (leftOf p b .blockers) p y .outcome ≡ Done
 unfolding blockersWith
 after-left b p y e = go (isBlocking (y .phase))
   where
@@ -223,8 +223,8 @@ module _ (b : Blockers) (p : ℕ) (x y : State) where
   unfolding blockersWithout
   changes-blocking e = simp e (go (leftOf p b .outcome) refl)
     where
-      go : (o : Outcome) → leftOf p b .outcome ≡ o → isDone o
-          ≡ isDone (whenDone o (blockersWith (leftOf p b .blockers) p y .outcome) Refused)
+      go : (o : Outcome) → leftOf p b .outcome ≡ o
+          → isDone o ≡ isDone (whenDone o (blockersWith (leftOf p b .blockers) p y .outcome) Refused)
       go Done q = sym (ap isDone (after-left b p y (ap isDone q)))
       go (Refused r) q = refl
 
@@ -247,8 +247,8 @@ module _ (b : Blockers) (p share : ℕ) (x : State) (code : ℕ) (y : State) (v 
   unfolding endsAt
   ends-left e = simp (is-done (blockersWithout b p x .outcome) e)
 
-  pub ends-stuck : isDone (blockersWithout b p x .outcome) ≡ false → endsAt b p share x code y v memory scratch
-      ≡ steps (unstepped b x Slot) memory scratch
+  pub ends-stuck : isDone (blockersWithout b p x .outcome) ≡ false
+      → endsAt b p share x code y v memory scratch ≡ steps (refusedStep b x Slot) memory scratch
   unfolding endsAt
   ends-stuck e = simp (leaves-not b p x e)
 
@@ -274,7 +274,7 @@ module _ (b : Blockers) (p share : ℕ) (x y : State) (v : IoVector) (memory scr
             outcome = filled share y v memory scratch .outcome;
             scratch = filled share y v memory scratch .scratch;
           })
-          (λ r. record { blockers = B; outcome = n; scratch = scratch })) y memory) (λ r. steps (unstepped b x r) memory scratch)
+          (λ r. record { blockers = B; outcome = n; scratch = scratch })) y memory) (λ r. steps (refusedStep b x r) memory scratch)
           ≡ record {
             outcome = filled share y v memory scratch .outcome;
             blockers = B;
@@ -303,7 +303,7 @@ module _ (b : Blockers) (p share : ℕ) (x y : State) (v : IoVector) (memory scr
         outcome = filled share y v memory scratch .outcome;
         scratch = filled share y v memory scratch .scratch;
       })
-          (λ r. record { blockers = B; outcome = n; scratch = scratch })) y memory) (λ r. steps (unstepped b x r) memory scratch)
+          (λ r. record { blockers = B; outcome = n; scratch = scratch })) y memory) (λ r. steps (refusedStep b x r) memory scratch)
 
       go : (q : Outcome) → (isDone q ≡ false → q ≡ Refused Slot) → (n : Outcome) → (isDone n ≡ false → n ≡ Refused Slot) →
           isDone (whenDone q n Refused) ≡ false

@@ -1,4 +1,4 @@
--- `vectors::vector::IoVector::joined` meets its contract: after i turns the vector is that of its own segments and i of the others. Assumes nothing.
+-- `vectors::vector::IoVector::join` meets its contract: after i turns the vector is that of its own segments and i of the others. Assumes nothing.
 use borrow.Author.Needs.{needs}
 use native.Mathlib.Omega.{arith}
 use mathlib.Core.Path.{_≡_}
@@ -6,8 +6,8 @@ use Prim.Native.Nat.{_-_}
 use lib.ListN.{length}
 use Rattle.arithmetic.specs.Loops.{array-long}
 use Rattle.vectors.proofs.Building.{Joining, join-start, join-end, join-room, join-next, reads}
-use Rattle.vectors.proofs.vector.IoVector.joined.Statement.{statement}
-use Rattle.vectors.proofs.vector.IoVector.joined.Tie as tie
+use Rattle.vectors.proofs.vector.IoVector.join.Statement.{statement}
+use Rattle.vectors.proofs.vector.IoVector.join.Tie as tie
 
 abbrev Inv-loop : tie.InvT-loop
 Inv-loop start n other v₀ i₀ v i = Joining v₀ other start n v i
@@ -27,8 +27,8 @@ mul-p c = omega (arith, reads _ _ _ _ _ _ (c .before .loop .inv) (c .loop-test .
 element-copy-out-p : tie.Need-element-copy-out-p Inv-loop μ-loop
 element-copy-out-p c = reads _ _ _ _ _ _ (c .before .loop .inv) (c .loop-test .taken)
 
-with-requires : tie.Need-with-requires Inv-loop μ-loop
-with-requires c κs = join-room _ _ _ _ _ _ (c .before .before .loop .inv) (c .before .loop-test .taken)
+add-requires : tie.Need-add-requires Inv-loop μ-loop
+add-requires c κs = join-room _ _ _ _ _ _ (c .before .before .loop .inv) (c .before .loop-test .taken)
 
 add-i : tie.Need-add-i Inv-loop μ-loop
 add-i c = omega (arith, c .before .before .before .loop .inv .asked .few, c .before .before .loop-test .taken)
@@ -37,13 +37,13 @@ loop-less : tie.Need-loop-less Inv-loop μ-loop
 loop-less c = omega arith
 
 loop-again : tie.Need-loop-again Inv-loop μ-loop
-loop-again c = join-next _ _ _ _ _ _ (c .before .before .before .loop .inv) (c .before .before .loop-test .taken) (c .with .result) (c .with .ensures)
+loop-again c = join-next _ _ _ _ _ _ (c .before .before .before .loop .inv) (c .before .before .loop-test .taken) (c .add .result) (c .add .ensures)
 
 returns : tie.Need-returns Inv-loop μ-loop
 returns c = join-end _ _ _ _ _ _ (c .before .loop .inv) (c .loop-test .left)
 
-pub joined-spec : {M : Type 1} → statement M
-joined-spec =
+pub join-spec : {M : Type 1} → statement M
+join-spec =
     tie.close
     (tie.spec
     Inv-loop
@@ -52,7 +52,7 @@ joined-spec =
     add-p
     mul-p
     element-copy-out-p
-    with-requires
+    add-requires
     add-i
     loop-less
     loop-again
