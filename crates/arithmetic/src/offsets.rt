@@ -73,7 +73,7 @@ pub fn add(a: u64, b: u64) -> Sum
 }
 
 // The greatest multiple of r that is at most x.
-pub fn down(x: u64, r: u64) -> u64
+pub fn round_down(x: u64, r: u64) -> u64
     ensures { λ y. ⌜ y ≡ roundDown x r ⌝ }
 {
     if r == 0 {
@@ -83,7 +83,7 @@ pub fn down(x: u64, r: u64) -> u64
 }
 
 // The least multiple of r that is at least x.
-pub fn up(x: u64, r: u64) -> Sum
+pub fn round_up(x: u64, r: u64) -> Sum
     ensures { λ y. ⌜ y ≡ upOf x r ⌝ }
 {
     if r == 0 {
@@ -92,7 +92,7 @@ pub fn up(x: u64, r: u64) -> Sum
     if LARGEST - x < r - 1 {
         return Sum::Over;
     }
-    Sum::Fits(down(x + (r - 1), r))
+    Sum::Fits(round_down(x + (r - 1), r))
 }
 
 pub fn lesser(a: u64, b: u64) -> u64

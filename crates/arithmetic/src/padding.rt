@@ -5,8 +5,8 @@ use crate::offsets::Range;
 use crate::offsets::StoreOffset;
 use crate::offsets::Sum;
 use crate::offsets::add;
-use crate::offsets::down;
-use crate::offsets::up;
+use crate::offsets::round_down;
+use crate::offsets::round_up;
 use crate::refusals::Refusal;
 use crate::settings::Alignments;
 ghost use mathlib.Core.Path.{_≡_};
@@ -47,7 +47,7 @@ pub enum Reads {
 }
 
 // x rounded up to l, for x below l.
-fn edge(x: u64, l: u64) -> u64
+fn round_edge(x: u64, l: u64) -> u64
     requires { ⌜ x < l ⌝ }
     ensures { λ r. ⌜ r ≡ roundUp x l ⌝ }
 {
@@ -62,11 +62,11 @@ fn pad_to(at: u64, n: u64, r: u64, l: u64) -> Padding
     let Sum::Fits(end) = add(at, n) else {
         return Padding::Refused(Refusal::Overflow);
     };
-    let Sum::Fits(rounded) = up(end, r) else {
+    let Sum::Fits(rounded) = round_up(end, r) else {
         return Padding::Refused(Refusal::Overflow);
     };
-    let start = down(at, r);
-    let Sum::Fits(length) = up(rounded - start, l) else {
+    let start = round_down(at, r);
+    let Sum::Fits(length) = round_up(rounded - start, l) else {
         return Padding::Refused(Refusal::Overflow);
     };
     let Sum::Fits(padded_end) = add(start, length) else {
@@ -80,8 +80,8 @@ fn pad_to(at: u64, n: u64, r: u64, l: u64) -> Padding
         end: StoreOffset(padded_end),
         head,
         length,
-        prefix: edge(at - start, l),
-        suffix: edge(padded_end - end, l),
+        prefix: round_edge(at - start, l),
+        suffix: round_edge(padded_end - end, l),
     })
 }
 

@@ -94,7 +94,7 @@ impl Settings {
 
 impl Lent {
     // Whether address plus length is at most 2^64 - 1.
-    fn ends(self) -> bool
+    fn has_end(self) -> bool
         ensures { λ r. ⌜ r ≡ fits (self .address + self .length) ⌝ }
     {
         self.length <= LARGEST - self.address
@@ -109,8 +109,8 @@ impl Buffers {
         let align = s.align;
         let data = self.data;
         let scratch = self.scratch;
-        let data_ends = data.ends();
-        let scratch_ends = scratch.ends();
+        let data_ends = data.has_end();
+        let scratch_ends = scratch.has_end();
         data_ends
             & scratch_ends
             & (SLOTS * s.bounce <= scratch.length)
@@ -131,7 +131,7 @@ pub fn check_opening(s: Settings, b: Buffers) -> Outcome
     Outcome::Done
 }
 
-fn row(mem: u64, req: u64, zero: u64, discard: u64) -> Profile
+fn make_row(mem: u64, req: u64, zero: u64, discard: u64) -> Profile
     ensures { λ r. ⌜ r ≡ Profile.Of (alignments mem req zero discard) ⌝ }
 {
     Profile::Of(Alignments {
@@ -147,12 +147,12 @@ pub fn drive_profile(index: usize) -> Profile
     ensures { λ r. ⌜ r ≡ profileOf index ⌝ }
 {
     match index {
-        0 => row(1, 1, 1, 1),
-        1 => row(1, 512, 512, 512),
-        2 => row(512, 512, 4096, 4096),
-        3 => row(4096, 4096, 4096, 65536),
-        4 => row(4096, 512, 512, 512),
-        5 => row(4096, 512, 4096, 65536),
+        0 => make_row(1, 1, 1, 1),
+        1 => make_row(1, 512, 512, 512),
+        2 => make_row(512, 512, 4096, 4096),
+        3 => make_row(4096, 4096, 4096, 65536),
+        4 => make_row(4096, 512, 512, 512),
+        5 => make_row(4096, 512, 4096, 65536),
         _ => Profile::Refused(Refusal::Unfit),
     }
 }

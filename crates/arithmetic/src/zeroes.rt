@@ -3,8 +3,8 @@
 use crate::offsets::LARGEST;
 use crate::offsets::Range;
 use crate::offsets::StoreOffset;
-use crate::offsets::down;
 use crate::offsets::lesser;
+use crate::offsets::round_down;
 use crate::refusals::Refusal;
 use crate::settings::Alignments;
 use crate::settings::Settings;
@@ -58,8 +58,8 @@ fn cut_at(at: u64, length: u64, z: u64) -> Cut
 {
     let last = at + (z - 1);
     let asked_end = at + length;
-    let start = StoreOffset(down(last, z));
-    let end = StoreOffset(down(asked_end, z));
+    let start = StoreOffset(round_down(last, z));
+    let end = StoreOffset(round_down(asked_end, z));
     Cut {
         head: Range {
             start: StoreOffset(at),

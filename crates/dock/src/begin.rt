@@ -17,11 +17,11 @@ use arithmetic::settings::Settings;
 use blockers::Blockers;
 use blockers::Changed;
 use stages::plan::Plan;
-use stages::plan::discard_plan;
-use stages::plan::read_plan;
-use stages::plan::write_plan;
+use stages::plan::plan_discard;
+use stages::plan::plan_read;
+use stages::plan::plan_write;
+use stages::plan::plan_zeroes;
 use stages::plan::zero_job;
-use stages::plan::zero_plan;
 use stages::state::Job;
 use stages::state::State;
 use stages::state::is_blocking;
@@ -144,11 +144,11 @@ pub fn plan_asked(asked: Asked, settings: Settings, buffers: Buffers) -> Plan
     let v = asked.vector;
     let aligned = is_aligned(v, settings.align, buffers.data);
     match job {
-        Job::Read => read_plan(settings, offset, v.total, aligned),
-        Job::Write => write_plan(settings, offset, v.total, aligned),
-        Job::Zeroes => zero_plan(settings, false, offset, asked.length),
-        Job::AllocatedZeroes => zero_plan(settings, true, offset, asked.length),
-        Job::Discard => discard_plan(settings, offset, asked.length),
+        Job::Read => plan_read(settings, offset, v.total, aligned),
+        Job::Write => plan_write(settings, offset, v.total, aligned),
+        Job::Zeroes => plan_zeroes(settings, false, offset, asked.length),
+        Job::AllocatedZeroes => plan_zeroes(settings, true, offset, asked.length),
+        Job::Discard => plan_discard(settings, offset, asked.length),
     }
 }
 

@@ -173,7 +173,7 @@ fn bounced_phase(job: Job, g: Stage) -> Phase
 }
 
 // A job over a vector of n bytes at `offset`, aligned or not: direct in the phase `direct`, or padded.
-fn vector_plan(
+fn plan_vector(
     settings: Settings,
     job: Job,
     direct: Phase,
@@ -203,17 +203,17 @@ fn vector_plan(
 }
 
 // A read of n bytes at `offset` into a vector that is or is not aligned.
-pub fn read_plan(settings: Settings, offset: StoreOffset, n: u64, aligned: bool) -> Plan
+pub fn plan_read(settings: Settings, offset: StoreOffset, n: u64, aligned: bool) -> Plan
     ensures { λ p. ⌜ p ≡ readPlan settings offset n aligned ⌝ }
 {
-    vector_plan(settings, Job::Read, Phase::DirectRead, offset, n, aligned)
+    plan_vector(settings, Job::Read, Phase::DirectRead, offset, n, aligned)
 }
 
 // A write of n bytes at `offset` from a vector that is or is not aligned.
-pub fn write_plan(settings: Settings, offset: StoreOffset, n: u64, aligned: bool) -> Plan
+pub fn plan_write(settings: Settings, offset: StoreOffset, n: u64, aligned: bool) -> Plan
     ensures { λ p. ⌜ p ≡ writePlan settings offset n aligned ⌝ }
 {
-    vector_plan(settings, Job::Write, Phase::DirectWrite, offset, n, aligned)
+    plan_vector(settings, Job::Write, Phase::DirectWrite, offset, n, aligned)
 }
 
 impl State {
@@ -232,7 +232,7 @@ impl State {
 
     // A write of zeroes over `part` as the next stage of a zero job. The bounce buffer starts at a multiple of M, so the write is
     // aligned where its length is a multiple of L.
-    pub fn zeroes_plan(self, settings: Settings, course: Course, part: Range) -> Plan
+    pub fn plan_zero_write(self, settings: Settings, course: Course, part: Range) -> Plan
         ensures { λ p. ⌜ p ≡ zeroesPlan settings (self .job) (self .range) (self .middle) course part ⌝ }
     {
         let align = settings.align;
@@ -266,7 +266,7 @@ pub fn zero_job(allocate: bool) -> Job
 }
 
 // Zeroes over n bytes at `offset`, plain or allocating.
-pub fn zero_plan(settings: Settings, allocate: bool, offset: StoreOffset, n: u64) -> Plan
+pub fn plan_zeroes(settings: Settings, allocate: bool, offset: StoreOffset, n: u64) -> Plan
     ensures { λ p. ⌜ p ≡ zeroPlan settings allocate offset n ⌝ }
 {
     let job = zero_job(allocate);
@@ -282,7 +282,7 @@ pub fn zero_plan(settings: Settings, allocate: bool, offset: StoreOffset, n: u64
                 course: Course::Last,
                 stage: direct_stage(r),
             };
-            x.zeroes_plan(settings, Course::Last, r)
+            x.plan_zero_write(settings, Course::Last, r)
         }
         ZeroCut::Split(c) => {
             let range = asked_range(offset, n);
@@ -300,7 +300,7 @@ pub fn zero_plan(settings: Settings, allocate: bool, offset: StoreOffset, n: u64
 }
 
 // A discard of n bytes at `offset`.
-pub fn discard_plan(settings: Settings, offset: StoreOffset, n: u64) -> Plan
+pub fn plan_discard(settings: Settings, offset: StoreOffset, n: u64) -> Plan
     ensures { λ p. ⌜ p ≡ discardPlan settings offset n ⌝ }
 {
     match discard_cut(offset, n, settings.align) {

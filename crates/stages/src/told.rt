@@ -46,7 +46,7 @@ impl State {
     }
 
     // A later stage: a refusal, 207 among them, is the job's final answer.
-    fn later(self, plan: Plan) -> Step
+    fn enter_later(self, plan: Plan) -> Step
         ensures { λ t. ⌜ t ≡ laterStage self plan ⌝ }
     {
         match plan {
@@ -56,14 +56,14 @@ impl State {
         }
     }
 
-    fn zeroes(self, settings: Settings, course: Course, part: Range) -> Step
+    fn write_zeroes(self, settings: Settings, course: Course, part: Range) -> Step
         ensures { λ t. ⌜ t ≡ zeroesNext settings self course part ⌝ }
     {
-        self.later(self.zeroes_plan(settings, course, part))
+        self.enter_later(self.plan_zero_write(settings, course, part))
     }
 
     // The next chunk of write_full_zeroes, from `start` to the end of the job's range.
-    fn chunk(self, settings: Settings, start: StoreOffset) -> Step
+    fn write_chunk(self, settings: Settings, start: StoreOffset) -> Step
         ensures { λ t. ⌜ t ≡ chunkNext settings self start ⌝ }
     {
         let range = self.range;
@@ -71,13 +71,13 @@ impl State {
         let rest = Range { start, end };
         match next_chunk(rest, settings) {
             Chunk::Nothing => self.ends(0),
-            Chunk::Next(part) => self.zeroes(settings, Course::Chunks, part),
+            Chunk::Next(part) => self.write_zeroes(settings, Course::Chunks, part),
             Chunk::Refused(r) => self.ends(r.number()),
         }
     }
 
     // The write of zeroes behind the middle, where not empty.
-    fn tail(self, settings: Settings) -> Step
+    fn write_tail(self, settings: Settings) -> Step
         ensures { λ t. ⌜ t ≡ tailNext settings self ⌝ }
     {
         let range = self.range;
@@ -86,13 +86,13 @@ impl State {
         let end = range.end;
         let part = Range { start, end };
         if 0 < size(part) {
-            return self.zeroes(settings, Course::Last, part);
+            return self.write_zeroes(settings, Course::Last, part);
         }
         self.ends(0)
     }
 
     // The write of zeroes before the middle, where not empty, otherwise the one behind it.
-    fn head(self, settings: Settings) -> Step
+    fn write_head(self, settings: Settings) -> Step
         ensures { λ t. ⌜ t ≡ headNext settings self ⌝ }
     {
         let range = self.range;
@@ -101,13 +101,13 @@ impl State {
         let end = middle.start;
         let part = Range { start, end };
         if 0 < size(part) {
-            return self.zeroes(settings, Course::Head, part);
+            return self.write_zeroes(settings, Course::Head, part);
         }
-        self.tail(settings)
+        self.write_tail(settings)
     }
 
     // The stage is done: what its course says comes next.
-    fn stage_done(self, settings: Settings) -> Step
+    fn end_stage(self, settings: Settings) -> Step
         ensures { λ t. ⌜ t ≡ stageDone (self .course) settings self ⌝ }
     {
         let course = self.course;
@@ -115,14 +115,14 @@ impl State {
         let asked = stage.asked;
         match course {
             Course::Last => self.ends(0),
-            Course::Middle => self.head(settings),
-            Course::Head => self.tail(settings),
-            Course::Chunks => self.chunk(settings, asked.end),
+            Course::Middle => self.write_head(settings),
+            Course::Head => self.write_tail(settings),
+            Course::Chunks => self.write_chunk(settings, asked.end),
         }
     }
 
     // Past the first read of a padded write.
-    fn second(self) -> Phase
+    fn pass_first_read(self) -> Phase
         ensures { λ p. ⌜ p ≡ pick (ltb 0 (sizeOf (self .stage .second))) Phase.SecondRead Phase.BouncedWrite ⌝ }
     {
         let stage = self.stage;
@@ -138,9 +138,9 @@ impl State {
     {
         let phase = self.phase;
         match phase {
-            Phase::FirstRead => Step::Stays(self.in_phase(self.second())),
+            Phase::FirstRead => Step::Stays(self.in_phase(self.pass_first_read())),
             Phase::SecondRead => Step::Stays(self.in_phase(Phase::BouncedWrite)),
-            Phase::BouncedWrite | Phase::ZeroRequest => self.stage_done(settings),
+            Phase::BouncedWrite | Phase::ZeroRequest => self.end_stage(settings),
             Phase::Free
             | Phase::Ended
             | Phase::DirectRead
@@ -157,7 +157,7 @@ impl State {
         let phase = self.phase;
         let whole = self.range;
         match phase {
-            Phase::ZeroRequest => self.chunk(settings, whole.start),
+            Phase::ZeroRequest => self.write_chunk(settings, whole.start),
             Phase::DiscardRequest => self.ends(0), // answer 1 counts as done
             Phase::Free
             | Phase::Ended

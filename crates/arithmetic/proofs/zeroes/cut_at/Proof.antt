@@ -16,16 +16,16 @@ add-last c = omega (arith, cut-sums (c .args .z) (c .args .at) (c .args .length)
 add-asked-end : tie.Need-add-asked-end
 add-asked-end c = omega (arith, cut-sums (c .args .z) (c .args .at) (c .args .length) (c .pre .1) .end)
 
-down-requires : tie.Need-down-requires
-down-requires c κs = search needs
+round-down-requires : tie.Need-round-down-requires
+round-down-requires c κs = search needs
 
-down-requires-2 : tie.Need-down-requires-2
-down-requires-2 c κs = search needs
+round-down-requires-2 : tie.Need-round-down-requires-2
+round-down-requires-2 c κs = search needs
 
 returns : tie.Need-returns
 unfolding cutOf roundUp
-returns c = rw (c .before .down .ensures, c .down2 .ensures)
+returns c = rw (c .before .round-down .ensures, c .round-down2 .ensures)
 
 pub cut-at-spec : {M : Type 1} → statement M
 cut-at-spec =
-    tie.close (tie.spec sub-last add-last add-asked-end down-requires down-requires-2 returns)
+    tie.close (tie.spec sub-last add-last add-asked-end round-down-requires round-down-requires-2 returns)

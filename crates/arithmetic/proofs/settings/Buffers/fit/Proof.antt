@@ -7,11 +7,11 @@ use borrow.Author.Needs.{needs}
 use Rattle.arithmetic.proofs.settings.Buffers.fit.Statement.{statement}
 use Rattle.arithmetic.proofs.settings.Buffers.fit.Tie as tie
 
-ends-requires : tie.Need-ends-requires
-ends-requires c κs = search needs
+has-end-requires : tie.Need-has-end-requires
+has-end-requires c κs = search needs
 
-ends-requires-2 : tie.Need-ends-requires-2
-ends-requires-2 c κs = search needs
+has-end-requires-2 : tie.Need-has-end-requires-2
+has-end-requires-2 c κs = search needs
 
 mul-result : tie.Need-mul-result
 mul-result c = let a = c .before .before .before .before .before .before in omega (arith, accepted (a .args .s) (a .pre) .most)
@@ -21,7 +21,7 @@ rem-result c = let a = c .before .before .before .before .before .before .before
 
 returns : tie.Need-returns
 unfolding buffersFit isMultiple
-returns c = let b = c .before .before .before .before in simp (b .before .ends .ensures, b .ends2 .ensures)
+returns c = let b = c .before .before .before .before in simp (b .before .has-end .ensures, b .has-end2 .ensures)
 
 pub fit-spec : {M : Type 1} → statement M
-fit-spec = tie.close (tie.spec ends-requires ends-requires-2 mul-result rem-result returns)
+fit-spec = tie.close (tie.spec has-end-requires has-end-requires-2 mul-result rem-result returns)

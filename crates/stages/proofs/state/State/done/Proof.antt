@@ -55,8 +55,8 @@ onlies s x DiscardRequest k = refl
 enum-told : tie.Need-enum-told
 enum-told c = c .match .keys1
 
-second-requires : tie.Need-second-requires
-second-requires c κs = tt
+pass-first-read-requires : tie.Need-pass-first-read-requires
+pass-first-read-requires c κs = tt
 
 in-phase-requires : tie.Need-in-phase-requires
 in-phase-requires c κs = tt
@@ -67,8 +67,8 @@ enum-told-2 c = c .match .keys2
 in-phase-requires-2 : tie.Need-in-phase-requires-2
 in-phase-requires-2 c κs = tt
 
-stage-done-requires : tie.Need-stage-done-requires
-stage-done-requires c κs = tt
+end-stage-requires : tie.Need-end-stage-requires
+end-stage-requires c κs = tt
 
 ends-requires : tie.Need-ends-requires
 ends-requires c κs = tt
@@ -76,7 +76,7 @@ ends-requires c κs = tt
 returns : tie.Need-returns
 returns c =
     let a = c .before .before .before .before .args in
-    in-case (a .settings) (a .self) _ (c .before .before .enum-told .given .1) (ap Stays (c .in-phase .ensures ∙ ap (λ (p : Phase). inPhase p (a .self)) (c .before .second .ensures)))
+    in-case (a .settings) (a .self) _ (c .before .before .enum-told .given .1) (ap Stays (c .in-phase .ensures ∙ ap (λ (p : Phase). inPhase p (a .self)) (c .before .pass-first-read .ensures)))
 
 returns-2 : tie.Need-returns-2
 returns-2 c =
@@ -84,7 +84,7 @@ returns-2 c =
     in-case (a .settings) (a .self) _ (c .before .enum-told2 .given .1) (ap Stays (c .in-phase2 .ensures))
 
 returns-3 : tie.Need-returns-3
-returns-3 c = let a = c .before .before .args in c .stage-done .ensures ∙ lasts (a .settings) (a .self) (a .self .phase) (c .before .match .keys3)
+returns-3 c = let a = c .before .before .args in c .end-stage .ensures ∙ lasts (a .settings) (a .self) (a .self .phase) (c .before .match .keys3)
 
 returns-4 : tie.Need-returns-4
 returns-4 c = let a = c .before .before .args in c .ends .ensures ∙ onlies (a .settings) (a .self) (a .self .phase) (c .before .match .keys4)
@@ -94,11 +94,11 @@ done-spec =
     tie.close
     (tie.spec
     enum-told
-    second-requires
+    pass-first-read-requires
     in-phase-requires
     enum-told-2
     in-phase-requires-2
-    stage-done-requires
+    end-stage-requires
     ends-requires
     returns
     returns-2

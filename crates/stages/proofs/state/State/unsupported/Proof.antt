@@ -48,8 +48,8 @@ others s x DiscardRequest k = absurd (omega (arith, below 9 k))
 enum-told : tie.Need-enum-told
 enum-told c = c .match .keys1
 
-chunk-requires : tie.Need-chunk-requires
-chunk-requires c κs = tt
+write-chunk-requires : tie.Need-write-chunk-requires
+write-chunk-requires c κs = tt
 
 enum-told-2 : tie.Need-enum-told-2
 enum-told-2 c = c .match .keys2
@@ -63,7 +63,7 @@ ends-requires-2 c κs = tt
 returns : tie.Need-returns
 returns c =
     let a = c .before .before .before .before .args in
-    in-case (a .settings) (a .self) ZeroRequest (c .before .enum-told .given .1) (c .chunk .ensures)
+    in-case (a .settings) (a .self) ZeroRequest (c .before .enum-told .given .1) (c .write-chunk .ensures)
 
 returns-2 : tie.Need-returns-2
 returns-2 c =
@@ -80,7 +80,7 @@ unsupported-spec =
     tie.close
     (tie.spec
     enum-told
-    chunk-requires
+    write-chunk-requires
     enum-told-2
     ends-requires
     ends-requires-2
