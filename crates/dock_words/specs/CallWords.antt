@@ -10,6 +10,7 @@ use Rattle.arithmetic.specs.declared.refusals.Outcome.{Outcome}
 use Rattle.arithmetic.specs.declared.refusals.Outcome.the-variants.{Done, Refused}
 use Rattle.vectors.specs.declared.vector.IoVector.{IoVector}
 use Rattle.blockers.specs.declared.Blockers.{Blockers}
+use Rattle.blockers.specs.declared.Changed.{Changed}
 use Rattle.stages.specs.declared.state.State.{State}
 use Rattle.dock.specs.Begin.{blockersWith, Admits, Begins, begins}
 use Rattle.dock.specs.Tell.{blockersWithout, Stepped, Told, tells}
@@ -46,6 +47,10 @@ sameTwo t a b a′ b′ = sameUnless t a a′ × sameUnless t b b′
 
 abbrev pub sameThree : Bool → List ℕ → List ℕ → List ℕ → List ℕ → List ℕ → List ℕ → Type 0
 sameThree t a b c a′ b′ c′ = sameUnless t a a′ × sameUnless t b b′ × sameUnless t c c′
+
+-- a call on the words of the blockers answers and leaves what c says, and where it is refused, every word
+abbrev pub ChangesBlockers : Changed → Outcome → List ℕ → List ℕ → Type 0
+ChangesBlockers c r before after = (r ≡ c .outcome) × (blockersOf after ≡ c .blockers) × sameUnless (isDone r) before after
 
 -- an opening over words of settings, blockers, states and vectors: the dock that it makes, or every word as it was
 abbrev pub opensOver : Opened → List ℕ → List ℕ → List ℕ → List ℕ → List ℕ → List ℕ → List ℕ → List ℕ → Type 0

@@ -21,7 +21,7 @@ ghost use Rattle.dock.specs.Next.{nextOf, pieceOf};
 ghost use Rattle.dock.specs.Tell.{tellOf, collectOf, CollectGives};
 ghost use Rattle.dock_words.specs.View.{settingsOf, vectorFrom, blockersOf, dockOf};
 ghost use Rattle.arithmetic.specs.Refusals.{isDone};
-ghost use Rattle.dock_words.specs.CallWords.{isAdmitted, isFinal, sameUnless, sameTwo, sameThree, opensOver, beginsIn, tellsIn};
+ghost use Rattle.dock_words.specs.CallWords.{isAdmitted, isFinal, sameTwo, sameThree, opensOver, beginsIn, tellsIn, ChangesBlockers};
 
 // The settings that the dock was opened with.
 pub fn settings_of(settings: &[u64; 9]) -> Settings
@@ -204,18 +204,16 @@ pub fn put_vector_of(vector: &mut [u64; 34], v: IoVector)
 
 // Enter a blocker of this kind. Refused (208) past slot 7 and where one is entered.
 pub fn enter(blockers: &mut [u64; 88], kind: Kind, slot: usize, range: Range) -> Outcome
-    ensures { λ r. ⌜ (r ≡ enteredOf kind slot range (blockersOf (now (blockers .entry))) .outcome)
-        × (blockersOf (now (blockers .exit)) ≡ enteredOf kind slot range (blockersOf (now (blockers .entry))) .blockers)
-        × sameUnless (isDone r) (now (blockers .entry)) (now (blockers .exit)) ⌝ }
+    ensures { λ r. ⌜ ChangesBlockers (enteredOf kind slot range (blockersOf (now (blockers .entry)))) r
+        (now (blockers .entry)) (now (blockers .exit)) ⌝ }
 {
     crate::blocker_words::enter(blockers, kind, slot, range)
 }
 
 // The slot's blocker is gone, and nobody notes it any more. Refused (208) past slot 7 and where none is entered.
 pub fn leave(blockers: &mut [u64; 88], slot: usize) -> Outcome
-    ensures { λ r. ⌜ (r ≡ leftOf slot (blockersOf (now (blockers .entry))) .outcome)
-        × (blockersOf (now (blockers .exit)) ≡ leftOf slot (blockersOf (now (blockers .entry))) .blockers)
-        × sameUnless (isDone r) (now (blockers .entry)) (now (blockers .exit)) ⌝ }
+    ensures { λ r. ⌜ ChangesBlockers (leftOf slot (blockersOf (now (blockers .entry)))) r
+        (now (blockers .entry)) (now (blockers .exit)) ⌝ }
 {
     crate::blocker_words::leave(blockers, slot)
 }

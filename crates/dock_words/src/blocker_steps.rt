@@ -13,7 +13,7 @@ ghost use Rattle.dock.specs.Begin.{strength, blockersWith};
 ghost use Rattle.dock.specs.Tell.{blockersWithout};
 ghost use Rattle.dock_words.specs.View.{blockersOf};
 ghost use Rattle.arithmetic.specs.Refusals.{isDone};
-ghost use Rattle.dock_words.specs.CallWords.{changes};
+ghost use Rattle.dock_words.specs.CallWords.{changes, ChangesBlockers};
 
 fn strength(strong: bool) -> Kind
     ensures { λ k. ⌜ k ≡ strength strong ⌝ }
@@ -51,8 +51,8 @@ pub(crate) fn may_enter(blockers: &[u64], slot: usize, x: State) -> bool
 // It leaves.
 pub(crate) fn without_blocker(blockers: &mut [u64], slot: usize, x: State) -> Outcome
     requires { ⌜ length (now blockers) ≡ 88 ⌝ }
-    ensures { λ r. ⌜ (r ≡ blockersWithout (blockersOf (now (blockers .entry))) slot x .outcome)
-        × (blockersOf (now (blockers .exit)) ≡ blockersWithout (blockersOf (now (blockers .entry))) slot x .blockers) ⌝ }
+    ensures { λ r. ⌜ ChangesBlockers (blockersWithout (blockersOf (now (blockers .entry))) slot x) r
+        (now (blockers .entry)) (now (blockers .exit)) ⌝ }
 {
     let phase = x.phase;
     if !is_blocking(phase) {
@@ -64,8 +64,8 @@ pub(crate) fn without_blocker(blockers: &mut [u64], slot: usize, x: State) -> Ou
 // It enters.
 pub(crate) fn with_blocker(blockers: &mut [u64], slot: usize, x: State) -> Outcome
     requires { ⌜ length (now blockers) ≡ 88 ⌝ }
-    ensures { λ r. ⌜ (r ≡ blockersWith (blockersOf (now (blockers .entry))) slot x .outcome)
-        × (blockersOf (now (blockers .exit)) ≡ blockersWith (blockersOf (now (blockers .entry))) slot x .blockers) ⌝ }
+    ensures { λ r. ⌜ ChangesBlockers (blockersWith (blockersOf (now (blockers .entry))) slot x) r
+        (now (blockers .entry)) (now (blockers .exit)) ⌝ }
 {
     let phase = x.phase;
     let stage = x.stage;

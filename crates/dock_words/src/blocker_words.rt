@@ -21,8 +21,7 @@ ghost use Prim.Native.Nat.{_<_};
 ghost use lib.ListN.{length};
 ghost use Rattle.blockers.specs.Blockers.{present, notes, notesOf, forgetting, enteredOf, leftOf, waitsOf, blockerAt, isEntered};
 ghost use Rattle.dock_words.specs.View.{kindOf, blockerOf, blockerWords, blockersOf};
-ghost use Rattle.arithmetic.specs.Refusals.{isDone};
-ghost use Rattle.dock_words.specs.CallWords.{sameUnless};
+ghost use Rattle.dock_words.specs.CallWords.{ChangesBlockers};
 
 // How many words a blocker has.
 const BLOCKER_WORDS: usize = 11;
@@ -112,9 +111,7 @@ pub(crate) fn waits(all: &[u64], slot: usize) -> bool
 // Enter a blocker of this kind. Refused (208) past slot 7 and where one is entered.
 pub(crate) fn enter(all: &mut [u64], kind: Kind, slot: usize, range: Range) -> Outcome
     requires { ⌜ length (now all) ≡ 88 ⌝ }
-    ensures { λ r. ⌜ (r ≡ enteredOf kind slot range (blockersOf (now (all .entry))) .outcome)
-        × (blockersOf (now (all .exit)) ≡ enteredOf kind slot range (blockersOf (now (all .entry))) .blockers)
-        × sameUnless (isDone r) (now (all .entry)) (now (all .exit)) ⌝ }
+    ensures { λ r. ⌜ ChangesBlockers (enteredOf kind slot range (blockersOf (now (all .entry)))) r (now (all .entry)) (now (all .exit)) ⌝ }
 {
     if SLOTS <= slot {
         return Outcome::Refused(Refusal::Slot);
@@ -144,9 +141,7 @@ fn forget(all: &mut [u64], slot: usize)
 // The slot's blocker is gone, and nobody notes it any more. Refused (208) past slot 7 and where none is entered.
 pub(crate) fn leave(all: &mut [u64], slot: usize) -> Outcome
     requires { ⌜ length (now all) ≡ 88 ⌝ }
-    ensures { λ r. ⌜ (r ≡ leftOf slot (blockersOf (now (all .entry))) .outcome)
-        × (blockersOf (now (all .exit)) ≡ leftOf slot (blockersOf (now (all .entry))) .blockers)
-        × sameUnless (isDone r) (now (all .entry)) (now (all .exit)) ⌝ }
+    ensures { λ r. ⌜ ChangesBlockers (leftOf slot (blockersOf (now (all .entry)))) r (now (all .entry)) (now (all .exit)) ⌝ }
 {
     if SLOTS <= slot {
         return Outcome::Refused(Refusal::Slot);

@@ -2,6 +2,7 @@
 use mathlib.Core.Path.{refl, sym, _∙_}
 use borrow.Author.Tests.{not-true, not-false}
 use Rattle.dock.specs.Begin.{blockersWith}
+use Rattle.dock_words.specs.CallWordsLaws.{same-words}
 use borrow.Author.Needs.{needs}
 use Rattle.dock_words.proofs.blocker_steps.with_blocker.Statement.{statement}
 use Rattle.dock_words.proofs.blocker_steps.with_blocker.Tie as tie
@@ -11,7 +12,7 @@ is-blocking-requires c κs = search needs
 
 returns : tie.Need-returns
 unfolding blockersWith
-returns c = simp (sym (c .before .is-blocking .ensures) ∙ not-true _ (c .if1 .taken)) (refl, refl)
+returns c = simp (sym (c .before .is-blocking .ensures) ∙ not-true _ (c .if1 .taken)) (refl, refl, same-words _ _)
 
 strength-requires : tie.Need-strength-requires
 strength-requires c κs = search needs
@@ -24,7 +25,7 @@ same-length c = search needs
 
 returns-2 : tie.Need-returns-2
 unfolding blockersWith
-returns-2 c = simp (sym (c .before .before .before .before .before .before .is-blocking .ensures) ∙ not-false _ (c .before .before .before .before .before .if1 .left)) (rw (c .before .before .before .before .strength .ensures) at (c .before .before .enter .ensures .0), rw (c .before .before .before .before .strength .ensures) at (c .before .before .enter .ensures .1))
+returns-2 c = simp (sym (c .before .before .before .before .before .before .is-blocking .ensures) ∙ not-false _ (c .before .before .before .before .before .if1 .left)) (rw (c .before .before .before .before .strength .ensures) at (c .before .before .enter .ensures .0), rw (c .before .before .before .before .strength .ensures) at (c .before .before .enter .ensures .1), c .before .before .enter .ensures .2)
 
 pub with-blocker-spec : {M : Type 1} → statement M
 with-blocker-spec =

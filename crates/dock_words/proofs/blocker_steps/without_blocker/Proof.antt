@@ -2,6 +2,7 @@
 use mathlib.Core.Path.{refl, sym, _∙_}
 use borrow.Author.Tests.{not-true, not-false}
 use Rattle.dock.specs.Tell.{blockersWithout}
+use Rattle.dock_words.specs.CallWordsLaws.{same-words}
 use borrow.Author.Needs.{needs}
 use Rattle.dock_words.proofs.blocker_steps.without_blocker.Statement.{statement}
 use Rattle.dock_words.proofs.blocker_steps.without_blocker.Tie as tie
@@ -11,7 +12,7 @@ is-blocking-requires c κs = search needs
 
 returns : tie.Need-returns
 unfolding blockersWithout
-returns c = simp (sym (c .before .is-blocking .ensures) ∙ not-true _ (c .if1 .taken)) (refl, refl)
+returns c = simp (sym (c .before .is-blocking .ensures) ∙ not-true _ (c .if1 .taken)) (refl, refl, same-words _ _)
 
 leave-requires : tie.Need-leave-requires
 leave-requires c κs = search needs
@@ -21,7 +22,7 @@ same-length c = search needs
 
 returns-2 : tie.Need-returns-2
 unfolding blockersWithout
-returns-2 c = simp (sym (c .before .before .before .before .before .is-blocking .ensures) ∙ not-false _ (c .before .before .before .before .if1 .left)) (c .before .before .leave .ensures .0, c .before .before .leave .ensures .1)
+returns-2 c = simp (sym (c .before .before .before .before .before .is-blocking .ensures) ∙ not-false _ (c .before .before .before .before .if1 .left)) (c .before .before .leave .ensures)
 
 pub without-blocker-spec : {M : Type 1} → statement M
 without-blocker-spec =
