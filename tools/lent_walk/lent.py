@@ -15,7 +15,7 @@ answer first and the state second.
 usage: lent.py SPEC.json > crates/CRATE/proofs/F/Proof.antt. The keys of SPEC are read in main(). README.md has the command for each proof.
 In `clauses` and `shown`: h is the state at entry, a number or a struct has its parameter's name, a slice's list at entry is `(NAME .now)`,
 its last list `NAME′`, what CORE returns r, and e0, e1, .. are what CORE's clauses say.
-For crate lent, beyond a free function with all its types in one root module: types and CORE go by their paths, in any crate below; the
+For crate dock_lent, beyond a free function with all its types in one root module: types and CORE go by their paths, in any crate below; the
 answer's field has a name; a struct goes by value; the `&S` form; and the types are said at each store (`init`, below).
 Nothing here is trusted: the check refuses a proof that is written for another body, or from clauses that CORE does not have."""
 import json, os, re, sys

@@ -1,4 +1,4 @@
--- What each step of `padding::padded` shows of the definition: a sum that does not fit is its 207, and sums that fit are its numbers. Assumes nothing.
+-- What each step of `padding::pad_to` shows of the definition: a sum that does not fit is its 207, and sums that fit are its numbers. Assumes nothing.
 use mathlib.Core.Path.{_≡_, ap, _∙_}
 use mathlib.Core.Bool.{true, false}
 use Prim.Native.Nat.{ℕ, _+_, _-_}

@@ -36,6 +36,10 @@ unfolding anyBelow
 any-none zero test f = refl
 any-none (suc n) test f = or-false (anyBelow n test) (test n) (any-none n test (λ i h. f i (omega arith))) (f n (omega arith))
 
+pub or-first : (a : Bool) → (a || false) ≡ true → a ≡ true
+or-first true q = refl
+or-first false q = q
+
 -- what was found holds somewhere
 pub any-found : (n : ℕ) (test : ℕ → Bool) → anyBelow n test ≡ true → (i : ℕ) × (i < n) × (test i ≡ true)
 unfolding anyBelow
@@ -45,11 +49,7 @@ any-found (suc n) test e = go (test n) refl e (any-found n test)
     go : (b : Bool) → test n ≡ b → (anyBelow n test || b) ≡ true → (anyBelow n test ≡ true → (i : ℕ) × (i < n) × (test i ≡ true)) → (i : ℕ)
         × (i < suc n) × (test i ≡ true)
     go true p q f = (n, omega arith, p)
-    go false p q f = let r = f (or-left (anyBelow n test) q) in (r .0, omega arith, r .2)
-      where
-        or-left : (a : Bool) → (a || false) ≡ true → a ≡ true
-        or-left true q = refl
-        or-left false q = q
+    go false p q f = let r = f (or-first (anyBelow n test) q) in (r .0, omega arith, r .2)
 
 -- ---- a loop that fills a list place by place
 

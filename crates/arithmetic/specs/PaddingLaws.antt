@@ -14,7 +14,7 @@ use lib.Dec.{eqb}
 use Rattle.arithmetic.specs.RoundingLaws.{multiple-add, multiple-sub, multiple-trans, multiple-le, down-le, down-near, down-multiple}
 use Rattle.arithmetic.specs.RoundingLaws.{up-ge, up-near, up-multiple, up-least, up-same, true-fits}
 use Rattle.arithmetic.specs.Settings.{alignmentsFit, lengthAlign}
-use Rattle.arithmetic.specs.SettingsLaws.{and-left, and-right, Aligned, aligned}
+use Rattle.arithmetic.specs.SettingsLaws.{and-left, and-right, Aligned, aligned, both}
 use Rattle.arithmetic.specs.Padding.{paddedStart, roundedEnd, paddedLength, paddedEnd, paddingFits, headOf, tailOf, spanOf, paddedOf}
 use Rattle.arithmetic.specs.Padding.{paddingOf, isDirect, bounced, transferOf, paddingRefusal, readsOf, within, isRead}
 use Rattle.arithmetic.specs.declared.refusals.Refusal.{Refusal}
@@ -124,9 +124,6 @@ module _ (r l o n : ℕ) (hr : 0 < r) (hl : 0 < l) (m : l % r ≡ 0) where
   suffix-edge = edge (tailOf r l o n) l tail-below
 
 -- ---- the reads of a padded write
-
-both : (a b : Bool) → a ≡ true → b ≡ true → (a && b) ≡ true
-both a b p q = rw (p, q)
 
 either-left : (a b : Bool) → a ≡ true → (a || b) ≡ true
 either-left a b p = rw p
@@ -241,7 +238,7 @@ spans a o n s e = go (alignmentsFit a) refl e
     go true p e = padded-spans a (o .0) n s (aligned a p) e
     go false p e = let z : _≡_ {A = ℕ} 0 1 = cc in absurd (omega arith)
 
--- ---- what `direct_or_padded` gives
+-- ---- what `plan_transfer` gives
 
 -- direct: the asked range, at multiples of R
 pub record Directs (a : Alignments) (o n : ℕ) (x : Range) : Type 0 where

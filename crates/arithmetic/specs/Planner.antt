@@ -3,6 +3,7 @@ use mathlib.Core.Bool.{_&&_}
 use Prim.Native.Nat.{ℕ, _+_, _-_, _*_, _/_, min}
 use Rattle.arithmetic.specs.Rounding.{pick, fits, isMultiple}
 use Rattle.arithmetic.specs.Offsets.{rangeOf}
+use Rattle.arithmetic.specs.Refusals.{whenDone}
 use Rattle.arithmetic.specs.Settings.{settingsFit}
 use Rattle.arithmetic.specs.declared.refusals.Refusal.the-variants.{Unfit, Overflow, Unaligned}
 use Rattle.arithmetic.specs.declared.refusals.Outcome.{Outcome}
@@ -33,12 +34,10 @@ unfoldable pub plannedChunk : ℕ → ℕ → ℕ → ℕ → Range
 plannedChunk share o n i = rangeOf (o + min (i * share) n) (o + min ((i + 1) * share) n)
 
 abbrev pub counted : Outcome → ℕ → Count
-counted Done k = Chunks k
-counted (Refused r) k = NoCount r
+counted o k = whenDone o (Chunks k) NoCount
 
 abbrev pub planned : Outcome → Range → Planned
-planned Done x = Chunk x
-planned (Refused r) x = NoChunk r
+planned o x = whenDone o (Chunk x) NoChunk
 
 unfoldable pub countOf : Settings → StoreOffset → ℕ → Count
 countOf s o n = counted (planOutcome s o n) (chunkCount (s .bounce) n)

@@ -75,7 +75,7 @@ multiple i j h =
     let s : j ≡ (j - i) + i = omega arith in
     ap (λ (k : ℕ). 2 ^ k % 2 ^ i) s ∙ (rw pow-add (mul-mod-left (2 ^ (j - i)) (2 ^ i)))
 
-same-test : (a b : Bool) → (a ≡ true → b ≡ true) → (b ≡ true → a ≡ true) → a ≡ b
+pub same-test : (a b : Bool) → (a ≡ true → b ≡ true) → (b ≡ true → a ≡ true) → a ≡ b
 same-test true b f g = sym (f refl)
 same-test false true f g = g refl
 same-test false false f g = refl

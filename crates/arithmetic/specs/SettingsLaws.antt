@@ -25,6 +25,9 @@ pub and-right : (a b : Bool) → (a && b) ≡ true → b ≡ true
 and-right true b e = e
 and-right false b e = let z : _≡_ {A = Bool} false true = e in cc
 
+pub both : (a b : Bool) → a ≡ true → b ≡ true → (a && b) ≡ true
+both a b p q = rw (p, q)
+
 -- an alignment is one of 1 to 65,536
 pub record Power (x : ℕ) : Type 0 where
   pub is : isPowerTo 16 x ≡ true
@@ -103,15 +106,15 @@ accepted s e =
     }
 
 -- an opening that is not refused: fit settings, and a scratch of eight shares
-pub record Opened (s : Settings) (b : Buffers) : Type 0 where
+pub record Openable (s : Settings) (b : Buffers) : Type 0 where
   pub fit : settingsFit s ≡ true
   pub room : 8 * s .bounce ≤ b .scratch .length
 
-pub opened : (s : Settings) (b : Buffers) → openingOf s b ≡ Done → Opened s b
+pub opened : (s : Settings) (b : Buffers) → openingOf s b ≡ Done → Openable s b
 unfolding openingOf buffersFit
 opened s b e = go (settingsFit s) (buffersFit s b) refl refl e
   where
-    go : (x y : Bool) → settingsFit s ≡ x → buffersFit s b ≡ y → pick x (pick y Done (Refused Buffer)) (Refused Unfit) ≡ Done → Opened s b
+    go : (x y : Bool) → settingsFit s ≡ x → buffersFit s b ≡ y → pick x (pick y Done (Refused Buffer)) (Refused Unfit) ≡ Done → Openable s b
     go true true f q e =
         let t1 = fits (b .«data» .address + b .«data» .length) in
         let t2 = fits (b .scratch .address + b .scratch .length) in

@@ -89,7 +89,7 @@ fn pad_to(at: u64, n: u64, r: u64, l: u64) -> Padding
 pub fn pad(offset: StoreOffset, length: u64, align: Alignments) -> Padding
     ensures { λ p. ⌜ p ≡ paddingOf align offset length ⌝ }
 {
-    if !align.fit() {
+    if !align.is_fit() {
         return Padding::Refused(Refusal::Unfit);
     }
     pad_to(offset.0, length, align.req, align.length_align())
@@ -104,15 +104,10 @@ fn is_direct(at: u64, length: u64, r: u64, aligned: bool) -> bool
 }
 
 // Direct or padded, for a vector of `length` bytes that is or is not aligned.
-pub fn direct_or_padded(
-    offset: StoreOffset,
-    length: u64,
-    aligned: bool,
-    align: Alignments,
-) -> Transfer
+pub fn plan_transfer(offset: StoreOffset, length: u64, aligned: bool, align: Alignments) -> Transfer
     ensures { λ t. ⌜ t ≡ transferOf align offset length aligned ⌝ }
 {
-    if !align.fit() {
+    if !align.is_fit() {
         return Transfer::Refused(Refusal::Unfit);
     }
     let at = offset.0;

@@ -26,7 +26,7 @@ pub enum Planned {
 fn check(offset: StoreOffset, length: u64, settings: Settings) -> Outcome
     ensures { λ t. ⌜ t ≡ planOutcome settings offset length ⌝ }
 {
-    if !settings.fit() {
+    if !settings.is_fit() {
         return Outcome::Refused(Refusal::Unfit);
     }
     let align = settings.align;

@@ -66,7 +66,7 @@ impl Alignments {
         }
     }
 
-    pub fn fit(self) -> bool
+    pub fn is_fit(self) -> bool
         ensures { λ r. ⌜ r ≡ alignmentsFit self ⌝ }
     {
         let mem = is_alignment(self.mem);
@@ -79,12 +79,12 @@ impl Alignments {
 
 impl Settings {
     // Whether opening accepts the alignments and the bounce buffer's length: false is refusal 201.
-    pub fn fit(self) -> bool
+    pub fn is_fit(self) -> bool
         ensures { λ r. ⌜ r ≡ settingsFit self ⌝ }
     {
         let align = self.align;
         let len = self.bounce;
-        if !align.fit() {
+        if !align.is_fit() {
             return false;
         }
         let l = align.length_align();
@@ -102,7 +102,7 @@ impl Lent {
 }
 
 impl Buffers {
-    fn fit(self, s: Settings) -> bool
+    fn is_fit(self, s: Settings) -> bool
         requires { ⌜ settingsFit s ≡ true ⌝ }
         ensures { λ r. ⌜ r ≡ buffersFit s self ⌝ }
     {
@@ -122,10 +122,10 @@ impl Buffers {
 pub fn check_opening(s: Settings, b: Buffers) -> Outcome
     ensures { λ r. ⌜ r ≡ openingOf s b ⌝ }
 {
-    if !s.fit() {
+    if !s.is_fit() {
         return Outcome::Refused(Refusal::Unfit);
     }
-    if !b.fit(s) {
+    if !b.is_fit(s) {
         return Outcome::Refused(Refusal::Buffer);
     }
     Outcome::Done

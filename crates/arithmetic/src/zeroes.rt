@@ -86,7 +86,7 @@ fn has_bytes(r: Range) -> bool
 pub fn zero_cut(offset: StoreOffset, length: u64, align: Alignments) -> ZeroCut
     ensures { λ c. ⌜ c ≡ zeroCutOf align offset length ⌝ }
 {
-    if !align.fit() {
+    if !align.is_fit() {
         return ZeroCut::Refused(Refusal::Unfit);
     }
     if length == 0 {
@@ -112,7 +112,7 @@ pub fn zero_cut(offset: StoreOffset, length: u64, align: Alignments) -> ZeroCut
 pub fn discard_cut(offset: StoreOffset, length: u64, align: Alignments) -> DiscardCut
     ensures { λ c. ⌜ c ≡ discardCutOf align offset length ⌝ }
 {
-    if !align.fit() {
+    if !align.is_fit() {
         return DiscardCut::Refused(Refusal::Unfit);
     }
     let at = offset.0;
@@ -144,7 +144,7 @@ fn chunk_length(at: u64, n: u64, r: u64, bounce: u64) -> u64
 pub fn next_chunk(range: Range, settings: Settings) -> Chunk
     ensures { λ c. ⌜ c ≡ chunkOf settings range ⌝ }
 {
-    if !settings.fit() {
+    if !settings.is_fit() {
         return Chunk::Refused(Refusal::Unfit);
     }
     if !has_bytes(range) {

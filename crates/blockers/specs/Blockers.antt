@@ -25,6 +25,11 @@ present Absent = false
 present Weak = true
 present Strong = true
 
+-- the kind of one that is strong, or is not
+abbrev pub strength : Bool → Kind
+strength true = Strong
+strength false = Weak
+
 abbrev pub isEntered : Blocker → Bool
 isEntered b = present (b .kind)
 

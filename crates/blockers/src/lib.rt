@@ -8,7 +8,7 @@ ghost use mathlib.Core.List.{map};
 ghost use mathlib.Core.Path.{_≡_};
 ghost use Prim.Native.Nat.{_<_};
 ghost use Rattle.blockers.specs.Blockers.{overlaps, isEntered, conflict, notes, notesOf, vacant, noBlockers, forgetting, refused};
-ghost use Rattle.blockers.specs.Blockers.{enteredOf, leftOf, waitsOf};
+ghost use Rattle.blockers.specs.Blockers.{enteredOf, leftOf, waitsOf, strength};
 
 // What stands in a slot.
 pub enum Kind {
@@ -45,6 +45,13 @@ pub fn range_overlaps(a: Range, b: Range) -> bool
     let b_start = b.start;
     let b_end = b.end;
     (a_start.0 < b_end.0) & (b_start.0 < a_end.0)
+}
+
+// The kind of one that is strong, or is not.
+pub fn strength(strong: bool) -> Kind
+    ensures { λ k. ⌜ k ≡ strength strong ⌝ }
+{
+    if strong { Kind::Strong } else { Kind::Weak }
 }
 
 // Whether a blocker of kind `entering` notes an overlapping one of kind `there`: not where both are weak.

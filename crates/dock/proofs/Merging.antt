@@ -113,19 +113,7 @@ in-share p b x n h e k u =
     let m = leb-true (g .head .0 + sizeOf (g .asked)) b (and-left t1 t2 (and-left (t1 && t2) t3 (and-left (t1 && t2 && t3) t4 l))) in
     omega (arith, m, share-in p b h)
 
--- the phases that are filled or copied out use the bounce buffer
-pub writes-use : (ph : Phase) → isBouncedWrite ph ≡ true → usesBounce ph ≡ true
-writes-use Free e = e
-writes-use Ended e = e
-writes-use DirectRead e = e
-writes-use BouncedRead e = refl
-writes-use FirstRead e = refl
-writes-use SecondRead e = refl
-writes-use BouncedWrite e = refl
-writes-use DirectWrite e = e
-writes-use ZeroRequest e = e
-writes-use DiscardRequest e = e
-
+-- the phases that are copied out use the bounce buffer
 pub reads-use : (ph : Phase) → isBouncedRead ph ≡ true → usesBounce ph ≡ true
 reads-use Free e = e
 reads-use Ended e = e

@@ -13,7 +13,8 @@ use Rattle.stages.specs.declared.state.State.{State}
 use Rattle.dock.specs.Begin.{InShare}
 use Rattle.dock.specs.Next.{isSoundIn, isSoundAt}
 use Rattle.dock.proofs.Merging.{in-share}
-use Rattle.dock.proofs.SlotsOf.{share-room-sound, sound-share}
+use Rattle.dock.proofs.SlotsOf.{share-room-sound}
+use Rattle.dock.specs.SlotLaws.{sound-share}
 
 module _ (p : ℕ) (x : State) (s : Settings) (b : Buffers) (n : ℕ) (e : isSoundAt p x s b n ≡ true) where
   lent : n ≡ b .scratch .length

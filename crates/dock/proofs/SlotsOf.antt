@@ -8,7 +8,7 @@ use native.Mathlib.Omega.{arith}
 use lib.Dec.{leb, eqb}
 use borrow.Author.Tests.{leb-true, eqb-true, le-leb, lt-leb, lt-ltb, le-ltb}
 use Rattle.arithmetic.specs.Rounding.{pick}
-use Rattle.arithmetic.specs.SettingsLaws.{and-left, and-right}
+use Rattle.arithmetic.specs.SettingsLaws.{and-right}
 use Rattle.arithmetic.specs.declared.refusals.Refusal.the-variants.{Buffer, Slot}
 use Rattle.arithmetic.specs.declared.settings.Settings.{Settings}
 use Rattle.arithmetic.specs.declared.settings.Buffers.{Buffers}
@@ -50,10 +50,6 @@ unfolding isSoundIn
 share-room-sound p x s b h k =
     let l = leb-true (8 * s .bounce) (b .scratch .length) (and-right (isSound (s .bounce) x) _ k) in
     omega (arith, share-in p (s .bounce) h)
-
-pub sound-share : (x : State) (s : Settings) (b : Buffers) → isSoundIn x s b ≡ true → isSound (s .bounce) x ≡ true
-unfolding isSoundIn
-sound-share x s b k = and-left _ _ k
 
 -- the second read's bytes start in the share
 pub second-in : (n : ℕ) (x : State) → x .phase ≡ SecondRead → isSound n x ≡ true → secondAt (x .stage) ≤ n

@@ -29,7 +29,7 @@ use Rattle.stages.specs.declared.state.State.{State}
 use Rattle.stages.specs.declared.told.Step.{Step}
 use Rattle.stages.specs.declared.told.Step.the-variants.{Stays, Ends, Enters}
 use Rattle.dock.specs.Dock.{stateAt, vectorAt, isOutBy, lentFits, lentOf, overlapsOf, firstFree}
-use Rattle.dock.specs.Begin.{Filled, fills, filled, blockersWith, begins, withJob, selectedOf, planOf, beginOf, Entered, enters, enterAt, decidedOf, admits, admitNone, admitBy, admitAt, PlanInShare, storedWithBy, storedWith}
+use Rattle.dock.specs.Begin.{Filled, fills, filled, blockersWith, begins, withJob, selectedOf, planOf, beginOf, Entering, enters, enterAt, decidedOf, admits, admitNone, admitBy, admitAt, PlanInShare, storedWithBy, storedWith}
 use Rattle.dock.specs.Next.{isSoundIn}
 use Rattle.dock.specs.Tell.{Handed, hands, handed, blockersWithout, tells, tellOf, Stepped, steps, refusedStep, endsAt, entersBy, entersAt, StepInShare, answeredOf, answeredBy, toldAt, storedBy, stored}
 use Rattle.dock.specs.SlotLaws.{plan-sound, started, lent-done, leads-told, begin-whole}
@@ -91,7 +91,7 @@ module _ (b : Blockers) (p share : ℕ) (x y : State) (v : IoVector) (memory scr
   unfolding entersAt
   enters-done q n s f =
       let k : blockersWithout b p x .outcome ≡ Done = ap (λ z. z .outcome) (sym e) ∙ q in
-      ap (λ (z : Entered). entersBy z y memory) f ∙
+      ap (λ (z : Entering). entersBy z y memory) f ∙
       ap (λ (z : Changed). entersBy (enterAt (z .blockers) p share y v memory scratch) y memory) e ∙
       simp k
 
@@ -173,7 +173,7 @@ decided-in-share j s b o k v m n l le t plan pe met f (Started x) e =
 module _ (b : Blockers) (p bounce : ℕ) (v : IoVector) (memory scratch : List ℕ) (plan : Plan) (x : State) (e : plan ≡ Started x) (n : Changed) (s : List ℕ)
     (f : enters n s ≡ enterAt b p (p * bounce) x v memory scratch) where
   at-stage : admitBy (n .outcome) b p x (enters n s) ≡ admitAt b p bounce v memory scratch plan
-  at-stage = ap (λ (z : Entered). admitBy (z .outcome) b p x z) f ∙ sym (ap (λ (q : Plan). admitAt b p bounce v memory scratch q) e)
+  at-stage = ap (λ (z : Entering). admitBy (z .outcome) b p x z) f ∙ sym (ap (λ (q : Plan). admitAt b p bounce v memory scratch q) e)
 
   pub admit-refused : (r : Refusal) → n .outcome ≡ Refused r → (t : Admission) → t ≡ admitNone b (BeginRefused r) → admits t s ≡ admitAt b p bounce v memory scratch plan
   admit-refused r q t te = ap (λ (z : Admission). admits z s) te ∙ sym (ap (λ (o : Outcome). admitBy o b p x (enters n s)) q) ∙ at-stage

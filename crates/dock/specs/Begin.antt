@@ -17,9 +17,7 @@ use Rattle.vectors.specs.Vectors.{put, bytesOf, segmentsOf, copies, isValid, ve
 use Rattle.vectors.specs.declared.vector.IoVector.{IoVector}
 use Rattle.vectors.specs.declared.vector.Alignment.{Alignment}
 use Rattle.vectors.specs.declared.vector.Alignment.the-variants.{Aligned, Unaligned, Refused as NotAsked}
-use Rattle.blockers.specs.Blockers.{enteredOf}
-use Rattle.blockers.specs.declared.Kind.{Kind}
-use Rattle.blockers.specs.declared.Kind.the-variants.{Weak, Strong}
+use Rattle.blockers.specs.Blockers.{enteredOf, strength}
 use Rattle.blockers.specs.declared.Blockers.{Blockers}
 use Rattle.blockers.specs.declared.Changed.{Changed}
 use Rattle.stages.specs.Stages.{sizeOf, blockedOf, isBlocking, usesBounce, isSound, zeroJob, readPlan, writePlan, zeroPlan, discardPlan}
@@ -97,10 +95,6 @@ InShare share x n = usesBounce (x .phase) ≡ true → share + x .stage .head .0
 
 -- ---- what is entered
 
-abbrev pub strength : Bool → Kind
-strength true = Strong
-strength false = Weak
-
 -- "Direct writes, zero requests and discard requests enter a weak blocker over their range, padded writes a strong one over the padded
 -- range; reads enter none."
 unfoldable pub blockersWith : Blockers → ℕ → State → Changed
@@ -112,15 +106,15 @@ blockersWith b p x =
 
 -- ---- a job comes to its stage: its blocker enters, its scratch is filled
 
-pub record Entered : Type 0 where
+pub record Entering : Type 0 where
   pub blockers : Blockers
   pub outcome : Outcome
   pub scratch : List ℕ
 
-abbrev pub enters : Changed → List ℕ → Entered
+abbrev pub enters : Changed → List ℕ → Entering
 enters c s = record { blockers = c .blockers; outcome = c .outcome; scratch = s }
 
-unfoldable pub enterAt : Blockers → ℕ → ℕ → State → IoVector → List ℕ → List ℕ → Entered
+unfoldable pub enterAt : Blockers → ℕ → ℕ → State → IoVector → List ℕ → List ℕ → Entering
 enterAt b p share x v memory scratch =
     whenDone (blockersWith b p x .outcome)
     (record {
@@ -201,7 +195,7 @@ admitNone b a = record { answer = a; blockers = b; state = vacant }
 
 -- A dock of no call's making may have a blocker where the slot is free: the begin is then refused, and changes nothing. No dock that calls
 -- made is refused so: MadeLaws of crate theorem_lists.
-abbrev pub admitBy : Outcome → Blockers → ℕ → State → Entered → Admits
+abbrev pub admitBy : Outcome → Blockers → ℕ → State → Entering → Admits
 admitBy o b p x e =
     whenDone o (record {
       answer = Admitted p;

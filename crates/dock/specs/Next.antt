@@ -38,7 +38,7 @@ dueBy d p x = dueIn x (waitsOf p (d .blockers)) (vectorAt d p .count)
 unfoldable pub nextOf : Dock → ℕ → ℕ → ℕ → Due
 nextOf d p m n = pick (lentFits (d .buffers) m n) (pick (ltb p 8) (dueBy d p (stateAt d p)) (NotDue Slot)) (NotDue Buffer)
 
--- ---- the job at hand is one that a call made: its bytes lie in its share, its share in the scratch
+-- ---- the bytes of the job at hand lie in its share, its share in the scratch
 
 unfoldable pub isSoundIn : State → Settings → Buffers → Bool
 isSoundIn x s b = isSound (s .bounce) x && leb (8 * s .bounce) (b .scratch .length)

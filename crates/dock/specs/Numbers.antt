@@ -2,8 +2,7 @@
 -- values".
 use mathlib.Core.List.{List, [], _∷_}
 use Prim.Native.Nat.{ℕ}
-use Rattle.arithmetic.specs.Refusals.{numberOf, outcomeNumber}
-use Rattle.arithmetic.specs.declared.refusals.Outcome.{Outcome}
+use Rattle.arithmetic.specs.Refusals.{numberOf}
 use Rattle.stages.specs.declared.state.Kind.{Kind}
 use Rattle.stages.specs.declared.state.Kind.the-variants.{Read, Write, Zero, AllocatedZero, Discard}
 use Rattle.dock.specs.declared.begin.Begun.{Begun}
@@ -53,10 +52,6 @@ abbrev pub piecePaper : Piece → Paper
 piecePaper (InData s) = valued (0 ∷ s .start ∷ s .length ∷ [])
 piecePaper (InScratch s) = valued (1 ∷ s .start ∷ s .length ∷ [])
 piecePaper (NoPiece r) = numbered (numberOf r)
-
--- open and tell: 0, or the refusal's number
-abbrev pub outcomePaper : Outcome → Paper
-outcomePaper o = numbered (outcomeNumber o)
 
 -- "Collect returns the final answer."
 abbrev pub collectedPaper : Collected → Paper

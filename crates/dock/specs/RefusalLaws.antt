@@ -25,7 +25,7 @@ use Rattle.stages.specs.declared.plan.Plan.the-variants.{Done as NothingToDo, S
 use Rattle.stages.specs.declared.told.Step.{Step}
 use Rattle.stages.specs.declared.told.Step.the-variants.{Stays, Ends, Enters}
 use Rattle.dock.specs.Dock.{vacant, stateAt, vectorAt, lentFits, isOutBy, firstFree}
-use Rattle.dock.specs.Begin.{fills, isBouncedWrite, sourceOf, sourceFits, mergedAt, filled, blockersWith, Entered, enterAt, admitBy}
+use Rattle.dock.specs.Begin.{fills, isBouncedWrite, sourceOf, sourceFits, mergedAt, filled, blockersWith, Entering, enterAt, admitBy}
 use Rattle.dock.specs.Begin.{admitAt, Begins, withJob, storedWith, vectorFor, decidedFor, beginOf}
 use Rattle.dock.specs.Next.{isSoundIn}
 use Rattle.dock.specs.Tell.{hands, isBouncedRead, copiedAt, handed, blockersWithout, Stepped, steps, refusedStep, endsAt, entersBy}
@@ -88,7 +88,7 @@ admit-unchanged d v memory scratch p n (PlanRefused q) = λ r e. (refl, refl)
 admit-unchanged d v memory scratch p n (Started x) = go (blockersWith (d .blockers) p x .outcome)
     (filled (p * n) x v memory scratch .outcome) refl
   where
-    there : Outcome → Outcome → Entered
+    there : Outcome → Outcome → Entering
     there q o =
         whenDone q (record {
           blockers = blockersWith (d .blockers) p x .blockers;

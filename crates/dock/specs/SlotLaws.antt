@@ -22,8 +22,11 @@ use Rattle.arithmetic.specs.declared.settings.Buffers.{Buffers}
 use Rattle.arithmetic.specs.declared.offsets.StoreOffset.{StoreOffset}
 use Rattle.vectors.specs.Vectors.{isValid}
 use Rattle.vectors.specs.declared.vector.IoVector.{IoVector}
-use Rattle.stages.specs.Stages.{isFree, isSound, toldOf}
+use Rattle.stages.specs.Stages.{isFree, isSound, usesBounce, toldOf}
 use Rattle.stages.specs.Laws.{told-stays, told-enters, read-opens, write-opens, zero-opens, discard-opens}
+use Rattle.stages.specs.declared.state.Phase.{Phase}
+use Rattle.stages.specs.declared.state.Phase.the-variants.{Free, Ended, DirectRead, BouncedRead, FirstRead, SecondRead, BouncedWrite}
+use Rattle.stages.specs.declared.state.Phase.the-variants.{DirectWrite, ZeroRequest, DiscardRequest}
 use Rattle.stages.specs.declared.state.Job.{Job}
 use Rattle.stages.specs.declared.state.Job.the-variants.{Read, Write, Zeroes, AllocatedZeroes, Discard}
 use Rattle.stages.specs.declared.state.State.{State}
@@ -88,7 +91,7 @@ sound-too : (x y : State) (s : Settings) (b : Buffers) → isSoundIn x s b ≡ t
 unfolding isSoundIn
 sound-too x y s b k e = rw e (and-right (isSound (s .bounce) x) (leb (8 * s .bounce) (b .scratch .length)) k)
 
-sound-share : (x : State) (s : Settings) (b : Buffers) → isSoundIn x s b ≡ true → isSound (s .bounce) x ≡ true
+pub sound-share : (x : State) (s : Settings) (b : Buffers) → isSoundIn x s b ≡ true → isSound (s .bounce) x ≡ true
 unfolding isSoundIn
 sound-share x s b k = and-left (isSound (s .bounce) x) (leb (8 * s .bounce) (b .scratch .length)) k
 
@@ -101,6 +104,19 @@ leads-sound p s b x code m n h l k t e = by t (leads-told s x code t e)
     by (Stays y) e = sound-here p y s b m n h l (sound-too x y s b k (told-stays s x code y e .sound (sound-share x s b k)))
     by (Ends y) e = sound-here p x s b m n h l k
     by (Enters y) e = sound-here p y s b m n h l (sound-too x y s b k (told-enters s x code y e .sound))
+
+-- the phases whose bytes are filled in use the bounce buffer
+pub writes-use : (ph : Phase) → isBouncedWrite ph ≡ true → usesBounce ph ≡ true
+writes-use Free e = e
+writes-use Ended e = e
+writes-use DirectRead e = e
+writes-use BouncedRead e = refl
+writes-use FirstRead e = refl
+writes-use SecondRead e = refl
+writes-use BouncedWrite e = refl
+writes-use DirectWrite e = e
+writes-use ZeroRequest e = e
+writes-use DiscardRequest e = e
 
 -- ---- a begin meets the vectors of other jobs, one slot after the other
 
@@ -165,7 +181,7 @@ plan-sound AllocatedZeroes s b o n v x e = zero-opens s o n true x e .sound
 plan-sound Discard s b o n v x e = discard-opens s o n x e .sound
 
 -- a plan that was decided to start: nothing refused it, and it has its slot
-pub record Allowed (l : Outcome) (t : Bool) (plan : Plan) (met : Bool) (f : ℕ) (x : State) : Type 0 where
+pub record Permitted (l : Outcome) (t : Bool) (plan : Plan) (met : Bool) (f : ℕ) (x : State) : Type 0 where
   pub lent : l ≡ Done
   pub valid : t ≡ true
   pub planned : plan ≡ Started x
@@ -173,7 +189,7 @@ pub record Allowed (l : Outcome) (t : Bool) (plan : Plan) (met : Bool) (f : ℕ)
   pub slot : f < 8
 
 pub started : (l : Outcome) (t : Bool) (plan : Plan) (met : Bool) (f : ℕ) (x : State) → decidedOf l t plan met f ≡ Started x →
-    Allowed l t plan met f x
+    Permitted l t plan met f x
 started (Refused r) t plan met f x e = absurd (let z : _≡_ {A = ℕ} 0 1 = cc in omega arith)
 started Done false plan met f x e = absurd (let z : _≡_ {A = ℕ} 0 1 = cc in omega arith)
 started Done true NothingToDo met f x e = absurd (let z : _≡_ {A = ℕ} 0 1 = cc in omega arith)
@@ -181,7 +197,7 @@ started Done true (PlanRefused r) met f x e = absurd (let z : _≡_ {A = ℕ} 0 
 started Done true (Started y) met f x e = go met (ltb f 8) refl e
   where
     go : (a u : Bool) → ltb f 8 ≡ u → pick a (PlanRefused Overlap) (pick u (Started y) (PlanRefused Full)) ≡ Started x →
-        Allowed Done true (Started y) a f x
+        Permitted Done true (Started y) a f x
     go true u h e = absurd (let z : _≡_ {A = ℕ} 0 1 = cc in omega arith)
     go false true h e = record { lent = refl; valid = refl; planned = e; apart = refl; slot = ltb-true f 8 h }
     go false false h e = absurd (let z : _≡_ {A = ℕ} 0 1 = cc in omega arith)

@@ -26,7 +26,7 @@ use Rattle.stages.specs.declared.state.State.{State}
 use Rattle.stages.specs.declared.told.Step.{Step}
 use Rattle.stages.specs.declared.told.Step.the-variants.{Stays, Ends, Enters}
 use Rattle.dock.specs.Dock.{vacant, stateAt, vectorAt, lentFits, isOutBy}
-use Rattle.dock.specs.Begin.{filled, InShare, Entered, enterAt, withJob}
+use Rattle.dock.specs.Begin.{filled, InShare, Entering, enterAt, withJob}
 use Rattle.dock.specs.Next.{isSoundIn}
 use Rattle.dock.specs.declared.dock.Dock.{Dock}
 use Rattle.dock.specs.declared.tell.Telling.{Telling}
@@ -116,7 +116,7 @@ endsAt b p share x code y v memory scratch =
     (λ r. steps (refusedStep b x r) memory scratch)
 
 -- it enters its next stage: its blocker leaves first, then the next stage's enters, and where that reads nothing its scratch is filled
-abbrev pub entersBy : Entered → State → List ℕ → Stepped
+abbrev pub entersBy : Entering → State → List ℕ → Stepped
 entersBy e y memory = record { outcome = e .outcome; blockers = e .blockers; state = y; memory = memory; scratch = e .scratch }
 
 unfoldable pub entersAt : Blockers → ℕ → ℕ → State → State → IoVector → List ℕ → List ℕ → Stepped

@@ -175,7 +175,7 @@ pub fn decide(lent: Outcome, valid: bool, plan: Plan, met: bool, free: usize) ->
 }
 
 // The blockers once the stage of the job in `slot` has entered: strong for a padded write, none for a read.
-fn with_blocker(b: Blockers, slot: usize, x: State) -> Changed
+fn enter_blocker(b: Blockers, slot: usize, x: State) -> Changed
     ensures { λ c. ⌜ c ≡ blockersWith b slot x ⌝ }
 {
     let phase = x.phase;
@@ -206,7 +206,7 @@ pub(crate) fn enter(
     requires { ⌜ InShare share x (length (now scratch)) ⌝ }
     ensures { λ r. ⌜ enters r (now (scratch .exit)) ≡ enterAt b slot share x v (now («data» .entry)) (now (scratch .entry)) ⌝ }
 {
-    let entered = with_blocker(b, slot, x);
+    let entered = enter_blocker(b, slot, x);
     let there = entered.outcome;
     let Outcome::Done = there else {
         return entered;
@@ -278,7 +278,7 @@ impl Dock {
         let lent = check_lent(settings, buffers, data.len(), scratch.len());
         let free = first_free(self.states);
         let first = plan_asked(asked, settings, buffers);
-        let plan = decide(lent, v.valid(data.len()), first, met, free);
+        let plan = decide(lent, v.is_valid(data.len()), first, met, free);
         let admission = admit(self.blockers, free, settings.bounce, plan, v, data, scratch);
         let answer = admission.answer;
         let Begun::Admitted(slot) = answer else {

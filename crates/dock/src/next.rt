@@ -52,7 +52,7 @@ pub fn is_out(b: Blockers, x: State, slot: usize) -> bool
     !b.waits(slot)
 }
 
-// Whether the job x is one that a call made: its bytes lie in its share, the shares in the scratch.
+// Whether the bytes of the job x lie in its share, and the shares in the scratch.
 pub fn is_sound_in(x: State, settings: Settings, buffers: Buffers) -> bool
     ensures { λ t. ⌜ t ≡ isSoundIn x settings buffers ⌝ }
 {
@@ -60,7 +60,7 @@ pub fn is_sound_in(x: State, settings: Settings, buffers: Buffers) -> bool
     x.is_sound(settings.bounce) & (settings.bounce <= scratch.length / 8)
 }
 
-// Whether the job x is one that a call made, and its share, that of `slot`, lies in a scratch of `scratch_len` bytes.
+// Whether they do, and its share, that of `slot`, lies in a scratch of `scratch_len` bytes.
 pub fn is_sound_at(
     slot: usize,
     x: State,
@@ -104,8 +104,8 @@ impl Dock {
         }
         let x = self.states[slot];
         let v = self.vectors[slot];
-        let waits = self.blockers.waits(slot);
-        due_now(x, waits, v.count)
+        let waiting = self.blockers.waits(slot);
+        due_now(x, waiting, v.count)
     }
 }
 
@@ -129,7 +129,7 @@ fn in_scratch(i: usize, start: u64, n: u64) -> Piece
 fn in_data(i: usize, data_len: usize, v: IoVector) -> Piece
     ensures { λ r. ⌜ r ≡ inData i data_len v ⌝ }
 {
-    if !v.valid(data_len) {
+    if !v.is_valid(data_len) {
         return Piece::Refused(Refusal::Slot);
     }
     if v.count <= i {
@@ -163,7 +163,7 @@ fn piece_of(x: State, v: IoVector, share: u64, bounce: u64, i: usize, data_len: 
     }
 }
 
-// Piece i of the request of the job x in `slot`, where the job is one that a call made.
+// Piece i of the request of the job x in `slot`, where its bytes lie in its share.
 pub fn piece_in(
     slot: usize,
     settings: Settings,

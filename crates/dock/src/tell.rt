@@ -57,7 +57,7 @@ pub struct Collects {
 }
 
 // The blockers once the stage of the job in `slot` has left.
-fn without_blocker(b: Blockers, slot: usize, x: State) -> Changed
+fn leave_blocker(b: Blockers, slot: usize, x: State) -> Changed
     ensures { λ c. ⌜ c ≡ blockersWithout b slot x ⌝ }
 {
     let phase = x.phase;
@@ -117,7 +117,7 @@ fn ends(
     ensures { λ r. ⌜ steps r (now («data» .exit)) (now (scratch .entry))
         ≡ endsAt b slot share x code y v (now («data» .entry)) (now (scratch .entry)) ⌝ }
 {
-    let left = without_blocker(b, slot, x);
+    let left = leave_blocker(b, slot, x);
     let gone = left.outcome;
     if let Outcome::Refused(r) = gone {
         return refuse_step(b, x, r);
@@ -146,7 +146,7 @@ fn enters(
     ensures { λ r. ⌜ steps r (now («data» .entry)) (now (scratch .exit))
         ≡ entersAt b slot share x y v (now («data» .entry)) (now (scratch .entry)) ⌝ }
 {
-    let left = without_blocker(b, slot, x);
+    let left = leave_blocker(b, slot, x);
     let gone = left.outcome;
     if let Outcome::Refused(r) = gone {
         return refuse_step(b, x, r);
@@ -162,7 +162,7 @@ fn enters(
 }
 
 // The job x after its step.
-fn step(
+fn take_step(
     b: Blockers,
     slot: usize,
     share: usize,
@@ -223,7 +223,7 @@ fn tell_slot(
         Answered::Refused(r) => refuse_step(b, x, r),
         Answered::Leads(t) => {
             let share = slot * settings.bounce as usize;
-            step(b, slot, share, x, code, t, v, data, scratch)
+            take_step(b, slot, share, x, code, t, v, data, scratch)
         }
     }
 }

@@ -13,7 +13,6 @@ use Rattle.arithmetic.specs.declared.planner.Count.the-variants.{Chunks, Refuse
 use Rattle.arithmetic.specs.declared.planner.Planned.{Planned}
 use Rattle.arithmetic.specs.declared.planner.Planned.the-variants.{Chunk, Refused as NotPlanned}
 use Rattle.vectors.specs.Vectors.{outcomeOf}
-use Rattle.vectors.specs.declared.vector.IoVector.{IoVector}
 use Rattle.vectors.specs.declared.vector.Changed.{Changed as Edited}
 use Rattle.vectors.specs.declared.vector.Halves.{Halves}
 use Rattle.vectors.specs.declared.vector.Alignment.{Alignment}
@@ -28,7 +27,7 @@ use Rattle.dock.specs.declared.tell.Collected.{Collected}
 use Rattle.dock.specs.declared.tell.Collects.{Collects}
 use Rattle.dock.specs.declared.numbers.Number.{Number}
 use Rattle.dock.specs.declared.numbers.Number.the-variants.{Of, None}
-use Rattle.dock_words.specs.View.{blockersOf}
+use Rattle.dock_words.specs.View.{blockersOf, vectorWords}
 use Rattle.dock_words.specs.CallWords.{sameUnless}
 use Rattle.dock_c.specs.declared.replies.Reply.{Reply}
 
@@ -90,13 +89,14 @@ TellsAs t r d memory scratch = (r ≡ outcomeNumber (t .outcome)) × (d ≡ t .d
 abbrev pub CollectsAs : Collects → ℕ → Dock → Type 0
 CollectsAs c r d = (r ≡ collectedNumber (c .answer)) × (d ≡ c .dock)
 
--- the same of a call on a vector: an edit; a split, whose tail a refusal leaves; bytes that are moved where a test holds
-abbrev pub EditsAs : Edited → ℕ → IoVector → Type 0
-EditsAs c r v = (r ≡ outcomeNumber (c .outcome)) × (v ≡ c .vector)
+-- the same of a call on a vector, in every word: an edit, of which a refusal leaves the vector, and so the words (law vector-same of
+-- dock_words); a split, whose tail a refusal leaves; bytes that are moved where a test holds
+abbrev pub EditsAs : Edited → ℕ → List ℕ → Type 0
+EditsAs c r words = (r ≡ outcomeNumber (c .outcome)) × (words ≡ vectorWords (c .vector))
 
-abbrev pub SplitsAs : Halves → IoVector → ℕ → IoVector → IoVector → Type 0
+abbrev pub SplitsAs : Halves → List ℕ → ℕ → List ℕ → List ℕ → Type 0
 SplitsAs h old r head tail =
-    (r ≡ outcomeNumber (h .outcome)) × (head ≡ h .head) × (tail ≡ whenDone (h .outcome) (h .tail) (λ z. old))
+    (r ≡ outcomeNumber (h .outcome)) × (head ≡ vectorWords (h .head)) × (tail ≡ whenDone (h .outcome) (vectorWords (h .tail)) (λ z. old))
 
 abbrev pub MovesAs : Bool → List ℕ → List ℕ → ℕ → List ℕ → Type 0
 MovesAs t moved old r bytes = (r ≡ outcomeNumber (outcomeOf t)) × (bytes ≡ pick t moved old)

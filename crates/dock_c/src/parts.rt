@@ -6,7 +6,7 @@ use arithmetic::offsets::StoreOffset;
 use arithmetic::refusals::Outcome;
 use arithmetic::settings::Alignments;
 use arithmetic::settings::Lent;
-use blockers::Kind;
+use blockers::strength;
 use dock_words::arrays::enter;
 use dock_words::arrays::leave;
 use dock_words::arrays::put_vector_of;
@@ -18,8 +18,7 @@ ghost use lib.ListN.{length};
 ghost use Rattle.arithmetic.specs.Offsets.{rangeOf};
 ghost use Rattle.vectors.specs.Vectors.{segment, pushOf, insertOf, appendOf, splitOf, splitTailOf, copies, bytesOf, scatterOf, segmentsOf};
 ghost use Rattle.vectors.specs.Vectors.{isValid, fillOf, alignmentOf};
-ghost use Rattle.blockers.specs.Blockers.{enteredOf, leftOf, waitsOf};
-ghost use Rattle.dock.specs.Begin.{strength};
+ghost use Rattle.blockers.specs.Blockers.{enteredOf, leftOf, waitsOf, strength};
 ghost use Rattle.dock_words.specs.View.{flagOf, flagWord, vectorFrom, blockersOf};
 ghost use Rattle.dock_c.specs.Replies.{replyOf, alignmentPaper, EditsAs, SplitsAs, MovesAs, BlocksAs};
 
@@ -32,7 +31,7 @@ pub extern "C" fn dock_words_vector_push(
     data_len: usize,
 ) -> u8
     ensures { λ r. ⌜ EditsAs (pushOf data_len (vectorFrom (now (vector .entry))) (segment start length))
-        r (vectorFrom (now (vector .exit))) ⌝ }
+        r (now (vector .exit)) ⌝ }
 {
     let v = vector_of(vector);
     let changed = v.push(Segment { start, length }, data_len);
@@ -51,7 +50,7 @@ pub extern "C" fn dock_words_vector_insert(
     data_len: usize,
 ) -> u8
     ensures { λ r. ⌜ EditsAs (insertOf data_len (vectorFrom (now (vector .entry))) index (segment start length))
-        r (vectorFrom (now (vector .exit))) ⌝ }
+        r (now (vector .exit)) ⌝ }
 {
     let v = vector_of(vector);
     let changed = v.insert(index, Segment { start, length }, data_len);
@@ -68,7 +67,7 @@ pub extern "C" fn dock_words_vector_split_tail_at(
     data_len: usize,
 ) -> u8
     ensures { λ r. ⌜ EditsAs (splitTailOf data_len (vectorFrom (now (vector .entry))) mid)
-        r (vectorFrom (now (vector .exit))) ⌝ }
+        r (now (vector .exit)) ⌝ }
 {
     let v = vector_of(vector);
     let changed = v.split_tail_at(mid, data_len);
@@ -85,7 +84,7 @@ pub extern "C" fn dock_words_vector_append(
     data_len: usize,
 ) -> u8
     ensures { λ r. ⌜ EditsAs (appendOf data_len (vectorFrom (now (vector .entry))) (vectorFrom (now (other .entry))))
-        r (vectorFrom (now (vector .exit))) ⌝ }
+        r (now (vector .exit)) ⌝ }
 {
     let v = vector_of(vector);
     let w = vector_of(other);
@@ -103,8 +102,8 @@ pub extern "C" fn dock_words_vector_split_at(
     mid: u64,
     data_len: usize,
 ) -> u8
-    ensures { λ r. ⌜ SplitsAs (splitOf data_len (vectorFrom (now (vector .entry))) mid) (vectorFrom (now (tail .entry)))
-        r (vectorFrom (now (vector .exit))) (vectorFrom (now (tail .exit))) ⌝ }
+    ensures { λ r. ⌜ SplitsAs (splitOf data_len (vectorFrom (now (vector .entry))) mid) (now (tail .entry))
+        r (now (vector .exit)) (now (tail .exit)) ⌝ }
 {
     let v = vector_of(vector);
     let halves = v.split_at(mid, data_len);
@@ -183,12 +182,6 @@ pub extern "C" fn dock_words_vector_is_aligned(
         discard,
     };
     alignment_reply(v.is_aligned(align, Lent { address, length }))
-}
-
-fn strength(strong: bool) -> Kind
-    ensures { λ k. ⌜ k ≡ strength strong ⌝ }
-{
-    if strong { Kind::Strong } else { Kind::Weak }
 }
 
 // Enter a blocker over the store's bytes from `start` up to `end`, strong or weak.

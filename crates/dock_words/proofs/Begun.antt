@@ -19,7 +19,7 @@ use Rattle.vectors.specs.declared.vector.IoVector.{IoVector}
 use Rattle.stages.specs.declared.state.State.{State}
 use Rattle.stages.specs.declared.plan.Plan.{Plan}
 use Rattle.dock.specs.Dock.{lentOf, overlapsOf, firstFree}
-use Rattle.dock.specs.Begin.{Filled, fills, filled, blockersWith, begins, selectedOf, planOf, beginOf, Entered, enterAt, decidedOf, admitBy, admitAt}
+use Rattle.dock.specs.Begin.{Filled, fills, filled, blockersWith, begins, selectedOf, planOf, beginOf, Entering, enterAt, decidedOf, admitBy, admitAt}
 use Rattle.dock.specs.Next.{isSoundIn, isSoundAt}
 use Rattle.dock.specs.SlotLaws.{begin-whole}
 use Rattle.dock.specs.declared.begin.Asked.{Asked}
@@ -37,10 +37,10 @@ sound-slot p x s b n e = ltb-true p 8 (and-left (ltb p 8) (isSoundIn x s b) (and
 -- ---- the job w with the vector u comes to slot p
 
 module _ (b x v : List ℕ) (p share : ℕ) (w : State) (u : IoVector) (memory scratch : List ℕ) where
-  abbrev There : Entered
+  abbrev There : Entering
   There = enterAt (blockersOf b) p share w u memory scratch
 
-  abbrev admitted : Outcome → Entered → BegunWords
+  abbrev admitted : Outcome → Entering → BegunWords
   admitted o e = storedJob (blockersOf b) (statesOf x) (vectorsOf v) u (admitBy o (blockersOf b) p w e)
 
   pub admit-not : isDone (blockersWith (blockersOf b) p w .outcome) ≡ false → beginsWords (BeginRefused Slot) b x v scratch ≡ admitted (There .outcome) There
@@ -55,12 +55,12 @@ module _ (b x v : List ℕ) (p share : ℕ) (w : State) (u : IoVector) (memory s
         (sym (ap (λ (z : Filled). record { blockers = blockersWith (blockersOf b) p w .blockers; outcome = z .outcome; scratch = z .scratch }) f))
 
     pub admit-refused : (r : Refusal) → o ≡ Refused r → beginsWords (BeginRefused r) b x v s ≡ admitted (There .outcome) There
-    admit-refused r q = sym (ap (λ (z : Entered). admitted (z .outcome) z) there ∙ ap (λ (z : Outcome). admitted z (record { blockers = blockersWith (blockersOf b) p w .blockers; outcome = o; scratch = s })) q)
+    admit-refused r q = sym (ap (λ (z : Entering). admitted (z .outcome) z) there ∙ ap (λ (z : Outcome). admitted z (record { blockers = blockersWith (blockersOf b) p w .blockers; outcome = o; scratch = s })) q)
 
     pub admit-done : o ≡ Done → (b′ x′ v′ : List ℕ) → blockersOf b′ ≡ blockersWith (blockersOf b) p w .blockers → statesOf x′ ≡ set (statesOf x) p w → vectorsOf v′ ≡ set (vectorsOf v) p u
         → beginsWords (Admitted p) b′ x′ v′ s ≡ admitted (There .outcome) There
     admit-done q b′ x′ v′ g h k =
-        rw (g, h, k) (sym (ap (λ (z : Entered). admitted (z .outcome) z) there ∙ ap (λ (z : Outcome). admitted z (record { blockers = blockersWith (blockersOf b) p w .blockers; outcome = o; scratch = s })) q))
+        rw (g, h, k) (sym (ap (λ (z : Entering). admitted (z .outcome) z) there ∙ ap (λ (z : Outcome). admitted z (record { blockers = blockersWith (blockersOf b) p w .blockers; outcome = o; scratch = s })) q))
 
 -- ---- begin
 

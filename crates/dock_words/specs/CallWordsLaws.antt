@@ -16,7 +16,7 @@ use Rattle.arithmetic.specs.declared.refusals.Refusal.the-variants.{Slot}
 use Rattle.arithmetic.specs.declared.refusals.Outcome.{Outcome}
 use Rattle.arithmetic.specs.declared.refusals.Outcome.the-variants.{Done, Refused}
 use Rattle.vectors.specs.declared.vector.IoVector.{IoVector}
-use Rattle.blockers.specs.Blockers.{isEntered, blockerAt, leftOf, enteredOf, changedTo, refused}
+use Rattle.blockers.specs.Blockers.{isEntered, blockerAt, leftOf, enteredOf, changedTo, refused, strength}
 use Rattle.blockers.specs.Laws.{left-own, enter-done}
 use Rattle.arithmetic.specs.declared.offsets.Range.{Range}
 use Rattle.blockers.specs.declared.Kind.{Kind}
@@ -25,7 +25,7 @@ use Rattle.blockers.specs.declared.Blockers.{Blockers}
 use Rattle.blockers.specs.declared.Changed.{Changed}
 use Rattle.stages.specs.Stages.{isBlocking}
 use Rattle.stages.specs.declared.state.State.{State}
-use Rattle.dock.specs.Begin.{Begins, begins, strength, blockersWith, filled, enterAt, Admits, storedWithBy, storedWith}
+use Rattle.dock.specs.Begin.{Begins, begins, blockersWith, filled, enterAt, Admits, storedWithBy, storedWith}
 use Rattle.dock.specs.Tell.{Told, tells, blockersWithout, handed, Stepped, steps, refusedStep, storedBy, stored, entersBy, endsAt, entersAt}
 use Rattle.dock.specs.declared.dock.Dock.{Dock}
 use Rattle.dock.specs.declared.open.Opened.{Opened}

@@ -28,7 +28,7 @@ use Rattle.stages.specs.declared.state.State.{State}
 use Rattle.dock.specs.Dock.{noState, noVector}
 use Rattle.dock_words.specs.Rows.{rows, row, put, rows-get, rows-put, row-word, row-length, row-set, part-put}
 use Rattle.dock_words.specs.View.{flagOf, flagWord, phaseOf, phaseTag, jobOf, jobTag, courseOf, courseTag, kindOf, kindTag, stageOf}
-use Rattle.dock_words.specs.View.{stateOf, stateWords, blockerOf, blockerWords, segmentOf, segmentWords, vectorFrom, vectorWords}
+use Rattle.dock_words.specs.View.{stateFrom, stateWords, blockerOf, blockerWords, segmentOf, segmentWords, vectorFrom, vectorWords}
 use Rattle.dock_words.specs.View.{blockersOf, statesOf, vectorsOf}
 
 -- ---- one word
@@ -73,8 +73,8 @@ kind-back Strong = refl
 
 -- ---- a row
 
-pub state-back : (x : State) → x .answer < 256 → stateOf (stateWords x) ≡ x
-unfolding stateOf stageOf
+pub state-back : (x : State) → x .answer < 256 → stateFrom (stateWords x) ≡ x
+unfolding stateFrom stageOf
 state-back x h = rw (phase-back (x .phase), mod-eq-of-lt h, job-back (x .job), course-back (x .course), flag-back (x .stage .strong))
 
 flags-back : (l : List Bool) → map flagOf (map flagWord l) ≡ l
@@ -98,6 +98,21 @@ segments-back (suc n) (s ∷ l) e = ap (λ (r : List Segment). s ∷ r) (segment
 pub vector-back : (v : IoVector) → length (v .segments) ≡ 16 → vectorFrom (vectorWords v) ≡ v
 unfolding vectorFrom
 vector-back v h = rw (segments-back 16 (v .segments) h)
+
+-- and words of a vector are those of the vector that they stand for: one that a refusal leaves is left in every word
+segments-same : (n : ℕ) (w : List ℕ) → length w ≡ n + n → segmentWords (rows segmentOf 2 n w) ≡ w
+unfolding rows
+segments-same zero [] e = refl
+segments-same zero (a ∷ w) e = absurd (omega arith)
+segments-same (suc n) [] e = absurd (omega arith)
+segments-same (suc n) (a ∷ []) e = absurd (omega arith)
+segments-same (suc n) (a ∷ b ∷ w) e = ap (λ (r : List ℕ). a ∷ b ∷ r) (segments-same n w (omega arith))
+
+pub vector-same : (w : List ℕ) → length w ≡ 34 → vectorWords (vectorFrom w) ≡ w
+unfolding vectorFrom
+vector-same [] e = absurd (omega arith)
+vector-same (a ∷ []) e = absurd (omega arith)
+vector-same (a ∷ b ∷ w) e = ap (λ (r : List ℕ). a ∷ b ∷ r) (segments-same 16 w (omega arith))
 
 segment-width : (n : ℕ) (l : List Segment) → length l ≡ n → length (segmentWords l) ≡ n + n
 segment-width n [] e = omega arith
@@ -144,12 +159,12 @@ vector-length v i = let e : 3 + 2 * i ≡ suc (suc (suc (2 * i))) = omega arith 
 
 -- ---- a state's row among the rows: what is read there, and what a row put in its place changes
 
-pub state-row : (w : List ℕ) (p : ℕ) → p < 8 → getD (statesOf w) p noState ≡ stateOf (row 18 p w)
-state-row w p h = rows-get stateOf 18 8 p w noState h
+pub state-row : (w : List ℕ) (p : ℕ) → p < 8 → getD (statesOf w) p noState ≡ stateFrom (row 18 p w)
+state-row w p h = rows-get stateFrom 18 8 p w noState h
 
 pub state-put : (w : List ℕ) (p : ℕ) (x : State) → p < 8 → length w ≡ 144 → x .answer < 256
     → statesOf (put 18 p w (stateWords x)) ≡ set (statesOf w) p x
-state-put w p x h l a = rows-put stateOf 18 8 p w (stateWords x) h (omega arith) refl ∙ rw (state-back x a)
+state-put w p x h l a = rows-put stateFrom 18 8 p w (stateWords x) h (omega arith) refl ∙ rw (state-back x a)
 
 -- as code puts it: the words, of which the part that was lent has come back as b
 pub state-part : (w : List ℕ) (p : ℕ) (x : State) (b : List ℕ) → p < 8 → length w ≡ 144 → x .answer < 256 → b ≡ stateWords x
@@ -158,7 +173,7 @@ state-part w p x b h l a e = ap statesOf (part-put 18 p w b) ∙ rw e (state-put
 
 -- the phase of slot p stands in word 18 p
 pub phase-word : (w : List ℕ) (p : ℕ) → p < 8 → getD (statesOf w) p noState .phase ≡ phaseOf (getD w (p * 18) 0)
-unfolding stateOf
+unfolding stateFrom
 phase-word w p h = rw (state-row w p h, row-word 18 p w 0 (omega arith), add-zero)
 
 -- ---- a vector's

@@ -3,7 +3,7 @@
 use mathlib.Core.Path.{_≡_}
 use mathlib.Core.Bool.{Bool, true, false, not}
 use mathlib.Core.List.{List, [], _∷_, _++_, map}
-use Prim.Native.Nat.{ℕ, _+_, _%_}
+use Prim.Native.Nat.{ℕ, _+_, _%_, _<_}
 use lib.Dec.{eqb}
 use lib.ListN.{length, getD, drop}
 use Rattle.arithmetic.specs.Rounding.{pick}
@@ -133,8 +133,8 @@ abbrev pub stageWords : Stage → List ℕ
 stageWords g = rangeWords (g .asked) ++ rangeWords (g .request) ++ rangeWords (g .first) ++ rangeWords (g .second) ++ g .head .0 ∷ flagWord
     (g .strong) ∷ []
 
-unfoldable pub stateOf : List ℕ → State
-stateOf w =
+unfoldable pub stateFrom : List ℕ → State
+stateFrom w =
     record {
       phase = phaseOf (getD w 0 0);
       answer = getD w 1 0 % 256;
@@ -178,7 +178,7 @@ abbrev pub blockersOf : List ℕ → Blockers
 blockersOf w = record { slots = rows blockerOf 11 8 w }
 
 abbrev pub statesOf : List ℕ → List State
-statesOf w = rows stateOf 18 8 w
+statesOf w = rows stateFrom 18 8 w
 
 abbrev pub vectorsOf : List ℕ → List IoVector
 vectorsOf w = rows vectorFrom 34 8 w
@@ -186,6 +186,16 @@ vectorsOf w = rows vectorFrom 34 8 w
 -- the four arrays have the words of a dock: settings, blockers, states, vectors
 abbrev pub DockWords : List ℕ → List ℕ → List ℕ → List ℕ → Type 0
 DockWords s b x v = (length s ≡ 9) × (length b ≡ 88) × (length x ≡ 144) × (length v ≡ 272)
+
+-- those of blockers, states and vectors, and what more a call on them asks; of one of the eight slots; of its state and vector alone
+abbrev pub SlotsWords : List ℕ → List ℕ → List ℕ → Type 0 → Type 0
+SlotsWords b x v P = (length b ≡ 88) × (length x ≡ 144) × (length v ≡ 272) × P
+
+abbrev pub SlotWords : List ℕ → List ℕ → List ℕ → ℕ → Type 0 → Type 0
+SlotWords b x v p P = (length b ≡ 88) × (length x ≡ 144) × (length v ≡ 272) × (p < 8) × P
+
+abbrev pub RowWords : List ℕ → List ℕ → ℕ → Type 0 → Type 0
+RowWords x v p P = (length x ≡ 144) × (length v ≡ 272) × (p < 8) × P
 
 abbrev pub dockOf : List ℕ → List ℕ → List ℕ → List ℕ → Dock
 dockOf s b x v =

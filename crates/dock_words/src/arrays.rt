@@ -19,7 +19,7 @@ ghost use Rattle.dock.specs.Dock.{openOf, openProfileOf};
 ghost use Rattle.dock.specs.Begin.{beginOf};
 ghost use Rattle.dock.specs.Next.{nextOf, pieceOf};
 ghost use Rattle.dock.specs.Tell.{tellOf, collectOf, CollectGives};
-ghost use Rattle.dock_words.specs.View.{settingsOf, vectorFrom, blockersOf, dockOf};
+ghost use Rattle.dock_words.specs.View.{settingsOf, vectorFrom, vectorWords, blockersOf, dockOf};
 ghost use Rattle.arithmetic.specs.Refusals.{isDone};
 ghost use Rattle.dock_words.specs.CallWords.{isAdmitted, isFinal, sameTwo, sameThree, opensOver, beginsIn, tellsIn, ChangesBlockers};
 
@@ -197,7 +197,7 @@ pub fn collect(
 
 // Write a vector over 34 words.
 pub fn put_vector_of(vector: &mut [u64; 34], v: IoVector)
-    ensures { λ t. ⌜ vectorFrom (now (vector .exit)) ≡ v ⌝ }
+    ensures { λ t. ⌜ now (vector .exit) ≡ vectorWords v ⌝ }
 {
     put_vector(vector, v);
 }

@@ -1,6 +1,6 @@
 // What a begin does to the words: whether its vector meets another, and the job that comes to its slot.
+use crate::blocker_steps::enter_blocker;
 use crate::blocker_steps::may_enter;
-use crate::blocker_steps::with_blocker;
 use crate::state_words::phase_at;
 use crate::state_words::put_state_at;
 use crate::state_words::state_at;
@@ -29,7 +29,7 @@ ghost use Rattle.dock.specs.Dock.{meetsAt, overlapsOf};
 ghost use Rattle.dock.specs.Next.{isSoundAt};
 ghost use Rattle.dock.specs.Slots.{PlanSound};
 ghost use Rattle.dock.specs.Begin.{admitAt};
-ghost use Rattle.dock_words.specs.View.{blockersOf, statesOf, vectorsOf};
+ghost use Rattle.dock_words.specs.View.{blockersOf, statesOf, vectorsOf, SlotsWords, SlotWords};
 ghost use Rattle.dock_words.specs.CallWords.{isAdmitted, sameThree, StoresJob};
 
 // Whether a job's vector meets that of slot i, of which one reads. A free slot's words are not read.
@@ -73,8 +73,8 @@ fn admit_started(
     data: &[u8],
     scratch: &mut [u8],
 ) -> Begun
-    requires { ⌜ (length (now blockers) ≡ 88) × (length (now states) ≡ 144) × (length (now vectors) ≡ 272) × (slot < 8)
-        × (isSoundAt slot x settings buffers (length (now scratch)) ≡ true) ⌝ }
+    requires { ⌜ SlotWords (now blockers) (now states) (now vectors) slot
+        (isSoundAt slot x settings buffers (length (now scratch)) ≡ true) ⌝ }
     ensures dock { λ r. ⌜ StoresJob (admitAt (blockersOf (now (blockers .entry))) slot (settings .bounce) v
         (now («data» .entry)) (now (scratch .entry)) (Started x)) v
         (now (blockers .entry)) (now (states .entry)) (now (vectors .entry))
@@ -89,7 +89,7 @@ fn admit_started(
     if let Outcome::Refused(r) = filled {
         return Begun::Refused(r);
     }
-    let entered = with_blocker(blockers, slot, x);
+    let entered = enter_blocker(blockers, slot, x);
     put_state_at(states, slot, x);
     put_vector_at(vectors, slot, v);
     Begun::Admitted(slot)
@@ -108,8 +108,8 @@ pub(crate) fn admit(
     data: &[u8],
     scratch: &mut [u8],
 ) -> Begun
-    requires { ⌜ (length (now blockers) ≡ 88) × (length (now states) ≡ 144) × (length (now vectors) ≡ 272)
-        × PlanSound slot settings buffers (length (now scratch)) plan ⌝ }
+    requires { ⌜ SlotsWords (now blockers) (now states) (now vectors)
+        (PlanSound slot settings buffers (length (now scratch)) plan) ⌝ }
     ensures dock { λ r. ⌜ StoresJob (admitAt (blockersOf (now (blockers .entry))) slot (settings .bounce) v
         (now («data» .entry)) (now (scratch .entry)) plan) v
         (now (blockers .entry)) (now (states .entry)) (now (vectors .entry))

@@ -3,23 +3,18 @@ use crate::blocker_words::enter;
 use crate::blocker_words::is_entered_at;
 use crate::blocker_words::leave;
 use arithmetic::refusals::Outcome;
-use blockers::Kind;
+use blockers::strength;
 use dock::dock::SLOTS;
 use stages::state::State;
 use stages::state::is_blocking;
 ghost use mathlib.Core.Path.{_≡_};
 ghost use lib.ListN.{length};
-ghost use Rattle.dock.specs.Begin.{strength, blockersWith};
+ghost use Rattle.dock.specs.Begin.{blockersWith};
 ghost use Rattle.dock.specs.Tell.{blockersWithout};
 ghost use Rattle.dock_words.specs.View.{blockersOf};
 ghost use Rattle.arithmetic.specs.Refusals.{isDone};
+ghost use Rattle.blockers.specs.Blockers.{strength};
 ghost use Rattle.dock_words.specs.CallWords.{changes, ChangesBlockers};
-
-fn strength(strong: bool) -> Kind
-    ensures { λ k. ⌜ k ≡ strength strong ⌝ }
-{
-    if strong { Kind::Strong } else { Kind::Weak }
-}
 
 // Whether the blocker of the job x can leave: it is entered, or the job has none.
 pub(crate) fn may_leave(blockers: &[u64], slot: usize, x: State) -> bool
@@ -49,7 +44,7 @@ pub(crate) fn may_enter(blockers: &[u64], slot: usize, x: State) -> bool
 }
 
 // It leaves.
-pub(crate) fn without_blocker(blockers: &mut [u64], slot: usize, x: State) -> Outcome
+pub(crate) fn leave_blocker(blockers: &mut [u64], slot: usize, x: State) -> Outcome
     requires { ⌜ length (now blockers) ≡ 88 ⌝ }
     ensures { λ r. ⌜ ChangesBlockers (blockersWithout (blockersOf (now (blockers .entry))) slot x) r
         (now (blockers .entry)) (now (blockers .exit)) ⌝ }
@@ -62,7 +57,7 @@ pub(crate) fn without_blocker(blockers: &mut [u64], slot: usize, x: State) -> Ou
 }
 
 // It enters.
-pub(crate) fn with_blocker(blockers: &mut [u64], slot: usize, x: State) -> Outcome
+pub(crate) fn enter_blocker(blockers: &mut [u64], slot: usize, x: State) -> Outcome
     requires { ⌜ length (now blockers) ≡ 88 ⌝ }
     ensures { λ r. ⌜ ChangesBlockers (blockersWith (blockersOf (now (blockers .entry))) slot x) r
         (now (blockers .entry)) (now (blockers .exit)) ⌝ }
@@ -94,6 +89,6 @@ pub(crate) fn change_blocker(blockers: &mut [u64], slot: usize, x: State, y: Sta
     ensures { λ t. ⌜ blockersOf (now (blockers .exit)) ≡ blockersWith
         (blockersWithout (blockersOf (now (blockers .entry))) slot x .blockers) slot y .blockers ⌝ }
 {
-    let left = without_blocker(blockers, slot, x);
-    let entered = with_blocker(blockers, slot, y);
+    let left = leave_blocker(blockers, slot, x);
+    let entered = enter_blocker(blockers, slot, y);
 }

@@ -38,7 +38,6 @@ use dock::tell::Collected;
 use stages::state::has_ended;
 use vectors::vector::IoVector;
 ghost use mathlib.Core.Path.{_≡_};
-ghost use lib.ListN.{length};
 ghost use Rattle.dock.specs.Dock.{fresh, openOf, openProfileOf};
 ghost use Rattle.dock.specs.Begin.{beginOf};
 ghost use Rattle.dock.specs.Next.{nextOf, pieceOf};
@@ -137,7 +136,7 @@ pub(crate) fn begin(
     let lent = check_lent(s, b, data.len(), scratch.len());
     let free = first_free(states);
     let first = plan_asked(asked, s, b);
-    let plan = decide(lent, v.valid(data.len()), first, met, free);
+    let plan = decide(lent, v.is_valid(data.len()), first, met, free);
     admit(
         blockers,
         states,
@@ -261,7 +260,7 @@ pub(crate) fn collect(
     data_len: usize,
     scratch_len: usize,
 ) -> Collected
-    requires { ⌜ (length (now settings) ≡ 9) × (length (now states) ≡ 144) × (length (now vectors) ≡ 272) ⌝ }
+    requires { ⌜ DockWords (now settings) (now blockers) (now states) (now vectors) ⌝ }
     ensures dock { λ r. ⌜ CollectGives (collectOf
         (dockOf (now (settings .entry)) (now (blockers .entry)) (now (states .entry)) (now (vectors .entry))) slot data_len «scratch_len»)
         r (dockOf (now (settings .entry)) (now (blockers .entry)) (now (states .exit)) (now (vectors .exit))) ⌝ }

@@ -23,7 +23,7 @@ ghost use Prim.Native.Nat.{_+_, _<_};
 ghost use lib.ListN.{length, getD, set};
 ghost use lib.Seq.{sets};
 ghost use Rattle.dock.specs.Dock.{noState, firstFree};
-ghost use Rattle.dock_words.specs.View.{rangeAt, rangeWords, stageOf, stageWords, stateOf, stateWords, statesOf};
+ghost use Rattle.dock_words.specs.View.{rangeAt, rangeWords, stageOf, stageWords, stateFrom, stateWords, statesOf};
 
 // How many words a state has.
 const STATE_WORDS: usize = 18;
@@ -86,7 +86,7 @@ fn put_stage(row: &mut [u64], g: Stage)
 // The state in a row.
 fn get_state(row: &[u64]) -> State
     requires { ⌜ length (now row) ≡ 18 ⌝ }
-    ensures { λ x. ⌜ x ≡ stateOf (now (row .entry)) ⌝ }
+    ensures { λ x. ⌜ x ≡ stateFrom (now (row .entry)) ⌝ }
 {
     let phase = phase_of(row[0]);
     let answer = byte_of(row[1]);

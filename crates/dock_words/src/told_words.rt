@@ -1,8 +1,8 @@
 // What a tell does to one slot in words: bytes first, then blockers and state, so that a refusal changes nothing.
 use crate::blocker_steps::change_blocker;
+use crate::blocker_steps::leave_blocker;
 use crate::blocker_steps::may_change;
 use crate::blocker_steps::may_leave;
-use crate::blocker_steps::without_blocker;
 use crate::blocker_words::waits;
 use crate::state_words::put_state_at;
 use crate::vector_words::vector_at;
@@ -30,7 +30,7 @@ ghost use Rattle.dock.specs.Begin.{fills};
 ghost use Rattle.dock.specs.Next.{isSoundAt};
 ghost use Rattle.dock.specs.Tell.{hands, staysAt, endsAt, entersAt, steppedAt, toldAt};
 ghost use Rattle.dock.specs.Slots.{filledShare, handedShare, StepSound};
-ghost use Rattle.dock_words.specs.View.{blockersOf, statesOf, vectorsOf};
+ghost use Rattle.dock_words.specs.View.{blockersOf, vectorsOf, SlotWords, RowWords};
 ghost use Rattle.arithmetic.specs.Refusals.{isDone};
 ghost use Rattle.dock_words.specs.CallWords.{sameUnless, sameTwo, StoresStep};
 
@@ -106,8 +106,8 @@ fn stays(
     data: &[u8],
     scratch: &mut [u8],
 ) -> Outcome
-    requires { ⌜ (length (now states) ≡ 144) × (length (now vectors) ≡ 272) × (slot < 8)
-        × (isSoundAt slot y settings buffers (length (now scratch)) ≡ true) ⌝ }
+    requires { ⌜ RowWords (now states) (now vectors) slot
+        (isSoundAt slot y settings buffers (length (now scratch)) ≡ true) ⌝ }
     ensures dock { λ r. ⌜ StoresStep (staysAt (blockersOf (now (blockers .entry))) (slot * settings .bounce) y
         (getD (vectorsOf (now (vectors .entry))) slot noVector) (now («data» .entry)) (now (scratch .entry)))
         slot (now (blockers .entry)) (now (states .entry))
@@ -136,8 +136,8 @@ fn ends(
     data: &mut [u8],
     scratch: &[u8],
 ) -> Outcome
-    requires { ⌜ (length (now blockers) ≡ 88) × (length (now states) ≡ 144) × (length (now vectors) ≡ 272) × (slot < 8)
-        × (isSoundAt slot x settings buffers (length (now scratch)) ≡ true) ⌝ }
+    requires { ⌜ SlotWords (now blockers) (now states) (now vectors) slot
+        (isSoundAt slot x settings buffers (length (now scratch)) ≡ true) ⌝ }
     ensures dock { λ r. ⌜ StoresStep (endsAt (blockersOf (now (blockers .entry))) slot (slot * settings .bounce) x code y
         (getD (vectorsOf (now (vectors .entry))) slot noVector) (now («data» .entry)) (now (scratch .entry)))
         slot (now (blockers .entry)) (now (states .entry))
@@ -151,7 +151,7 @@ fn ends(
     let Outcome::Done = outcome else {
         return outcome;
     };
-    let left = without_blocker(blockers, slot, x);
+    let left = leave_blocker(blockers, slot, x);
     put_state_at(states, slot, y);
     left
 }
@@ -169,8 +169,8 @@ fn enters(
     data: &[u8],
     scratch: &mut [u8],
 ) -> Outcome
-    requires { ⌜ (length (now blockers) ≡ 88) × (length (now states) ≡ 144) × (length (now vectors) ≡ 272) × (slot < 8)
-        × (isSoundAt slot y settings buffers (length (now scratch)) ≡ true) ⌝ }
+    requires { ⌜ SlotWords (now blockers) (now states) (now vectors) slot
+        (isSoundAt slot y settings buffers (length (now scratch)) ≡ true) ⌝ }
     ensures dock { λ r. ⌜ StoresStep (entersAt (blockersOf (now (blockers .entry))) slot (slot * settings .bounce) x y
         (getD (vectorsOf (now (vectors .entry))) slot noVector) (now («data» .entry)) (now (scratch .entry)))
         slot (now (blockers .entry)) (now (states .entry))
@@ -190,7 +190,7 @@ fn enters(
 }
 
 // The job x after its step; b, xs, vs are the words of blockers, states and vectors, s and l settings and buffers.
-fn step(
+fn take_step(
     b: &mut [u64],
     xs: &mut [u64],
     vs: &[u64],
@@ -203,8 +203,8 @@ fn step(
     data: &mut [u8],
     scratch: &mut [u8],
 ) -> Outcome
-    requires { ⌜ (length (now b) ≡ 88) × (length (now xs) ≡ 144) × (length (now vs) ≡ 272) × (slot < 8)
-        × StepSound slot s l x (length (now scratch)) step ⌝ }
+    requires { ⌜ SlotWords (now b) (now xs) (now vs) slot
+        (StepSound slot s l x (length (now scratch)) step) ⌝ }
     ensures dock { λ r. ⌜ StoresStep (steppedAt (blockersOf (now (b .entry))) slot (slot * s .bounce) x code
         (getD (vectorsOf (now (vs .entry))) slot noVector) (now («data» .entry)) (now (scratch .entry)) step)
         slot (now (b .entry)) (now (xs .entry))
@@ -231,8 +231,8 @@ pub(crate) fn tell_slot(
     data: &mut [u8],
     scratch: &mut [u8],
 ) -> Outcome
-    requires { ⌜ (length (now b) ≡ 88) × (length (now xs) ≡ 144) × (length (now vs) ≡ 272) × (slot < 8)
-        × (lentFits l (length (now «data»)) (length (now scratch)) ≡ true) ⌝ }
+    requires { ⌜ SlotWords (now b) (now xs) (now vs) slot
+        (lentFits l (length (now «data»)) (length (now scratch)) ≡ true) ⌝ }
     ensures dock { λ r. ⌜ StoresStep (toldAt (blockersOf (now (b .entry))) slot s l x
         (getD (vectorsOf (now (vs .entry))) slot noVector) code (now («data» .entry)) (now (scratch .entry)))
         slot (now (b .entry)) (now (xs .entry))
@@ -248,6 +248,6 @@ pub(crate) fn tell_slot(
     let answer = interpret_code(x, s, code);
     match answer {
         Answered::Refused(r) => Outcome::Refused(r),
-        Answered::Leads(t) => { step(b, xs, vs, slot, s, l, x, code, t, data, scratch) }
+        Answered::Leads(t) => { take_step(b, xs, vs, slot, s, l, x, code, t, data, scratch) }
     }
 }

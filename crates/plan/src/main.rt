@@ -83,7 +83,7 @@ fn reads(s: Span) {
 
 fn write(at: u64, length: u64, aligned: bool, align: Alignments) {
     job(b"write", length, at);
-    match arithmetic::padding::direct_or_padded(StoreOffset(at), length, aligned, align) {
+    match arithmetic::padding::plan_transfer(StoreOffset(at), length, aligned, align) {
         Transfer::Direct(r) => {
             text(b" write ");
             range(r);

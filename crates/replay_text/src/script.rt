@@ -185,7 +185,7 @@ fn digit(b: u8) -> u64 {
 }
 
 // The number x with one digit more; Bad where it does not fit 64 bits.
-fn longer(x: u64, b: u8, next: usize) -> Number {
+fn add_digit(x: u64, b: u8, next: usize) -> Number {
     let d = digit(b);
     if 1844674407370955161 < x {
         return Number::Bad;
@@ -204,7 +204,7 @@ fn number_at(line: &[u8], from: usize) -> Number {
         if !is_digit(line[i]) {
             break;
         }
-        let Number::Is(y, _) = longer(x, line[i], i) else {
+        let Number::Is(y, _) = add_digit(x, line[i], i) else {
             return Number::Bad;
         };
         x = y;
@@ -260,7 +260,7 @@ fn takes(verb: Verb, count: usize) -> bool {
 }
 
 // Whether a number is below a bound, and the flaw that it has where it is not.
-fn below(x: u64, bound: u64, flaw: Flaw) -> Verdict {
+fn check_below(x: u64, bound: u64, flaw: Flaw) -> Verdict {
     if x < bound {
         return Verdict::Good;
     }
@@ -268,12 +268,12 @@ fn below(x: u64, bound: u64, flaw: Flaw) -> Verdict {
 }
 
 // Whether bytes and codes are at most 255, and no more is to be shown than fits a line.
-fn bounds(e: Event) -> Verdict {
+fn check_bounds(e: Event) -> Verdict {
     let verb = e.verb;
     match verb {
-        Verb::Store | Verb::Data => below(e.number(2), 256, Flaw::Byte),
-        Verb::Carry | Verb::Tell => below(e.number(1), 256, Flaw::Code),
-        Verb::Show => below(e.number(1), MOST_SHOWN + 1, Flaw::Long),
+        Verb::Store | Verb::Data => check_below(e.number(2), 256, Flaw::Byte),
+        Verb::Carry | Verb::Tell => check_below(e.number(1), 256, Flaw::Code),
+        Verb::Show => check_below(e.number(1), MOST_SHOWN + 1, Flaw::Long),
         _ => Verdict::Good,
     }
 }
@@ -301,7 +301,7 @@ fn judge(e: Event, good: bool) -> Verdict {
     if !takes(verb, count) {
         return Verdict::Bad(Flaw::Count(verb));
     }
-    bounds(e)
+    check_bounds(e)
 }
 
 // The event of a line, and what is wrong with it.

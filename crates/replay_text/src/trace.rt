@@ -166,7 +166,7 @@ fn slots(dock: Dock, marks: &mut [u64], data: &[u8], scratch: &[u8]) {
     }
 }
 
-fn wide(b: u8) -> u64
+fn widen(b: u8) -> u64
     ensures { λ r. ⌜ r < 256 ⌝ }
 {
     b as u64
@@ -177,7 +177,7 @@ fn checksum(bytes: &[u8]) -> u64 {
     let mut sum = 0u64;
     let mut i = 0usize;
     while i < bytes.len() {
-        sum = (sum % 65536) + wide(bytes[i]);
+        sum = (sum % 65536) + widen(bytes[i]);
         i += 1;
     }
     sum % 65536
@@ -202,7 +202,7 @@ pub fn bytes(store: &[u8], at: u64, n: u64) {
             return;
         }
         text(b" ");
-        io::print_hex(STDOUT_FILENO, wide(store[i]), 2);
+        io::print_hex(STDOUT_FILENO, widen(store[i]), 2);
         i += 1;
         left -= 1;
     }

@@ -55,13 +55,13 @@ use Rattle.stages.specs.declared.plan.Plan.the-variants.{Done, Started, 
 use Rattle.stages.specs.declared.told.Step.{Step}
 use Rattle.stages.specs.declared.told.Step.the-variants.{Stays, Ends, Enters}
 
-never : {A : Type 0} → _≡_ {A = Bool} false true → A
+pub never : {A : Type 0} → _≡_ {A = Bool} false true → A
 never e = let z : _≡_ {A = ℕ} 0 1 = cc in absurd (omega arith)
 
 -- ---- where a stage's ranges lie
 
 -- the asked range lies in the request's, the reads at its ends
-pub record OnStore (g : Stage) : Type 0 where
+pub record StageOnStore (g : Stage) : Type 0 where
   pub some : g .request .start .0 < g .request .end .0
   pub fits : g .request .end .0 < 2 ^ 64
   pub asked-some : g .asked .start .0 < g .asked .end .0
@@ -72,7 +72,7 @@ pub record OnStore (g : Stage) : Type 0 where
   pub second-starts : 0 < sizeOf (g .second) → g .request .start .0 ≤ g .second .start .0
   pub second-ends : 0 < sizeOf (g .second) → g .second .end .0 ≡ g .request .end .0
 
-direct-on-store : (r : Range) → 0 < sizeOf r → r .end .0 < 2 ^ 64 → OnStore (directStage r)
+direct-on-store : (r : Range) → 0 < sizeOf r → r .end .0 < 2 ^ 64 → StageOnStore (directStage r)
 unfolding directStage
 direct-on-store r p f = record {
   some = omega arith;
@@ -149,7 +149,7 @@ read-at : {a : Alignments} {o n : ℕ} {x : Span} → Spans a o n x → Reading 
 read-at {x = x} k = reading x (k .end) (k .prefix-le) (k .suffix-le)
 
 padded-on-store : {a : Alignments} {n : ℕ} (x : Span) (r : Range) → Spans a (r .start .0) n x → sizeOf r ≡ n → 0 < n →
-    OnStore (paddedStage x r)
+    StageOnStore (paddedStage x r)
 unfolding paddedStage
 padded-on-store x r k e p =
     let d = read-at k in
@@ -205,7 +205,7 @@ pub record Opens (s : Settings) (j : Job) (w : Range) (x : State) : Type 0 where
   pub answer : x .answer ≡ 0
   pub job : x .job ≡ j
   pub range : x .range ≡ w
-  pub on-store : OnStore (x .stage)
+  pub on-store : StageOnStore (x .stage)
 
 opens-direct : (s : Settings) (j : Job) (w m : Range) (c : Course) (r : Range) (ph : Phase)
     → isPending ph ≡ true → (usesBounce ph ≡ true → sizeOf r ≤ s .bounce) → 0 < sizeOf r → r .end .0 < 2 ^ 64

@@ -14,7 +14,7 @@ use arithmetic::offsets::is_multiple;
 use arithmetic::padding::Reads;
 use arithmetic::padding::Span;
 use arithmetic::padding::Transfer;
-use arithmetic::padding::direct_or_padded;
+use arithmetic::padding::plan_transfer;
 use arithmetic::refusals::Refusal;
 use arithmetic::settings::Settings;
 use arithmetic::zeroes::DiscardCut;
@@ -186,7 +186,7 @@ fn plan_vector(
     if n == 0 {
         return Plan::Done;
     }
-    let transfer = direct_or_padded(offset, n, aligned, settings.align);
+    let transfer = plan_transfer(offset, n, aligned, settings.align);
     if let Transfer::Direct(r) = transfer {
         return start(job, r, nowhere(), Course::Last, direct_stage(r), direct);
     }
@@ -218,7 +218,7 @@ pub fn plan_write(settings: Settings, offset: StoreOffset, n: u64, aligned: bool
 
 impl State {
     // The job at its next stage. Phase and course are enums, and a store to one is not covered: they are set as the state is made anew.
-    fn at_stage(mut self, course: Course, stage: Stage, phase: Phase) -> State
+    fn set_stage(mut self, course: Course, stage: Stage, phase: Phase) -> State
         ensures { λ y. ⌜ y ≡ stateOf (self .job) (self .range) (self .middle) course stage phase ⌝ }
     {
         self.answer = 0;
@@ -237,12 +237,12 @@ impl State {
     {
         let align = settings.align;
         let n = size(part);
-        let transfer = direct_or_padded(part.start, n, is_multiple(n, align.length_align()), align);
+        let transfer = plan_transfer(part.start, n, is_multiple(n, align.length_align()), align);
         if let Transfer::Direct(_) = transfer {
             if settings.bounce < n {
                 return Plan::Refused(Refusal::TooLong);
             }
-            return Plan::Started(self.at_stage(course, direct_stage(part), Phase::BouncedWrite));
+            return Plan::Started(self.set_stage(course, direct_stage(part), Phase::BouncedWrite));
         }
         let Transfer::Bounced(s) = transfer else {
             return Plan::Refused(transfer.refusal());
@@ -251,7 +251,7 @@ impl State {
             return Plan::Refused(Refusal::TooLong);
         }
         let stage = padded_stage(s, part);
-        Plan::Started(self.at_stage(course, stage, first_phase(stage)))
+        Plan::Started(self.set_stage(course, stage, first_phase(stage)))
     }
 }
 

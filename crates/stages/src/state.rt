@@ -196,7 +196,7 @@ pub fn uses_bounce(p: Phase) -> bool
 }
 
 // Whether a + b is at most n.
-fn both_within(a: u64, b: u64, n: u64) -> bool
+fn is_sum_within(a: u64, b: u64, n: u64) -> bool
     ensures { λ t. ⌜ t ≡ leb (a + b) n ⌝ }
 {
     if n < a {
@@ -225,9 +225,9 @@ fn lies_in(g: Stage, n: u64) -> bool
 {
     let head = g.head;
     let tail = g.second_at();
-    let asked = both_within(head.0 as u64, size(g.asked), n);
+    let asked = is_sum_within(head.0 as u64, size(g.asked), n);
     let first = size(g.first) <= n;
-    let last = both_within(tail.0 as u64, size(g.second), n);
+    let last = is_sum_within(tail.0 as u64, size(g.second), n);
     asked & (size(g.request) <= n) & first & last
 }
 

@@ -24,7 +24,7 @@ pub enum Step {
 
 impl State {
     // The job in another phase. A store to a field that is an enum is not covered: the state is made anew of the other fields.
-    fn in_phase(self, phase: Phase) -> State
+    fn set_phase(self, phase: Phase) -> State
         ensures { λ y. ⌜ y ≡ inPhase phase self ⌝ }
     {
         State { phase, ..self }
@@ -35,7 +35,7 @@ impl State {
         ensures { λ y. ⌜ y ≡ endedWith answer self ⌝ }
     {
         self.answer = answer;
-        self.in_phase(Phase::Ended)
+        self.set_phase(Phase::Ended)
     }
 
     // The job ends: a failure ends it with its number.
@@ -138,8 +138,8 @@ impl State {
     {
         let phase = self.phase;
         match phase {
-            Phase::FirstRead => Step::Stays(self.in_phase(self.pass_first_read())),
-            Phase::SecondRead => Step::Stays(self.in_phase(Phase::BouncedWrite)),
+            Phase::FirstRead => Step::Stays(self.set_phase(self.pass_first_read())),
+            Phase::SecondRead => Step::Stays(self.set_phase(Phase::BouncedWrite)),
             Phase::BouncedWrite | Phase::ZeroRequest => self.end_stage(settings),
             Phase::Free
             | Phase::Ended

@@ -30,10 +30,11 @@ use Rattle.stages.specs.declared.state.Course.the-variants.{Last, Middle, Head,
 use Rattle.stages.specs.declared.state.State.{State}
 use Rattle.dock.specs.Dock.{noState, noVector, stateAt, vectorAt, isReadJob, meetsOf, meetsAt, overlapsOf, firstFree}
 use Rattle.dock.specs.Begin.{isWriteJob, isBouncedWrite, sourceOf, sourceFits, mergedAt, filled}
-use Rattle.dock.specs.SlotLaws.{lowest-free}
+use Rattle.dock.specs.SlotLaws.{lowest-free, writes-use}
 use Rattle.dock.specs.declared.dock.Dock.{Dock}
 use Rattle.dock.specs.declared.begin.Asked.{Asked}
-use Rattle.theorem_lists.specs.Courses.{isZeroJob, bounces, isRegular, suited, never}
+use Rattle.stages.specs.Laws.{never}
+use Rattle.theorem_lists.specs.Courses.{isZeroJob, bounces, isRegular, suited}
 use Rattle.theorem_lists.specs.Calls.{Ready, free-idle, write-vector, copied, admitted, free-there, admit-held}
 use Rattle.theorem_lists.specs.MadeLaws.{data-long}
 use Rattle.theorem_lists.specs.Store.{Bytes}
@@ -93,18 +94,6 @@ module _ (n p : ℕ) (x : State) (v : IoVector) (memory scratch : List ℕ) (fit
       go true false e u = simp u
       go false w e u = never e
 
-writes-bounce : (ph : Phase) → isBouncedWrite ph ≡ true → usesBounce ph ≡ true
-writes-bounce Free e = e
-writes-bounce Ended e = e
-writes-bounce DirectRead e = e
-writes-bounce BouncedRead e = refl
-writes-bounce FirstRead e = refl
-writes-bounce SecondRead e = refl
-writes-bounce BouncedWrite e = refl
-writes-bounce DirectWrite e = e
-writes-bounce ZeroRequest e = e
-writes-bounce DiscardRequest e = e
-
 -- a fill of slot p leaves the other shares, and the scratch's length
 module _ (n p : ℕ) (h : p < 8) (x : State) (v : IoVector) (memory scratch : List ℕ) (big : 8 * n ≤ length scratch) (inside : usesBounce (x .phase) ≡ true → x .stage .head .0 + sizeOf (x .stage .asked) ≤ n)
     (fits : isWriteJob (x .job) ≡ true → copies memory v (sizeOf (x .stage .asked)) ≡ true) where
@@ -115,7 +104,7 @@ module _ (n p : ℕ) (h : p < 8) (x : State) (v : IoVector) (memory scratch : Li
   src-long = source-long (x .job) v (sizeOf (x .stage .asked)) memory fits
 
   lies : isBouncedWrite (x .phase) ≡ true → x .stage .head .0 + length src ≤ n
-  lies e = omega (arith, inside (writes-bounce (x .phase) e), src-long)
+  lies e = omega (arith, inside (writes-use (x .phase) e), src-long)
 
   pub fill-length : length (filled (p * n) x v memory scratch .scratch) ≡ length scratch
   fill-length = go (isBouncedWrite (x .phase)) refl

@@ -32,7 +32,8 @@ use Rattle.dock.specs.Next.{nextOf, inData, inScratch, pieceBy, pieceOf, partOf
 use Rattle.dock.specs.declared.next.Due.the-variants.{Waiting, Make, Answer, Refused as NotDue}
 use Rattle.dock.specs.declared.next.Piece.{Piece}
 use Rattle.dock.specs.declared.next.Piece.the-variants.{InData, InScratch}
-use Rattle.theorem_lists.specs.Courses.{hasVector, never}
+use Rattle.stages.specs.Laws.{never}
+use Rattle.theorem_lists.specs.Courses.{hasVector}
 use Rattle.theorem_lists.specs.MadeLaws.{sound-held}
 use Rattle.theorem_lists.specs.Store.{Bytes, piecesFrom, gathered, landed}
 use Rattle.theorem_lists.specs.PlainStore.{Did, Tracked, Plain, putJob, putBytes, withSteps}

@@ -29,7 +29,7 @@ use Rattle.arithmetic.specs.declared.zeroes.ZeroCut.the-variants.{Nothing as No
 use Rattle.arithmetic.specs.declared.zeroes.DiscardCut.{DiscardCut}
 use Rattle.arithmetic.specs.declared.zeroes.DiscardCut.the-variants.{Nothing as NoDiscard, Middle as DiscardMiddle, Refused as DiscardRefused}
 use Rattle.stages.specs.Stages.{sizeOf, directStage, firstOf, secondOf, paddedStage, firstPhase, asked, bouncedPhase, vectorBy, readPlan, writePlan, zeroesBy, zeroesPlan, zeroJob, zeroBy, zeroPlan, discardBy, discardPlan, secondAt}
-use Rattle.stages.specs.Laws.{Starts, starts-within, starts-some}
+use Rattle.stages.specs.Laws.{Starts, starts-within, starts-some, never}
 use Rattle.stages.specs.Transfers.{splits}
 use Rattle.stages.specs.declared.state.Job.{Job}
 use Rattle.stages.specs.declared.state.Job.the-variants.{Read, Write, Zeroes, AllocatedZeroes, Discard}
@@ -39,7 +39,7 @@ use Rattle.stages.specs.declared.state.Course.{Course}
 use Rattle.stages.specs.declared.state.Course.the-variants.{Last, Middle, Head, Chunks}
 use Rattle.stages.specs.declared.state.Stage.{Stage}
 use Rattle.stages.specs.declared.state.State.{State}
-use Rattle.theorem_lists.specs.Courses.{isDiscardJob, never}
+use Rattle.theorem_lists.specs.Courses.{isDiscardJob}
 
 -- ---- what is read of a padded range
 

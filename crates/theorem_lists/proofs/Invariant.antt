@@ -15,7 +15,7 @@ use Rattle.arithmetic.specs.declared.settings.Settings.{Settings}
 use Rattle.vectors.specs.Vectors.{segmentsOf, bytesOf}
 use Rattle.vectors.specs.declared.vector.IoVector.{IoVector}
 use Rattle.stages.specs.Stages.{sizeOf, isPending, isBlocking, usesBounce, secondAt, liesIn, isSound}
-use Rattle.stages.specs.Laws.{OnStore}
+use Rattle.stages.specs.Laws.{StageOnStore}
 use Rattle.stages.specs.declared.state.Job.{Job}
 use Rattle.stages.specs.declared.state.Job.the-variants.{Read, Write, Zeroes, AllocatedZeroes, Discard}
 use Rattle.stages.specs.declared.state.Phase.{Phase}
@@ -127,7 +127,7 @@ owed-frame AllocatedZeroes r v j memory memory' e o = o
 owed-frame Discard r v j memory memory' e o = o
 
 module _ (t : Settings) (s s' : Bytes) (memory memory' : List ℕ) (sh sh' : ℕ → ℕ) (x : State) (v : IoVector) (car : Option ℕ) (wait wait' : Bool) (j : Tracked)
-    (sound : isSound (t .bounce) x ≡ true) (on-store : isPending (x .phase) ≡ true → OnStore (x .stage)) (regular : isRegular x ≡ true)
+    (sound : isSound (t .bounce) x ≡ true) (on-store : isPending (x .phase) ≡ true → StageOnStore (x .stage)) (regular : isRegular x ≡ true)
     (data-same : hasVector (x .job) ≡ true → bytesOf memory' (segmentsOf v) ≡ bytesOf memory (segmentsOf v))
     (share-same : (i : ℕ) → i < t .bounce → sh' i ≡ sh i)
     (store-same : wait ≡ false → x .stage .strong ≡ true → isBlocking (x .phase) ≡ true → (i : ℕ) → i < sizeOf (x .stage .request) → s' (x .stage .request .start .0 + i) ≡ s (x .stage .request .start .0 + i))
@@ -142,7 +142,7 @@ module _ (t : Settings) (s s' : Bytes) (memory memory' : List ℕ) (sh sh' : ℕ
       go false true e f = sym (store-same e f p i h)
       go false false e f = absurd (b f)
 
-  first-within : OnStore (x .stage) → (i : ℕ) → i < sizeOf (x .stage .first) → i < sizeOf (x .stage .request)
+  first-within : StageOnStore (x .stage) → (i : ℕ) → i < sizeOf (x .stage .first) → i < sizeOf (x .stage .request)
   first-within k i h = omega (arith, k .first-starts (omega arith), k .first-ends (omega arith))
 
   by-phase : (ph : Phase) → x .phase ≡ ph → Fact ph s memory sh x v car j → Fact ph s' memory' sh' x v car j

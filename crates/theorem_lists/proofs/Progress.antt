@@ -22,6 +22,7 @@ use Rattle.arithmetic.specs.declared.settings.Settings.{Settings}
 use Rattle.arithmetic.specs.declared.padding.Transfer.{Transfer}
 use Rattle.arithmetic.specs.declared.padding.Transfer.the-variants.{Direct, Bounced, Refused as NoTransfer}
 use Rattle.arithmetic.specs.declared.zeroes.Chunk.the-variants.{Nothing as NoChunk, Next, Refused as ChunkRefused}
+use Rattle.stages.specs.Laws.{never}
 use Rattle.stages.specs.Stages.{sizeOf, directStage, paddedStage, firstPhase, stateOf, zeroesBy, zeroesPlan, endedWith, laterStage, zeroesNext, chunkBy, chunkNext, tailNext, headNext, stageDone}
 use Rattle.stages.specs.declared.state.Job.{Job}
 use Rattle.stages.specs.declared.state.Phase.the-variants.{BouncedWrite}
@@ -32,7 +33,6 @@ use Rattle.stages.specs.declared.plan.Plan.{Plan}
 use Rattle.stages.specs.declared.plan.Plan.the-variants.{Done, Started, Refused}
 use Rattle.stages.specs.declared.told.Step.{Step}
 use Rattle.stages.specs.declared.told.Step.the-variants.{Stays, Ends, Enters}
-use Rattle.theorem_lists.specs.Courses.{never}
 use Rattle.theorem_lists.specs.PlainStore.{Did}
 use Rattle.theorem_lists.specs.Histories.{putBy}
 use Rattle.theorem_lists.proofs.Geometry.{Zone, Shaped, zeroes-shaped}

@@ -22,7 +22,8 @@ use Rattle.stages.specs.declared.state.Phase.the-variants.{Free, Ended, DirectR
 use Rattle.stages.specs.declared.state.State.{State}
 use Rattle.dock.specs.Dock.{noState, noVector, vacant, fresh, openOf, stateAt, vectorAt, lentFits, isReadJob}
 use Rattle.dock.specs.Begin.{withJob}
-use Rattle.theorem_lists.specs.Courses.{hasVector, never}
+use Rattle.stages.specs.Laws.{never}
+use Rattle.theorem_lists.specs.Courses.{hasVector}
 use Rattle.theorem_lists.specs.Held.{Held}
 use Rattle.theorem_lists.specs.Keeping.{fresh-held}
 use Rattle.theorem_lists.specs.Calls.{freed-held}

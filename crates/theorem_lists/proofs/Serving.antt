@@ -21,10 +21,10 @@ use Rattle.vectors.specs.SegmentLaws.{valid}
 use Rattle.vectors.specs.ByteLaws.{scatter-length, scatter-others, gather-scatter}
 use Rattle.vectors.specs.OverlapLaws.{overlap-sym}
 use Rattle.vectors.specs.declared.vector.IoVector.{IoVector}
-use Rattle.blockers.specs.Blockers.{blockerAt, overlaps, waitsOf}
+use Rattle.blockers.specs.Blockers.{blockerAt, overlaps, waitsOf, strength}
 use Rattle.blockers.specs.Laws.{free-apart}
 use Rattle.stages.specs.Stages.{sizeOf, isPending, isBlocking, usesBounce, zeroKind, request, requestBy, requestOf, secondAt}
-use Rattle.stages.specs.Laws.{OnStore}
+use Rattle.stages.specs.Laws.{StageOnStore, never}
 use Rattle.stages.specs.declared.state.Job.{Job}
 use Rattle.stages.specs.declared.state.Job.the-variants.{Read, Write, Zeroes, AllocatedZeroes, Discard}
 use Rattle.stages.specs.declared.state.Kind.the-variants.{Read as KRead}
@@ -33,16 +33,16 @@ use Rattle.stages.specs.declared.state.Phase.the-variants.{Free, Ended, DirectR
 use Rattle.stages.specs.declared.state.Request.{Request}
 use Rattle.stages.specs.declared.state.State.{State}
 use Rattle.dock.specs.Dock.{stateAt, vectorAt, isReadJob}
-use Rattle.dock.specs.Begin.{isWriteJob, strength}
+use Rattle.dock.specs.Begin.{isWriteJob}
 use Rattle.dock.specs.Next.{partOf}
 use Rattle.dock.specs.declared.next.Piece.{Piece}
 use Rattle.dock.specs.declared.next.Piece.the-variants.{InScratch}
-use Rattle.theorem_lists.specs.Courses.{isLast, hasVector, suits, isRegular, suited, never}
+use Rattle.theorem_lists.specs.Courses.{isLast, hasVector, suits, isRegular, suited}
 use Rattle.theorem_lists.specs.Held.{SlotOf}
 use Rattle.theorem_lists.specs.Calls.{read-no-write, pending-taken, read-vector, write-vector, direct-reads}
 use Rattle.theorem_lists.specs.MadeLaws.{data-long}
-use Rattle.theorem_lists.specs.Store.{Bytes, Choice, Buffered, inRange, changed, becomesNew, window, laidAt, piecesFrom, gathered, landed, yields, stored, fetched}
-use Rattle.theorem_lists.specs.PlainStore.{Did, yielded, wrote, zeroed, discarded, Tracked, Plain, newBytes, standing, withStep, noStep, stepBy, carriedOut, carriedBy, Stepped, afterStep, putJob, putBytes, withSteps}
+use Rattle.theorem_lists.specs.Store.{Bytes, Choice, Buffered, inRange, changed, becomesNew, window, laidAt, piecesFrom, gathered, landed, yields, storeAfter, fetched}
+use Rattle.theorem_lists.specs.PlainStore.{Did, yielded, wrote, zeroed, discarded, Tracked, Plain, newBytes, standing, withStep, noStep, stepBy, carriedOut, carriedBy, PlainStepped, afterStep, putJob, putBytes, withSteps}
 use Rattle.theorem_lists.specs.Histories.{World, carriesOut, puts, putBy, Among, here, OwedBy, acted}
 use Rattle.theorem_lists.proofs.Lists.{window-length, window-at, share-room, share-put-length, share-put-other, share-put-off, share-put-on}
 use Rattle.theorem_lists.proofs.Geometry.{Beside, ReadBy, AsAsked}
@@ -130,7 +130,7 @@ put-more d ds y e = go (puts d y)
     go true = refl
     go false = e
 
-stored-zero : (j : Job) (r : Range) (code : ℕ) (c : Choice) (l : List ℕ) (s : Bytes) → stored (zeroKind j) r code c l s ≡ changed s r (becomesNew code c) (λ x. 0)
+stored-zero : (j : Job) (r : Range) (code : ℕ) (c : Choice) (l : List ℕ) (s : Bytes) → storeAfter (zeroKind j) r code c l s ≡ changed s r (becomesNew code c) (λ x. 0)
 stored-zero Read r code c l s = refl
 stored-zero Write r code c l s = refl
 stored-zero Zeroes r code c l s = refl
@@ -151,7 +151,7 @@ carried-is : (m : Plain) (p code : ℕ) (c : Choice) (t : Settings) (j : Tracked
 unfolding carriedOut
 carried-is m p code c t j x ph is st stands e =
     ap (λ (o : Option Tracked). carriedBy o m p code c) is
-    ∙ ap (λ (r : Stepped). afterStep m p r)
+    ∙ ap (λ (r : PlainStepped). afterStep m p r)
     (ap (λ (u : Settings). stepBy (standing u (j .first) (j .codes) .phase) code c (standing u (j .first) (j .codes)) (m .bytes) j) st
     ∙ ap (λ (y : State). stepBy (y .phase) code c y (m .bytes) j) stands ∙ ap (λ (k : Phase). stepBy k code c x (m .bytes) j) e)
 
@@ -176,7 +176,7 @@ module _ (w : World) (m : Plain) (I : Inv w m) (p : ℕ) (q : Request) (O : Out 
   T : Tracks w m p
   T = I .slots p (O .slot) .tracks taken
 
-  place : OnStore (x .stage)
+  place : StageOnStore (x .stage)
   place = S .on-store (O .pending)
 
   plain-is : (ph : Phase) → x .phase ≡ ph → carriedBy (m .jobs p) m p code c
@@ -499,7 +499,7 @@ module _ (w : World) (m : Plain) (I : Inv w m) (p : ℕ) (q : Request) (O : Out 
       world : carriesOut w p code c q ≡ writing (changed (w .store) r which (λ y. 0))
       world =
           ap (λ (k : Request). carriesOut w p code c k) (request-is ZeroRequest e)
-          ∙ ap (λ (b : Buffered). acted w p code (stored (zeroKind (x .job)) (rangeOf (r .start .0) (r .start .0 + sizeOf r)) code c (gathered (piecesFrom (w .dock) p (length (w .memory)) (length (w .scratch)) 0 0) (w .memory) (w .scratch)) (w .store)) (b .memory) (b .scratch))
+          ∙ ap (λ (b : Buffered). acted w p code (storeAfter (zeroKind (x .job)) (rangeOf (r .start .0) (r .start .0 + sizeOf r)) code c (gathered (piecesFrom (w .dock) p (length (w .memory)) (length (w .scratch)) 0 0) (w .memory) (w .scratch)) (w .store)) (b .memory) (b .scratch))
           (fetched-zero (x .job) (request (zeroKind (x .job)) r 0) (piecesFrom (w .dock) p (length (w .memory)) (length (w .scratch)) 0 0) code c (w .store) (w .memory) (w .scratch))
           ∙ ap (λ (s : Bytes). writing s)
           (stored-zero (x .job) (rangeOf (r .start .0) (r .start .0 + sizeOf r)) code c (gathered (piecesFrom (w .dock) p (length (w .memory)) (length (w .scratch)) 0 0) (w .memory) (w .scratch)) (w .store)

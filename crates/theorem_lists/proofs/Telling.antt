@@ -28,7 +28,7 @@ use Rattle.vectors.specs.OverlapLaws.{overlap-sym, or-cases}
 use Rattle.vectors.specs.declared.vector.IoVector.{IoVector}
 use Rattle.blockers.specs.Blockers.{waitsOf}
 use Rattle.stages.specs.Stages.{sizeOf, isPending, isBlocking, usesBounce, inPhase, endedWith, laterStage, zeroesPlan, chunkBy, chunkNext, tailNext, headNext, stageDone, doneNext, unsupportedNext, toldOf}
-use Rattle.stages.specs.Laws.{OnStore, Opens, Continues, Finishes, told-stays, told-ends, told-enters}
+use Rattle.stages.specs.Laws.{StageOnStore, Opens, Continues, Finishes, told-stays, told-ends, told-enters, never}
 use Rattle.stages.specs.declared.state.Job.{Job}
 use Rattle.stages.specs.declared.state.Job.the-variants.{Read, Write, Zeroes, AllocatedZeroes, Discard}
 use Rattle.stages.specs.declared.state.Phase.{Phase}
@@ -43,13 +43,13 @@ use Rattle.stages.specs.declared.told.Step.the-variants.{Stays, Ends, Enters}
 use Rattle.dock.specs.Dock.{noState, noVector, vacant, stateAt, vectorAt, lentFits, isReadJob}
 use Rattle.dock.specs.Begin.{isWriteJob, sourceOf, filled}
 use Rattle.dock.specs.Tell.{blockersWithout, copiedAt, isBouncedRead, handed}
-use Rattle.theorem_lists.specs.Courses.{isZeroJob, isDiscardJob, hasVector, isLast, isMiddle, bounces, suits, isRegular, suited, never, enters-regular}
+use Rattle.theorem_lists.specs.Courses.{isZeroJob, isDiscardJob, hasVector, isLast, isMiddle, bounces, suits, isRegular, suited, enters-regular}
 use Rattle.theorem_lists.specs.Held.{Held, SlotOf}
 use Rattle.theorem_lists.specs.Calls.{read-no-write, write-vector, read-vector, direct-reads, bounced-reads, pending-taken, copied, told-held, entered, after}
 use Rattle.theorem_lists.specs.Keeping.{Changes, leave-changes}
 use Rattle.theorem_lists.specs.MadeLaws.{data-long}
 use Rattle.theorem_lists.specs.Store.{Bytes}
-use Rattle.theorem_lists.specs.PlainStore.{Did, yielded, wrote, zeroed, Tracked, Plain, newBytes, standing, stateOf, putJob, withCode}
+use Rattle.theorem_lists.specs.PlainStore.{Did, yielded, wrote, zeroed, Tracked, Plain, newBytes, standing, stateOfStep, putJob, withCode}
 use Rattle.theorem_lists.specs.Histories.{World, Among, here, later, puts, putBy, OwedBy, answered}
 use Rattle.theorem_lists.proofs.Lists.{list-ext, share-room, share-put-off}
 use Rattle.theorem_lists.proofs.Geometry.{Beside, AsAsked, Zone}
@@ -182,7 +182,7 @@ module _ (w : World) (m : Plain) (I : Inv w m) (p : ℕ) (h : p < 8) (pending : 
   pub T : Tracks w m p
   T = I .slots p h .tracks taken
 
-  place : OnStore (x .stage)
+  place : StageOnStore (x .stage)
   place = S .on-store pending
 
   long : length (w .memory) ≡ w .dock .buffers .«data» .length
@@ -448,8 +448,8 @@ module _ (w : World) (m : Plain) (I : Inv w m) (p : ℕ) (h : p < 8) (pending : 
   abbrev toldPlain : Plain
   toldPlain = putJob m p (some job')
 
-  stands : (t : Step) → toldOf (w .dock .settings) x code ≡ t → standing (w .dock .settings) (T .j .first) (code ∷ T .j .codes) ≡ stateOf t
-  stands t e = ap (λ (y : State). stateOf (toldOf (w .dock .settings) y code)) (T .flight .stands) ∙ ap stateOf e
+  stands : (t : Step) → toldOf (w .dock .settings) x code ≡ t → standing (w .dock .settings) (T .j .first) (code ∷ T .j .codes) ≡ stateOfStep t
+  stands t e = ap (λ (y : State). stateOfStep (toldOf (w .dock .settings) y code)) (T .flight .stands) ∙ ap stateOfStep e
 
   state-other : (y : State) (q : ℕ) → q ≢ p → getD (set (w .dock .states) p y) q noState ≡ stateAt (w .dock) q
   state-other y q n = getD-set-other (w .dock .states) p q y noState n

@@ -14,7 +14,7 @@ use Rattle.arithmetic.specs.Offsets.{rangeOf}
 use Rattle.arithmetic.specs.Settings.{settingsFit}
 use Rattle.arithmetic.specs.Zeroes.{zeroCutOf}
 use Rattle.arithmetic.specs.declared.refusals.Refusal.{Refusal}
-use Rattle.arithmetic.specs.declared.refusals.Refusal.the-variants.{Segment, Overlap, Full, Buffer, Slot, NoAnswer}
+use Rattle.arithmetic.specs.declared.refusals.Refusal.the-variants.{Buffer, Slot, NoAnswer}
 use Rattle.arithmetic.specs.declared.refusals.Outcome.{Outcome}
 use Rattle.arithmetic.specs.declared.refusals.Outcome.the-variants.{Done, Refused}
 use Rattle.arithmetic.specs.declared.offsets.StoreOffset.{StoreOffset}
@@ -22,10 +22,10 @@ use Rattle.arithmetic.specs.declared.offsets.Range.{Range}
 use Rattle.arithmetic.specs.declared.settings.Settings.{Settings}
 use Rattle.arithmetic.specs.declared.zeroes.ZeroCut.{ZeroCut}
 use Rattle.arithmetic.specs.declared.zeroes.ZeroCut.the-variants.{Nothing as NoCut, Whole, Split, Refused as CutRefused}
-use Rattle.vectors.specs.Vectors.{segmentsOf, bytesOf, isValid, vectorOf, alignmentOf}
+use Rattle.vectors.specs.Vectors.{isValid, vectorOf, alignmentOf}
 use Rattle.vectors.specs.declared.vector.IoVector.{IoVector}
 use Rattle.stages.specs.Stages.{asked, isFree, hasEnded, isPending, readPlan, writePlan, zeroJob, zeroBy, zeroPlan, discardPlan, zeroesPlan, toldOf}
-use Rattle.stages.specs.Laws.{Starts, read-opens, write-opens, zero-opens, discard-opens}
+use Rattle.stages.specs.Laws.{Starts, read-opens, write-opens, zero-opens, discard-opens, never}
 use Rattle.stages.specs.declared.state.Job.{Job}
 use Rattle.stages.specs.declared.state.Job.the-variants.{Read, Write, Zeroes, AllocatedZeroes, Discard}
 use Rattle.stages.specs.declared.state.Phase.{Phase}
@@ -38,7 +38,7 @@ use Rattle.stages.specs.declared.plan.Plan.the-variants.{Done as NothingToDo, S
 use Rattle.blockers.specs.Blockers.{waitsOf}
 use Rattle.stages.specs.declared.told.Step.{Step}
 use Rattle.stages.specs.declared.told.Step.the-variants.{Stays, Ends, Enters}
-use Rattle.dock.specs.Dock.{stateAt, vectorAt, vacant, lentOf, isOutBy, isOut, overlapsOf, firstFree, isReadJob, openOf}
+use Rattle.dock.specs.Dock.{stateAt, vectorAt, vacant, lentOf, isOutBy, isOut, overlapsOf, firstFree, openOf}
 use Rattle.dock.specs.Begin.{isAligned, Begins, withJob, selectedOf, planOf, vectorFor, planFor, decidedFor, beginOf}
 use Rattle.dock.specs.Tell.{Told, refusedTell, tellOf, collectOf}
 use Rattle.dock.specs.SlotLaws.{started}
@@ -49,11 +49,10 @@ use Rattle.dock.specs.declared.begin.Begun.the-variants.{Refused as BeginRefuse
 use Rattle.dock.specs.declared.tell.Collects.{Collects}
 use Rattle.dock.specs.declared.tell.Collected.{Collected}
 use Rattle.dock.specs.declared.tell.Collected.the-variants.{Final, Refused as NotCollected}
-use Rattle.theorem_lists.specs.Courses.{never}
 use Rattle.theorem_lists.specs.Calls.{starts-from, read-ready, write-ready, zero-ready, discard-ready, begunRule, after}
 use Rattle.theorem_lists.specs.MadeLaws.{begin-is, data-long, tell-is}
 use Rattle.theorem_lists.specs.Store.{Bytes, Choice}
-use Rattle.theorem_lists.specs.PlainStore.{rangeFor, Tracked, Plain, plainOpened, plainStep, entersBy, broughtBy, toldBy, tellBy, collectBy}
+use Rattle.theorem_lists.specs.PlainStore.{rangeFor, Tracked, Plain, plainOpened, plainStep, entersPlain, broughtBy, toldBy, tellBy, collectBy}
 use Rattle.theorem_lists.specs.Histories.{Lends, Event, begins, carries, tells, collects, World, opened, called, fitsLent, afterBegin, told, afterTell, afterCollect, outIn, afterCarry, step, carryItem, fed, LentOf, CodeOf, HandsIn, Allowed, Lawful, OwedBy, OwedTo, Owed, Claim, EveryList}
 use Rattle.theorem_lists.proofs.Geometry.{read-shaped, write-shaped, zero-shaped, discard-shaped}
 use Rattle.theorem_lists.proofs.Progress.{Before, Follows, Opening, zeroes-follow}
@@ -142,7 +141,7 @@ module _ (w : World) (m : Plain) (I : Inv w m) where
   fits = opened-facts (w .dock .settings) (w .dock .buffers) (I .held .opened) .fit
 
   abbrev Keeps : Asked → Begins → Plan → List ℕ → Type 0
-  Keeps q b plan bs = Inv (begunWorld w b) (entersBy (b .answer) m q bs plan)
+  Keeps q b plan bs = Inv (begunWorld w b) (entersPlain (b .answer) m q bs plan)
 
   begin-keeps : (q : Asked) → Keeps q (beginOf (w .dock) q (w .memory) (w .scratch)) (planFor (w .dock .settings) (w .dock .buffers) q) (broughtBy q (w .memory))
   begin-keeps q =
@@ -199,8 +198,8 @@ module _ (w : World) (m : Plain) (I : Inv w m) (l : Lends) (lent : LentOf w m l)
   unfolding lentOf
   lent-other e = simp (I .held .opened, e)
 
-  begin-event : (q : Asked) → Inv (afterBegin w l (beginOf (w .dock) q (l .memory) (l .scratch))) (entersBy (beginOf (w .dock) q (l .memory) (l .scratch) .answer) m q (broughtBy q (l .memory)) (planFor (m .settings) (m .buffers) q))
-  begin-event q = subst (λ (k : Plan). Inv (afterBegin w l b) (entersBy (b .answer) m q (broughtBy q (l .memory)) k)) (sym plan-of) (go (fitsLent w l) refl)
+  begin-event : (q : Asked) → Inv (afterBegin w l (beginOf (w .dock) q (l .memory) (l .scratch))) (entersPlain (beginOf (w .dock) q (l .memory) (l .scratch) .answer) m q (broughtBy q (l .memory)) (planFor (m .settings) (m .buffers) q))
+  begin-event q = subst (λ (k : Plan). Inv (afterBegin w l b) (entersPlain (b .answer) m q (broughtBy q (l .memory)) k)) (sym plan-of) (go (fitsLent w l) refl)
     where
       b : Begins
       b = beginOf (w .dock) q (l .memory) (l .scratch)
@@ -208,11 +207,11 @@ module _ (w : World) (m : Plain) (I : Inv w m) (l : Lends) (lent : LentOf w m l)
       plan-of : planFor (m .settings) (m .buffers) q ≡ planFor (w .dock .settings) (w .dock .buffers) q
       plan-of = let a = I .settings in let c = I .buffers in λ i. planFor (a i) (c i) q
 
-      go : (t : Bool) → fitsLent w l ≡ t → Inv (pick t (called w (b .dock) (l .memory) (b .scratch)) w) (entersBy (b .answer) m q (broughtBy q (l .memory)) (planFor (w .dock .settings) (w .dock .buffers) q))
+      go : (t : Bool) → fitsLent w l ≡ t → Inv (pick t (called w (b .dock) (l .memory) (b .scratch)) w) (entersPlain (b .answer) m q (broughtBy q (l .memory)) (planFor (w .dock .settings) (w .dock .buffers) q))
       go true f =
-          subst (λ (s : List ℕ). Inv (begunWorld (withData w (l .memory)) (beginOf (w .dock) q (l .memory) s)) (entersBy (beginOf (w .dock) q (l .memory) s .answer) m q (broughtBy q (l .memory)) (planFor (w .dock .settings) (w .dock .buffers) q)))
+          subst (λ (s : List ℕ). Inv (begunWorld (withData w (l .memory)) (beginOf (w .dock) q (l .memory) s)) (entersPlain (beginOf (w .dock) q (l .memory) s .answer) m q (broughtBy q (l .memory)) (planFor (w .dock .settings) (w .dock .buffers) q)))
           (sym (lent-scratch w m I l f lent)) (begin-keeps (withData w (l .memory)) m (lent-keeps w m I l f lent) q)
-      go false f = subst (λ (a : Begun). Inv w (entersBy a m q (broughtBy q (l .memory)) (planFor (w .dock .settings) (w .dock .buffers) q))) (sym (begin-refused (w .dock) (l .memory) (l .scratch) q (lent-other f))) I
+      go false f = subst (λ (a : Begun). Inv w (entersPlain a m q (broughtBy q (l .memory)) (planFor (w .dock .settings) (w .dock .buffers) q))) (sym (begin-refused (w .dock) (l .memory) (l .scratch) q (lent-other f))) I
 
   -- ---- tell
 

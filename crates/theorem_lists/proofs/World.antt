@@ -19,7 +19,7 @@ use Rattle.vectors.specs.Vectors.{liesIn, allSegments, segmentsOf, bytesOf, ove
 use Rattle.vectors.specs.Places.{covered}
 use Rattle.vectors.specs.SegmentLaws.{valid}
 use Rattle.vectors.specs.declared.vector.IoVector.{IoVector}
-use Rattle.blockers.specs.Blockers.{overlaps, isEntered, present, blockerAt, enteredOf, leftOf, hasNoted, waitsOf}
+use Rattle.blockers.specs.Blockers.{overlaps, isEntered, present, blockerAt, enteredOf, leftOf, hasNoted, waitsOf, strength}
 use Rattle.blockers.specs.Reached.{Reached, Entered}
 use Rattle.blockers.specs.Laws.{entered-other, left-kind, left-note, left-notes, waits-here, waits-for}
 use Rattle.blockers.specs.declared.Blocker.{Blocker}
@@ -27,10 +27,11 @@ use Rattle.blockers.specs.declared.Blockers.{Blockers}
 use Rattle.stages.specs.Stages.{sizeOf, blockedOf, isFree, isPending, isBlocking}
 use Rattle.stages.specs.declared.state.State.{State}
 use Rattle.dock.specs.Dock.{stateAt, vectorAt, lentFits, isReadJob}
-use Rattle.dock.specs.Begin.{strength, blockersWith}
+use Rattle.dock.specs.Begin.{blockersWith}
 use Rattle.dock.specs.Tell.{blockersWithout}
 use Rattle.dock.specs.declared.dock.Dock.{Dock}
-use Rattle.theorem_lists.specs.Courses.{hasVector, never}
+use Rattle.stages.specs.Laws.{never}
+use Rattle.theorem_lists.specs.Courses.{hasVector}
 use Rattle.theorem_lists.specs.Held.{SlotOf, Held}
 use Rattle.theorem_lists.specs.MadeLaws.{data-long}
 use Rattle.theorem_lists.specs.Store.{inRange}

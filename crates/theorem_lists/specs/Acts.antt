@@ -9,8 +9,6 @@ use lib.Dec.{eqb}
 use borrow.Author.Tests.{eqb-true}
 use Rattle.arithmetic.specs.Refusals.{isDone}
 use Rattle.arithmetic.specs.SettingsLaws.{and-left, and-right}
-use Rattle.arithmetic.specs.declared.refusals.Outcome.{Outcome}
-use Rattle.arithmetic.specs.declared.refusals.Outcome.the-variants.{Done, Refused}
 use Rattle.dock.specs.declared.begin.Asked.{Asked}
 use Rattle.dock.specs.Tell.{tellOf}
 use Rattle.dock.specs.Computing.{computing}
@@ -102,11 +100,12 @@ lawful w m (a ∷ rest) e =
 -- ---- a lawful list goes on
 
 -- the two sides after a list
-abbrev pub after : World → Plain → List Event → Sides
-after w m [] = record { real = w; plain = m }
-after w m (e ∷ es) = after (step w e) (plainStep m (fed w e)) es
+abbrev pub afterAll : World → Plain → List Event → Sides
+afterAll w m [] = record { real = w; plain = m }
+afterAll w m (e ∷ es) = afterAll (step w e) (plainStep m (fed w e)) es
 
-pub extends : (w : World) (m : Plain) (es : List Event) (e : Event) → Lawful w m es → Allowed (after w m es .real) (after w m es .plain) e
+pub extends : (w : World) (m : Plain) (es : List Event) (e : Event)
+    → Lawful w m es → Allowed (afterAll w m es .real) (afterAll w m es .plain) e
     → Lawful w m (es ++ (e ∷ []))
 extends w m [] e k a = (a, tt)
 extends w m (d ∷ es) e k a = (k .0, extends (step w d) (plainStep m (fed w d)) es e (k .1) a)

@@ -1,11 +1,11 @@
 -- Begin, tell and collect keep `Held`, and on a dock that has it none of their inner steps is refused. Assumes nothing.
-use mathlib.Core.Path.{_≡_, refl, sym, ap, _∙_, subst}
+use mathlib.Core.Path.{_≡_, refl, sym, ap, _∙_}
 use mathlib.Core.Bool.{Bool, true, false, _&&_}
-use mathlib.Core.List.{List, [], _∷_}
-use Prim.Native.Nat.{ℕ, suc, _+_, _-_, _<_}
+use mathlib.Core.List.{List, []}
+use Prim.Native.Nat.{ℕ, _+_, _-_, _<_}
 use native.Mathlib.Omega.{arith}
 use lib.Dec.{eqb}
-use lib.ListN.{length, getD, set, length-set}
+use lib.ListN.{length, set, length-set}
 use lib.Seq.{getD-set-same, getD-set-other}
 use borrow.Author.Tests.{eq-eqb}
 use Rattle.arithmetic.specs.Rounding.{pick}
@@ -21,8 +21,8 @@ use Rattle.vectors.specs.declared.vector.IoVector.{IoVector}
 use Rattle.blockers.specs.Blockers.{isEntered, blockerAt}
 use Rattle.stages.specs.Stages.{sizeOf, isFree, hasEnded, isPending, isBlocking, isSound, asked, readPlan, writePlan, zeroJob, zeroPlan}
 use Rattle.stages.specs.Stages.{discardPlan, toldOf}
-use Rattle.stages.specs.Laws.{OnStore, Opens, Starts, read-opens, write-opens, zero-opens, discard-opens, Continues, Finishes, told-stays}
-use Rattle.stages.specs.Laws.{told-ends, told-enters}
+use Rattle.stages.specs.Laws.{StageOnStore, Opens, Starts, read-opens, write-opens, zero-opens, discard-opens, Continues, Finishes}
+use Rattle.stages.specs.Laws.{told-stays, told-ends, told-enters, never}
 use Rattle.stages.specs.declared.state.Job.{Job}
 use Rattle.stages.specs.declared.state.Job.the-variants.{Read, Write, Zeroes, AllocatedZeroes, Discard}
 use Rattle.stages.specs.declared.state.Phase.{Phase}
@@ -33,7 +33,7 @@ use Rattle.stages.specs.declared.plan.Plan.{Plan}
 use Rattle.stages.specs.declared.plan.Plan.the-variants.{Done as NothingToDo, Started, Refused as PlanRefused}
 use Rattle.stages.specs.declared.told.Step.{Step}
 use Rattle.stages.specs.declared.told.Step.the-variants.{Stays, Ends, Enters}
-use Rattle.dock.specs.Dock.{noState, noVector, vacant, stateAt, vectorAt, shareAt, isReadJob, firstFree}
+use Rattle.dock.specs.Dock.{noVector, vacant, stateAt, vectorAt, shareAt, isReadJob, firstFree}
 use Rattle.dock.specs.Begin.{isWriteJob, isBouncedWrite, sourceFits, mergedAt, filled, blockersWith, enterAt, admitAt, withJob}
 use Rattle.dock.specs.Begin.{Begins, storedWith, isAligned, selectedOf, planOf}
 use Rattle.dock.specs.Tell.{blockersWithout, copiedAt, isBouncedRead, handed, staysAt, endsAt, entersAt, steppedAt}
@@ -41,7 +41,7 @@ use Rattle.dock.specs.Tell.{Told, tells, accepted, storedBy, stored}
 use Rattle.dock.specs.SlotLaws.{lowest-free}
 use Rattle.dock.specs.declared.dock.Dock.{Dock}
 use Rattle.dock.specs.declared.begin.Begun.the-variants.{Done as NoRequest, Admitted, Refused as BeginRefused}
-use Rattle.theorem_lists.specs.Courses.{isZeroJob, hasVector, isLast, isRegular, suited, never, Sole, read-regular, write-regular}
+use Rattle.theorem_lists.specs.Courses.{isZeroJob, hasVector, isLast, isRegular, suited, Sole, read-regular, write-regular}
 use Rattle.theorem_lists.specs.Courses.{zero-regular, discard-regular, Goes, stays-regular, enters-regular}
 use Rattle.theorem_lists.specs.Held.{SlotOf, Held}
 use Rattle.theorem_lists.specs.Keeping.{Changes, none-changes, enter-changes, leave-changes, stay-changes, slot-anew, none-held}
@@ -181,7 +181,7 @@ handed-done share x code v memory scratch f = go (isBouncedRead (x .phase)) (eqb
 pub record Ready (s : Settings) (m : ℕ) (v : IoVector) (x : State) : Type 0 where
   pub sound : isSound (s .bounce) x ≡ true
   pub pending : isPending (x .phase) ≡ true
-  pub on-store : OnStore (x .stage)
+  pub on-store : StageOnStore (x .stage)
   pub regular : isRegular x ≡ true
   pub vector : hasVector (x .job) ≡ true → (x .stage .asked ≡ x .range) × (isValid m v ≡ true) × (v .total ≡ sizeOf (x .range))
 

@@ -1,7 +1,7 @@
 -- Which phase, course and job go together, and that a phase which reads has something to read: every plan starts so, every told code keeps
 -- it. Assumes nothing.
 use mathlib.Core.Path.{_≡_, refl, ap}
-use mathlib.Core.Bool.{Bool, true, false, _&&_, _||_, false≢true}
+use mathlib.Core.Bool.{Bool, true, false, _&&_, _||_}
 use Prim.Native.Nat.{ℕ}
 use lib.Dec.{ltb, eqb}
 use Rattle.arithmetic.specs.Rounding.{pick, isMultiple}
@@ -25,7 +25,7 @@ use Rattle.arithmetic.specs.declared.zeroes.Chunk.the-variants.{Nothing as NoCh
 use Rattle.stages.specs.Stages.{sizeOf, directStage, paddedStage, firstPhase, asked, vectorBy, readPlan, writePlan, zeroesBy, zeroesPlan}
 use Rattle.stages.specs.Stages.{zeroJob, zeroBy, zeroPlan, discardBy, discardPlan, endedWith, laterStage, zeroesNext, chunkBy, chunkNext}
 use Rattle.stages.specs.Stages.{tailNext, headNext, stageDone, doneNext, unsupportedNext, toldOf, isBlocking}
-use Rattle.stages.specs.Laws.{Starts, starts-within, starts-some}
+use Rattle.stages.specs.Laws.{Starts, starts-within, starts-some, never}
 use Rattle.stages.specs.declared.state.Job.{Job}
 use Rattle.stages.specs.declared.state.Job.the-variants.{Read, Write, Zeroes, AllocatedZeroes, Discard}
 use Rattle.stages.specs.declared.state.Phase.{Phase}
@@ -113,9 +113,6 @@ isRegular x = regular (x .phase) (x .course) (x .job) (x .stage)
 pub suited : (x : State) → isRegular x ≡ true → (ph : Phase) → x .phase ≡ ph → suits ph (x .course) (x .job) ≡ true
 unfolding isRegular
 suited x k ph e = and-left _ _ (rw e at k)
-
-pub never : {A : Type 0} → _≡_ {A = Bool} false true → A
-never e = absurd (false≢true e)
 
 -- ---- plans
 

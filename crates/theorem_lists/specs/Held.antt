@@ -11,14 +11,14 @@ use Rattle.arithmetic.specs.declared.settings.Settings.{Settings}
 use Rattle.arithmetic.specs.declared.settings.Buffers.{Buffers}
 use Rattle.vectors.specs.Vectors.{isValid}
 use Rattle.vectors.specs.declared.vector.IoVector.{IoVector}
-use Rattle.blockers.specs.Blockers.{present, blockerAt}
+use Rattle.blockers.specs.Blockers.{present, blockerAt, strength}
 use Rattle.blockers.specs.Reached.{Reached}
 use Rattle.blockers.specs.declared.Kind.{Kind}
 use Rattle.stages.specs.Stages.{sizeOf, isFree, isPending, isBlocking, isSound}
-use Rattle.stages.specs.Laws.{OnStore}
+use Rattle.stages.specs.Laws.{StageOnStore}
 use Rattle.stages.specs.declared.state.State.{State}
 use Rattle.dock.specs.Dock.{stateAt, vectorAt, openOf, openProfileOf}
-use Rattle.dock.specs.Begin.{strength, beginOf}
+use Rattle.dock.specs.Begin.{beginOf}
 use Rattle.dock.specs.Tell.{tellOf, collectOf}
 use Rattle.dock.specs.declared.dock.Dock.{Dock}
 use Rattle.dock.specs.declared.begin.Asked.{Asked}
@@ -33,7 +33,7 @@ pub record Encloses (r q : Range) : Type 0 where
 pub record SlotHeld (n m : ℕ) (x : State) (v : IoVector) (k : Kind) (r : Range) : Type 0 where
   -- its bytes lie in its share, its ranges on the store
   pub sound : isSound n x ≡ true
-  pub on-store : isPending (x .phase) ≡ true → OnStore (x .stage)
+  pub on-store : isPending (x .phase) ≡ true → StageOnStore (x .stage)
   -- its phase is one of its job's
   pub regular : isRegular x ≡ true
   -- a read or write has one stage, and a vector over the data of as many bytes

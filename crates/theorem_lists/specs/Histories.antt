@@ -7,12 +7,13 @@ use mathlib.Core.Option.{Option, none, some}
 use Prim.Native.Nat.{ℕ, _-_}
 use lib.Dec.{eqb}
 use lib.ListN.{length, getD}
+use Rattle.arithmetic.specs.Refusals.{whenDone}
 use Rattle.arithmetic.specs.Rounding.{pick}
 use Rattle.arithmetic.specs.declared.offsets.Range.{Range}
 use Rattle.arithmetic.specs.declared.settings.Settings.{Settings}
 use Rattle.arithmetic.specs.declared.settings.Buffers.{Buffers}
 use Rattle.arithmetic.specs.declared.refusals.Outcome.{Outcome}
-use Rattle.arithmetic.specs.declared.refusals.Outcome.the-variants.{Done, Refused as NotDone}
+use Rattle.arithmetic.specs.declared.refusals.Outcome.the-variants.{Done}
 use Rattle.vectors.specs.Vectors.{segmentsOf, bytesOf}
 use Rattle.vectors.specs.Places.{covered}
 use Rattle.vectors.specs.declared.vector.Segment.{Segment}
@@ -30,7 +31,7 @@ use Rattle.dock.specs.declared.next.Due.{Due}
 use Rattle.dock.specs.declared.next.Due.the-variants.{Waiting, Make, Answer, Refused as NotDue}
 use Rattle.dock.specs.declared.tell.Collects.{Collects}
 use Rattle.dock.specs.declared.tell.Collected.the-variants.{Final}
-use Rattle.theorem_lists.specs.Store.{Bytes, Choice, piecesFrom, gathered, rangeAsked, stored, fetched, inRange}
+use Rattle.theorem_lists.specs.Store.{Bytes, Choice, piecesFrom, gathered, rangeAsked, storeAfter, fetched, inRange}
 use Rattle.theorem_lists.specs.PlainStore.{Item, begin, carry, tell, collect, nothing, Did, yielded, wrote, zeroed, discarded}
 use Rattle.theorem_lists.specs.PlainStore.{rangeFor}
 use Rattle.theorem_lists.specs.PlainStore.{Tracked, Plain, plainOpened, plainStep, setAt}
@@ -84,8 +85,7 @@ abbrev pub afterBegin : World → Lends → Begins → World
 afterBegin w l b = pick (fitsLent w l) (called w (b .dock) (l .memory) (b .scratch)) w
 
 abbrev pub told : Outcome → World → ℕ → Told → World
-told Done w p t = answered w p (t .dock) (t .memory) (t .scratch)
-told (NotDone r) w p t = called w (t .dock) (t .memory) (t .scratch)
+told o w p t = whenDone o (answered w p (t .dock) (t .memory) (t .scratch)) (λ r. called w (t .dock) (t .memory) (t .scratch))
 
 abbrev pub afterTell : World → ℕ → Lends → Told → World
 afterTell w p l t = pick (fitsLent w l) (told (t .outcome) w p t) w
@@ -98,7 +98,7 @@ abbrev pub carriesOut : World → ℕ → ℕ → Choice → Request → World
 carriesOut w p code c q =
     let ps = piecesFrom (w .dock) p (length (w .memory)) (length (w .scratch)) 0 (q .segments) in
     let b = fetched (q .kind) q ps code c (w .store) (w .memory) (w .scratch) in
-    acted w p code (stored (q .kind) (rangeAsked q) code c (gathered ps (w .memory) (w .scratch)) (w .store)) (b .memory) (b .scratch)
+    acted w p code (storeAfter (q .kind) (rangeAsked q) code c (gathered ps (w .memory) (w .scratch)) (w .store)) (b .memory) (b .scratch)
 
 -- the request that is out in a slot and was not carried out yet
 abbrev pub unless : Option ℕ → Option Request → Option Request

@@ -17,6 +17,7 @@ use Rattle.arithmetic.specs.declared.settings.Buffers.{Buffers}
 use Rattle.vectors.specs.Vectors.{vectorOf}
 use Rattle.vectors.specs.declared.vector.IoVector.{IoVector}
 use Rattle.blockers.specs.Blockers.{present, isEntered, blockerAt, noBlockers, vacant as no-blocker, nowhere as past, enteredOf, leftOf}
+use Rattle.blockers.specs.Blockers.{strength}
 use Rattle.blockers.specs.Reached.{Reached}
 use Rattle.blockers.specs.Laws.{enter-done, entered-other, entered-own, enter-reached, ranked, leave-done, left-kind, left-range, left-own}
 use Rattle.blockers.specs.Laws.{leave-reached, none-reached}
@@ -29,10 +30,11 @@ use Rattle.stages.specs.Stages.{blockedOf, isBlocking, isSound}
 use Rattle.stages.specs.declared.state.Stage.{Stage}
 use Rattle.stages.specs.declared.state.State.{State}
 use Rattle.dock.specs.Dock.{noState, noVector, vacant, fresh, vectorAt}
-use Rattle.dock.specs.Begin.{strength, blockersWith}
+use Rattle.dock.specs.Begin.{blockersWith}
 use Rattle.dock.specs.Tell.{blockersWithout}
 use Rattle.dock.specs.declared.dock.Dock.{Dock}
-use Rattle.theorem_lists.specs.Courses.{isRegular, never}
+use Rattle.stages.specs.Laws.{never}
+use Rattle.theorem_lists.specs.Courses.{isRegular}
 use Rattle.theorem_lists.specs.Held.{Encloses, SlotHeld, SlotOf, Held}
 
 -- ---- the blockers, as one slot's enters or leaves

@@ -9,11 +9,11 @@ use Prim.Native.Nat.{ℕ, _+_}
 use lib.Dec.{eqb}
 use Rattle.arithmetic.specs.Rounding.{pick}
 use Rattle.arithmetic.specs.Offsets.{rangeOf}
+use Rattle.arithmetic.specs.Refusals.{whenDone}
 use Rattle.arithmetic.specs.declared.offsets.Range.{Range}
 use Rattle.arithmetic.specs.declared.settings.Settings.{Settings}
 use Rattle.arithmetic.specs.declared.settings.Buffers.{Buffers}
 use Rattle.arithmetic.specs.declared.refusals.Outcome.{Outcome}
-use Rattle.arithmetic.specs.declared.refusals.Outcome.the-variants.{Done, Refused as NotDone}
 use Rattle.vectors.specs.Vectors.{segmentsOf, bytesOf}
 use Rattle.stages.specs.Stages.{sizeOf, toldOf}
 use Rattle.stages.specs.declared.state.Job.{Job}
@@ -87,15 +87,15 @@ plainOpened s b content = record { settings = s; buffers = b; bytes = content; j
 
 -- ---- "The list and the rules above give each carry's request"
 
-abbrev pub stateOf : Step → State
-stateOf (Stays y) = y
-stateOf (Ends y) = y
-stateOf (Enters y) = y
+abbrev pub stateOfStep : Step → State
+stateOfStep (Stays y) = y
+stateOfStep (Ends y) = y
+stateOfStep (Enters y) = y
 
 -- where a job stands once these codes were told
 abbrev pub standing : Settings → State → List ℕ → State
 standing s x [] = x
-standing s x (c ∷ cs) = stateOf (toldOf s (standing s x cs) c)
+standing s x (c ∷ cs) = stateOfStep (toldOf s (standing s x cs) c)
 
 -- ---- a step, "when a request is carried out, once, before its tell"
 
@@ -118,35 +118,35 @@ abbrev pub withCode : Tracked → ℕ → Tracked
 withCode j code = record { asked = j .asked; bytes = j .bytes; first = j .first; codes = code ∷ j .codes; steps = j .steps }
 
 -- the bytes and the job after a request was carried out
-pub record Stepped : Type 0 where
+pub record PlainStepped : Type 0 where
   pub bytes : Bytes
   pub job : Tracked
 
-abbrev pub noStep : Bytes → Tracked → Stepped
+abbrev pub noStep : Bytes → Tracked → PlainStepped
 noStep s j = record { bytes = s; job = j }
 
 -- "read of a read job, code 0: yields the asked bytes"
-abbrev pub readStep : ℕ → Range → Bytes → Tracked → Stepped
+abbrev pub readStep : ℕ → Range → Bytes → Tracked → PlainStepped
 readStep code r s j =
     pick (eqb code 0) (record { bytes = s; job = withStep j (yielded r (window s (r .start .0) (sizeOf r))) }) (noStep s j)
 
 -- "write, code 0: the asked range takes the vector's bytes at begin, zeroes in a zero job. Other codes: each byte of that range is old or
 -- new"
-abbrev pub writeStep : ℕ → Choice → Job → Range → Bytes → Tracked → Stepped
+abbrev pub writeStep : ℕ → Choice → Job → Range → Bytes → Tracked → PlainStepped
 writeStep code c k r s j =
     let new = newBytes k (r .start .0) (j .bytes) in
     record { bytes = changed s r (becomesNew code c) new; job = withStep j (wrote r code new) }
 
 -- "zero: likewise with 0 over the request's range"
-abbrev pub zeroStep : ℕ → Choice → Range → Bytes → Tracked → Stepped
+abbrev pub zeroStep : ℕ → Choice → Range → Bytes → Tracked → PlainStepped
 zeroStep code c r s j = record { bytes = changed s r (becomesNew code c) (λ x. 0); job = withStep j (zeroed r code) }
 
 -- "discard, any code: bytes of the request's range become what the store chose"
-abbrev pub discardStep : Choice → Range → Bytes → Tracked → Stepped
+abbrev pub discardStep : Choice → Range → Bytes → Tracked → PlainStepped
 discardStep c r s j = record { bytes = changed s r (λ x. true) (c .left); job = withStep j (discarded r) }
 
 -- by which request is out; "Any other read: no step"
-abbrev pub stepBy : Phase → ℕ → Choice → State → Bytes → Tracked → Stepped
+abbrev pub stepBy : Phase → ℕ → Choice → State → Bytes → Tracked → PlainStepped
 stepBy Free code c x s j = noStep s j
 stepBy Ended code c x s j = noStep s j
 stepBy DirectRead code c x s j = readStep code (x .stage .asked) s j
@@ -158,7 +158,7 @@ stepBy DirectWrite code c x s j = writeStep code c (x .job) (x .stage .asked) s 
 stepBy ZeroRequest code c x s j = zeroStep code c (x .stage .request) s j
 stepBy DiscardRequest code c x s j = discardStep c (x .stage .request) s j
 
-unfoldable pub carriedOut : Settings → ℕ → Choice → Bytes → Tracked → Stepped
+unfoldable pub carriedOut : Settings → ℕ → Choice → Bytes → Tracked → PlainStepped
 carriedOut s code c b j = let x = standing s (j .first) (j .codes) in stepBy (x .phase) code c x b j
 
 -- ---- an item
@@ -172,7 +172,7 @@ putBytes m s = record { settings = m .settings; buffers = m .buffers; bytes = s;
 abbrev pub putJob : Plain → ℕ → Option Tracked → Plain
 putJob m p j = record { settings = m .settings; buffers = m .buffers; bytes = m .bytes; jobs = setAt (m .jobs) p j }
 
-abbrev pub afterStep : Plain → ℕ → Stepped → Plain
+abbrev pub afterStep : Plain → ℕ → PlainStepped → Plain
 afterStep m p r = putJob (putBytes m (r .bytes)) p (some (r .job))
 
 -- "A begin that gets a place enters its job"
@@ -181,10 +181,10 @@ tracked q bs (Started x) = some (record { asked = q; bytes = bs; first = x; code
 tracked q bs NothingToDo = none
 tracked q bs (PlanRefused r) = none
 
-abbrev pub entersBy : Begun → Plain → Asked → List ℕ → Plan → Plain
-entersBy (Admitted p) m q bs plan = putJob m p (tracked q bs plan)
-entersBy NoRequest m q bs plan = m
-entersBy (BeginRefused r) m q bs plan = m
+abbrev pub entersPlain : Begun → Plain → Asked → List ℕ → Plan → Plain
+entersPlain (Admitted p) m q bs plan = putJob m p (tracked q bs plan)
+entersPlain NoRequest m q bs plan = m
+entersPlain (BeginRefused r) m q bs plan = m
 
 -- "the vector's bytes at begin"
 abbrev pub broughtBy : Asked → List ℕ → List ℕ
@@ -200,8 +200,7 @@ toldBy none m p code = m
 toldBy (some j) m p code = putJob m p (some (withCode j code))
 
 abbrev pub tellBy : Outcome → Plain → ℕ → ℕ → Plain
-tellBy Done m p code = toldBy (m .jobs p) m p code
-tellBy (NotDone r) m p code = m
+tellBy o m p code = whenDone o (toldBy (m .jobs p) m p code) (λ r. m)
 
 -- "an accepted collect removes the job, refused calls change nothing"
 abbrev pub collectBy : Collected → Plain → ℕ → Plain
@@ -209,7 +208,7 @@ collectBy (Final a) m p = putJob m p none
 collectBy (NotCollected r) m p = m
 
 unfoldable pub plainStep : Plain → Item → Plain
-plainStep m (begin q memory a) = entersBy a m q (broughtBy q memory) (planFor (m .settings) (m .buffers) q)
+plainStep m (begin q memory a) = entersPlain a m q (broughtBy q memory) (planFor (m .settings) (m .buffers) q)
 plainStep m (carry p code c) = carriedBy (m .jobs p) m p code c
 plainStep m (tell p code a) = tellBy a m p code
 plainStep m (collect p a) = collectBy a m p

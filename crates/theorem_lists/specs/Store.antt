@@ -79,12 +79,12 @@ abbrev pub rangeAsked : Request → Range
 rangeAsked q = rangeOf (q .offset .0) (q .offset .0 + q .length)
 
 -- what the store holds after it; `payload` is what a write hands to it
-abbrev pub stored : Kind → Range → ℕ → Choice → List ℕ → Bytes → Bytes
-stored Read r code c payload s = s
-stored Write r code c payload s = changed s r (becomesNew code c) (laidAt (r .start .0) payload)
-stored Zero r code c payload s = changed s r (becomesNew code c) (λ x. 0)
-stored AllocatedZero r code c payload s = changed s r (becomesNew code c) (λ x. 0)
-stored Discard r code c payload s = changed s r (λ x. true) (c .left)
+abbrev pub storeAfter : Kind → Range → ℕ → Choice → List ℕ → Bytes → Bytes
+storeAfter Read r code c payload s = s
+storeAfter Write r code c payload s = changed s r (becomesNew code c) (laidAt (r .start .0) payload)
+storeAfter Zero r code c payload s = changed s r (becomesNew code c) (λ x. 0)
+storeAfter AllocatedZero r code c payload s = changed s r (becomesNew code c) (λ x. 0)
+storeAfter Discard r code c payload s = changed s r (λ x. true) (c .left)
 
 -- what a read leaves in its pieces: with code 0 the store's bytes, otherwise anything
 abbrev pub yields : ℕ → Choice → Bytes → Bytes

@@ -30,7 +30,7 @@ pub fn first() {
     let v = IoVector::new();
     show::vector_line(b"new", v);
     show::yes_no(b"new is empty", v.is_empty());
-    show::yes_no(b"new is valid over no data", v.valid(0));
+    show::yes_no(b"new is valid over no data", v.is_valid(0));
     let w = show::one(3, 5);
     show::vector_line(b"one of 5 bytes", w);
     show::number_line(b"its length", w.len());
@@ -99,16 +99,16 @@ pub fn appends() {
 // Values of the type that no call returns.
 pub fn values() {
     let v = show::more(show::one(0, 2), 4, 3);
-    show::yes_no(b"valid over 7", v.valid(7));
-    show::yes_no(b"valid over 6", v.valid(6));
+    show::yes_no(b"valid over 7", v.is_valid(7));
+    show::yes_no(b"valid over 6", v.is_valid(6));
     let mut total = v;
     total.total = 6;
-    show::yes_no(b"valid with a total one over", total.valid(7));
+    show::yes_no(b"valid with a total one over", total.is_valid(7));
     let mut hidden = v;
     hidden.count = 3;
-    show::yes_no(b"valid with an empty segment", hidden.valid(7));
+    show::yes_no(b"valid with an empty segment", hidden.is_valid(7));
     let mut count = v;
     count.count = 17;
-    show::yes_no(b"valid with 17 segments", count.valid(100));
+    show::yes_no(b"valid with 17 segments", count.is_valid(100));
     push(b"push to 17 segments", count, 0, 1, 100);
 }

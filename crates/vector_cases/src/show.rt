@@ -15,7 +15,7 @@ pub fn number(n: u64) {
     io::print_decimal(STDOUT_FILENO, n);
 }
 
-fn wide(x: u8) -> u64 {
+fn widen(x: u8) -> u64 {
     x as u64
 }
 
@@ -24,7 +24,7 @@ pub fn outcome(o: Outcome) {
     if n == 0 {
         text(b"done");
     } else {
-        number(wide(n));
+        number(widen(n));
     }
 }
 
@@ -119,7 +119,7 @@ pub fn alignment(label: &[u8], a: Alignment) {
     match a {
         Alignment::Aligned => text(b": aligned\n"),
         Alignment::Unaligned => text(b": unaligned\n"),
-        Alignment::Refused(r) => number_line(b"", wide(r.number())),
+        Alignment::Refused(r) => number_line(b"", widen(r.number())),
     }
 }
 

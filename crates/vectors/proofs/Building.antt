@@ -36,7 +36,7 @@ with-room v p r =
     let n : v .count ≡ length (segmentsOf v) = ap (λ (w : IoVector). w .count) (r .plain) in
     with-is v (segmentsOf v) p (r .plain) (omega (arith, r .few))
 
--- ---- the loop of `joined`
+-- ---- the loop of `join`
 
 pub record Joining (v₀ w : IoVector) (s n : ℕ) (v : IoVector) (i : ℕ) : Type 0 where
   pub wide : length (w .segments) ≡ 16
@@ -99,7 +99,7 @@ module _ (v₀ w : IoVector) (s n : ℕ) (v : IoVector) (i : ℕ) (g : Joining v
           is = e ∙ ap vectorOf (ap (λ (l : List Segment). l ++ (nth w (s + i) ∷ [])) s₁ ∙ append-assoc (segmentsOf v₀) (take i qs) (nth w (s + i) ∷ []) ∙ ap (λ (l : List Segment). segmentsOf v₀ ++ l) (sym taken));
         }
 
--- ---- what a caller of `joined` and `with` shows, over the vector of a list
+-- ---- what a caller of `join` and `add` shows, over the vector of a list
 
 pub grown : {u r : IoVector} (xs ys : List Segment) → u ≡ vectorOf xs → r ≡ vectorOf (segmentsOf u ++ ys) → r ≡ vectorOf (xs ++ ys)
 grown {u} {r} xs ys e f = let s : segmentsOf u ≡ xs = rw e (segments-of xs) in rw s at f

@@ -9,7 +9,7 @@ use native.Mathlib.Omega.{arith}
 use lib.Dec.{eqb}
 use lib.ListN.{length, take, drop, getD, set, replicate, length-drop, length-replicate, drop-of-length-le}
 use lib.Seq.{drop-drop, take-all, length-take-le}
-use borrow.Author.Tests.{eqb-true, eq-eqb, ne-eqb, le-leb, lt-leb}
+use borrow.Author.Tests.{eqb-true, eq-eqb, ne-eqb}
 use borrow.Rule.Slice.PartMut.{putMid}
 use Rattle.arithmetic.specs.Rounding.{pick}
 use Rattle.arithmetic.specs.SettingsLaws.{and-left, and-right}

@@ -12,6 +12,7 @@ use lib.ListN.{take-append-drop, getD-replicate, List·getD-append}
 use lib.Seq.{take-at, drop-at, take-take, take-nil, drop-drop, take-append-le, take-append-seam, drop-append-add, length-take-le, getD-take}
 use lib.Seq.{getD-drop, getD-append-add}
 use borrow.Author.Tests.{lt-ltb, le-ltb, le-leb}
+use Rattle.arithmetic.specs.Loops.{or-first}
 use Rattle.arithmetic.specs.SettingsLaws.{and-left, and-right}
 use Rattle.vectors.specs.declared.vector.Segment.{Segment}
 use Rattle.vectors.specs.Vectors.{sizeOf, liesIn, allSegments, anySegment, put, bytesOf, scatterOf, fillOf, shares, overlapOf}
@@ -210,11 +211,7 @@ fill-on l (p ∷ ps) b k e o = go (anySegment (inSegment k) ps) refl
     bs = replicate (p .length) b
 
     here : anySegment (inSegment k) ps ≡ false → (inSegment k p || anySegment (inSegment k) ps) ≡ true → inSegment k p ≡ true
-    here f t = first (inSegment k p) (rw f at t)
-      where
-        first : (a : Bool) → (a || false) ≡ true → a ≡ true
-        first true q = refl
-        first false q = q
+    here f t = or-first (inSegment k p) (rw f at t)
 
     go : (t : Bool) → anySegment (inSegment k) ps ≡ t → (anySegment (inSegment k) ps ≡ true → getD (fillOf (put l (p .start) bs) ps b) k 0
         ≡ b) → getD (fillOf (put l (p .start) bs) ps b) k 0 ≡ b

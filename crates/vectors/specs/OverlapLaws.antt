@@ -10,11 +10,11 @@ use native.Mathlib.Omega.{arith}
 use lib.Dec.{ltb, leb}
 use lib.ListN.{length, getD}
 use borrow.Author.Tests.{ltb-true, ltb-false, leb-true, lt-ltb, le-leb}
-use Rattle.arithmetic.specs.SettingsLaws.{and-left, and-right}
+use Rattle.arithmetic.specs.PowerLaws.{same-test}
+use Rattle.arithmetic.specs.SettingsLaws.{and-left, and-right, both}
 use Rattle.vectors.specs.declared.vector.Segment.{Segment}
 use Rattle.vectors.specs.Vectors.{none, anySegment, shares, overlapOf, selfOverlapOf}
 use Rattle.vectors.specs.Places.{inSegment, covered}
-use Rattle.vectors.specs.SegmentLaws.{both}
 
 -- ---- or
 
@@ -139,13 +139,8 @@ overlap-off ps qs k e a = go (covered qs k) refl
     go true b = let z : true ≡ false = sym (overlap-index ps qs k a b) ∙ e in cc
     go false b = b
 
-from-both : (a b : Bool) → (a ≡ true → b ≡ true) → (b ≡ true → a ≡ true) → a ≡ b
-from-both true b f g = sym (f refl)
-from-both false true f g = g refl
-from-both false false f g = refl
-
 pub overlap-sym : (ps qs : List Segment) → overlapOf ps qs ≡ overlapOf qs ps
-overlap-sym ps qs = from-both (overlapOf ps qs) (overlapOf qs ps) (turn ps qs) (turn qs ps)
+overlap-sym ps qs = same-test (overlapOf ps qs) (overlapOf qs ps) (turn ps qs) (turn qs ps)
   where
     turn : (xs ys : List Segment) → overlapOf xs ys ≡ true → overlapOf ys xs ≡ true
     turn xs ys e = let k = index-overlap xs ys e in overlap-index ys xs (k .0) (k .2) (k .1)

@@ -10,13 +10,10 @@ use lib.Dec.{ltb, leb, eqb}
 use lib.ListN.{length, take, drop, getD, replicate, take-append-drop}
 use lib.Seq.{take-append-seam, drop-cons}
 use borrow.Author.Tests.{ltb-true, leb-true, eqb-true, lt-ltb, le-leb, eq-eqb}
-use Rattle.arithmetic.specs.SettingsLaws.{and-left, and-right}
+use Rattle.arithmetic.specs.SettingsLaws.{and-left, and-right, both}
 use Rattle.vectors.specs.declared.vector.Segment.{Segment}
 use Rattle.vectors.specs.declared.vector.IoVector.{IoVector}
 use Rattle.vectors.specs.Vectors.{none, segmentsOf, sizeOf, liesIn, allSegments, segmentsFit, vectorOf, isValid}
-
-pub both : (a b : Bool) → a ≡ true → b ≡ true → (a && b) ≡ true
-both a b p q = rw (p, q)
 
 -- ---- lists
 

@@ -13,13 +13,13 @@ use lib.ListN.{length, take, drop, getD}
 use lib.Seq.{take-add, drop-drop}
 use borrow.Author.Tests.{lt-ltb, le-ltb, eq-eqb, ne-eqb}
 use Rattle.arithmetic.specs.Rounding.{pick}
-use Rattle.arithmetic.specs.SettingsLaws.{and-left, and-right}
+use Rattle.arithmetic.specs.SettingsLaws.{and-left, and-right, both}
 use Rattle.vectors.specs.declared.vector.Segment.{Segment}
 use Rattle.vectors.specs.declared.vector.SplitPosition.{SplitPosition}
 use Rattle.vectors.specs.Vectors.{segment, none, sizeOf, liesIn, allSegments, segmentsFit, headOf, tailOf, bytesOf}
 use Rattle.vectors.specs.Positions.{position, behind, positionOf, headAt, tailAt}
 use Rattle.vectors.specs.Places.{placeOf}
-use Rattle.vectors.specs.SegmentLaws.{both, Lies, lies, lies-true, fit, fit-true}
+use Rattle.vectors.specs.SegmentLaws.{Lies, lies, lies-true, fit, fit-true}
 
 -- ---- the three cases of a split at a list's first segment
 

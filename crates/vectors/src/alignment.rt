@@ -15,19 +15,19 @@ impl IoVector {
     pub fn is_aligned(self, align: Alignments, data: Lent) -> Alignment
         ensures { λ r. ⌜ r ≡ alignmentOf align «data» self ⌝ }
     {
-        if !align.fit() {
+        if !align.is_fit() {
             return Alignment::Refused(Refusal::Unfit);
         }
         if LARGEST - data.address < data.length {
             return Alignment::Refused(Refusal::Buffer);
         }
-        if !self.valid(data.length as usize) {
+        if !self.is_valid(data.length as usize) {
             return Alignment::Refused(Refusal::Segment);
         }
         if (align.mem == 1) & (align.req == 1) {
             return Alignment::Aligned;
         }
-        if self.segments_aligned(data.address, align.mem, align.length_align()) {
+        if self.has_aligned_segments(data.address, align.mem, align.length_align()) {
             Alignment::Aligned
         } else {
             Alignment::Unaligned
@@ -35,7 +35,7 @@ impl IoVector {
     }
 
     // Whether every segment's address is a multiple of `mem` and its length of `len`, over data at `address`.
-    fn segments_aligned(self, address: u64, mem: u64, len: u64) -> bool
+    fn has_aligned_segments(self, address: u64, mem: u64, len: u64) -> bool
         requires { ⌜ Addressed self address mem len ⌝ }
         ensures { λ r. ⌜ r ≡ allAligned address mem len (segmentsOf self) ⌝ }
     {

@@ -93,7 +93,7 @@ impl IoVector {
         ensures outcome { λ r. ⌜ r ≡ outcomeOf (copies (now («data» .entry)) self (length (now (slice .entry)))) ⌝ }
         ensures bytes { λ _. ⌜ now (slice .exit) ≡ copiedInto (now («data» .entry)) self (now (slice .entry)) ⌝ }
     {
-        if !self.valid(data.len()) {
+        if !self.is_valid(data.len()) {
             return Outcome::Refused(Refusal::Segment);
         }
         if slice.len() as u64 != self.total {
@@ -109,7 +109,7 @@ impl IoVector {
         ensures outcome { λ r. ⌜ r ≡ outcomeOf (copies (now («data» .entry)) self (length (now (slice .entry)))) ⌝ }
         ensures bytes { λ _. ⌜ now («data» .exit) ≡ copiedFrom (now («data» .entry)) self (now (slice .entry)) ⌝ }
     {
-        if !self.valid(data.len()) {
+        if !self.is_valid(data.len()) {
             return Outcome::Refused(Refusal::Segment);
         }
         if slice.len() as u64 != self.total {
@@ -124,7 +124,7 @@ impl IoVector {
         ensures outcome { λ r. ⌜ r ≡ outcomeOf (isValid (length (now («data» .entry))) self) ⌝ }
         ensures bytes { λ _. ⌜ now («data» .exit) ≡ filledWith (now («data» .entry)) self value ⌝ }
     {
-        if !self.valid(data.len()) {
+        if !self.is_valid(data.len()) {
             return Outcome::Refused(Refusal::Segment);
         }
         self.fill_segments(data, value);

@@ -21,7 +21,7 @@ impl Segment {
 
 impl IoVector {
     // How many of the segments are in use: of a count past the array, all.
-    fn used(self) -> usize
+    fn used_count(self) -> usize
         ensures { λ r. ⌜ r ≡ length (segmentsOf self) ⌝ }
     {
         if self.count < MAX_COUNT {
@@ -36,7 +36,7 @@ impl IoVector {
         requires { ⌜ start ≤ length (segmentsOf self) ⌝ }
         ensures { λ r. ⌜ r ≡ anySegment (shares segment) (drop start (segmentsOf self)) ⌝ }
     {
-        let n = self.used();
+        let n = self.used_count();
         let mut i = start;
         while i < n {
             let p = self.segments[i];
@@ -52,7 +52,7 @@ impl IoVector {
     pub fn overlaps(self, other: IoVector) -> bool
         ensures { λ r. ⌜ r ≡ overlapOf (segmentsOf self) (segmentsOf other) ⌝ }
     {
-        let n = self.used();
+        let n = self.used_count();
         let mut i = 0usize;
         while i < n {
             let p = self.segments[i];
@@ -68,7 +68,7 @@ impl IoVector {
     pub fn overlaps_itself(self) -> bool
         ensures { λ r. ⌜ r ≡ selfOverlapOf (segmentsOf self) ⌝ }
     {
-        let n = self.used();
+        let n = self.used_count();
         let mut i = 0usize;
         while i < n {
             let p = self.segments[i];

@@ -17,7 +17,7 @@ impl IoVector {
     pub fn split_at(self, mid: u64, data_len: usize) -> Halves
         ensures { λ r. ⌜ r ≡ splitOf data_len self mid ⌝ }
     {
-        if !self.valid(data_len) {
+        if !self.is_valid(data_len) {
             return Halves {
                 head: self,
                 tail: IoVector::new(),
@@ -36,7 +36,7 @@ impl IoVector {
     pub fn split_tail_at(self, mid: u64, data_len: usize) -> Changed
         ensures { λ r. ⌜ r ≡ splitTailOf data_len self mid ⌝ }
     {
-        if !self.valid(data_len) {
+        if !self.is_valid(data_len) {
             return self.refuse();
         }
         let split = self.do_split_at(mid);

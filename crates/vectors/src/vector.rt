@@ -107,7 +107,7 @@ impl IoVector {
     }
 
     // Whether this is a vector over data of that length. The sum stays at most MAX_TOTAL.
-    pub fn valid(self, data_len: usize) -> bool
+    pub fn is_valid(self, data_len: usize) -> bool
         ensures { λ r. ⌜ r ≡ isValid data_len self ⌝ }
     {
         let n = self.count;
@@ -190,7 +190,7 @@ impl IoVector {
         if n < index {
             return self.refuse();
         }
-        if !self.valid(data_len) {
+        if !self.is_valid(data_len) {
             return self.refuse();
         }
         if !segment.lies_in(data_len) {
@@ -211,10 +211,10 @@ impl IoVector {
     pub fn append(self, other: IoVector, data_len: usize) -> Changed
         ensures { λ r. ⌜ r ≡ appendOf data_len self other ⌝ }
     {
-        if !other.valid(data_len) {
+        if !other.is_valid(data_len) {
             return self.refuse();
         }
-        if !self.valid(data_len) {
+        if !self.is_valid(data_len) {
             return self.refuse();
         }
         if !self.has_room(other.count, other.total) {

@@ -26,7 +26,7 @@ same-length : tie.Need-same-length
 same-length c = search needs
 
 returns : tie.Need-returns
-returns c = let a = c .before .before .before .before .before .before .before .before .before .before .before .before .args in let w = c .before .before .before .begin .ensures .1 in let e = c .before .before .before .begin .ensures .0 ∙ ap (λ (q : Asked). beginOf (dockOf (a .settings .now) (a .blockers .now) (a .states .now) (a .vectors .now)) q (a .«data» .now) (a .scratch .now)) (c .before .before .before .before .before .before .before .before .read .ensures ∙ ap (readOf (storeAt (a .offset))) (c .before .before .before .before .before .before .before .before .before .vector-of .ensures)) in let o = ap (λ (z : Begins). z .answer) e in ((c .begun-reply .ensures ∙ ap (λ (z : Begins). replyOf (begunPaper (z .answer))) e, ap (λ (z : Begins). z .dock) e, ap (λ (z : Begins). z .scratch) e), (rw (← o) (w .0), rw (← o) (w .1), rw (← o) (w .2)))
+returns c = let k = c .before .before .before .before .before .before .before .before in let a = k .before .before .before .before .args in let w = c .before .before .before .begin .ensures .1 in let e = c .before .before .before .begin .ensures .0 ∙ ap (λ (q : Asked). beginOf (dockOf (a .settings .now) (a .blockers .now) (a .states .now) (a .vectors .now)) q (a .«data» .now) (a .scratch .now)) (k .read .ensures ∙ ap (readOf (storeAt (a .offset))) (k .before .vector-of .ensures)) in let o = ap (λ (z : Begins). z .answer) e in ((c .begun-reply .ensures ∙ ap (λ (z : Begins). replyOf (begunPaper (z .answer))) e, ap (λ (z : Begins). z .dock) e, ap (λ (z : Begins). z .scratch) e), (rw (← o) (w .0), rw (← o) (w .1), rw (← o) (w .2)))
 
 pub dock-words-begin-read-spec : {M : Type 1} → statement M
 dock-words-begin-read-spec =

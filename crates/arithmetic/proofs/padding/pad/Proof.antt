@@ -11,14 +11,14 @@ use Rattle.arithmetic.proofs.padding.pad.Tie as tie
 
 -- past the test the alignments fit
 fit-is : (c : tie.Else1) → alignmentsFit (c .before .before .args .align) ≡ true
-fit-is c = sym (c .before .fit .ensures) ∙ not-false _ (c .if1 .left)
+fit-is c = sym (c .before .is-fit .ensures) ∙ not-false _ (c .if1 .left)
 
-fit-requires : tie.Need-fit-requires
-fit-requires c κs = search needs
+is-fit-requires : tie.Need-is-fit-requires
+is-fit-requires c κs = search needs
 
 returns : tie.Need-returns
 unfolding paddingOf
-returns c = simp (sym (c .before .fit .ensures) ∙ not-true _ (c .if1 .taken))
+returns c = simp (sym (c .before .is-fit .ensures) ∙ not-true _ (c .if1 .taken))
 
 length-align-requires : tie.Need-length-align-requires
 length-align-requires c κs = search needs
@@ -32,4 +32,4 @@ returns-2 c = simp (fit-is (c .before .before)) (rw (← c .before .length-align
 
 pub pad-spec : {M : Type 1} → statement M
 pad-spec =
-    tie.close (tie.spec fit-requires returns length-align-requires pad-to-requires returns-2)
+    tie.close (tie.spec is-fit-requires returns length-align-requires pad-to-requires returns-2)

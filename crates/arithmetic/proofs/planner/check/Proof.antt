@@ -15,14 +15,14 @@ use Rattle.arithmetic.proofs.planner.check.Tie as tie
 
 -- past the first test the settings fit
 fit-is : (c : tie.Else1) → settingsFit (c .before .before .args .settings) ≡ true
-fit-is c = sym (c .before .fit .ensures) ∙ not-false _ (c .if1 .left)
+fit-is c = sym (c .before .is-fit .ensures) ∙ not-false _ (c .if1 .left)
 
-fit-requires : tie.Need-fit-requires
-fit-requires c κs = search needs
+is-fit-requires : tie.Need-is-fit-requires
+is-fit-requires c κs = search needs
 
 returns : tie.Need-returns
 unfolding planOutcome
-returns c = simp (sym (c .before .fit .ensures) ∙ not-true _ (c .if1 .taken))
+returns c = simp (sym (c .before .is-fit .ensures) ∙ not-true _ (c .if1 .taken))
 
 rem-if2 : tie.Need-rem-if2
 rem-if2 c = accepted (c .before .before .before .args .settings) (fit-is (c .before)) .align .req .positive
@@ -48,4 +48,4 @@ returns-4 c = let b = c .before in let a = b .before .before .before .before .ar
 pub check-spec : {M : Type 1} → statement M
 check-spec =
     tie.close
-    (tie.spec fit-requires returns rem-if2 rem-if2-2 returns-2 sub-if3 returns-3 returns-4)
+    (tie.spec is-fit-requires returns rem-if2 rem-if2-2 returns-2 sub-if3 returns-3 returns-4)

@@ -11,17 +11,17 @@ use Rattle.arithmetic.proofs.zeroes.discard_cut.Tie as tie
 
 -- past the first test the alignments fit, past the second the sums
 fit-is : (c : tie.Else1) → alignmentsFit (c .before .before .args .align) ≡ true
-fit-is c = sym (c .before .fit .ensures) ∙ not-false _ (c .if1 .left)
+fit-is c = sym (c .before .is-fit .ensures) ∙ not-false _ (c .if1 .left)
 
 sums-fit : (c : tie.Else2) → cutFits (c .before .before .before .before .args .align .discard) (c .before .before .before .before .args .offset .0) (c .before .before .before .before .args .length) ≡ true
 sums-fit c = sym (c .before .cut-fits .ensures) ∙ not-false _ (c .if2 .left)
 
-fit-requires : tie.Need-fit-requires
-fit-requires c κs = search needs
+is-fit-requires : tie.Need-is-fit-requires
+is-fit-requires c κs = search needs
 
 returns : tie.Need-returns
 unfolding discardCutOf
-returns c = simp (sym (c .before .fit .ensures) ∙ not-true _ (c .if1 .taken))
+returns c = simp (sym (c .before .is-fit .ensures) ∙ not-true _ (c .if1 .taken))
 
 cut-fits-requires : tie.Need-cut-fits-requires
 cut-fits-requires c κs = aligned (c .before .before .args .align) (fit-is c) .discard .positive
@@ -48,7 +48,7 @@ pub discard-cut-spec : {M : Type 1} → statement M
 discard-cut-spec =
     tie.close
     (tie.spec
-    fit-requires
+    is-fit-requires
     returns
     cut-fits-requires
     returns-2

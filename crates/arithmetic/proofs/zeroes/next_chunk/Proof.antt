@@ -16,7 +16,7 @@ use Rattle.arithmetic.proofs.zeroes.next_chunk.Tie as tie
 
 -- past the first test the settings fit, past the second the range is not empty
 fit-is : (c : tie.Else1) → settingsFit (c .before .before .args .settings) ≡ true
-fit-is c = sym (c .before .fit .ensures) ∙ not-false _ (c .if1 .left)
+fit-is c = sym (c .before .is-fit .ensures) ∙ not-false _ (c .if1 .left)
 
 some : (c : tie.Else2) → ltb (c .before .before .before .before .args .range .start .0) (c .before .before .before .before .args .range .end .0) ≡ true
 some c = sym (c .before .has-bytes .ensures) ∙ not-false _ (c .if2 .left)
@@ -24,12 +24,12 @@ some c = sym (c .before .has-bytes .ensures) ∙ not-false _ (c .if2 .left)
 less : (c : tie.Else2) → c .before .before .before .before .args .range .start .0 < c .before .before .before .before .args .range .end .0
 less c = ltb-true (c .before .before .before .before .args .range .start .0) (c .before .before .before .before .args .range .end .0) (some c)
 
-fit-requires : tie.Need-fit-requires
-fit-requires c κs = search needs
+is-fit-requires : tie.Need-is-fit-requires
+is-fit-requires c κs = search needs
 
 returns : tie.Need-returns
 unfolding chunkOf
-returns c = simp (sym (c .before .fit .ensures) ∙ not-true _ (c .if1 .taken))
+returns c = simp (sym (c .before .is-fit .ensures) ∙ not-true _ (c .if1 .taken))
 
 has-bytes-requires : tie.Need-has-bytes-requires
 has-bytes-requires c κs = search needs
@@ -55,7 +55,7 @@ pub next-chunk-spec : {M : Type 1} → statement M
 next-chunk-spec =
     tie.close
     (tie.spec
-    fit-requires
+    is-fit-requires
     returns
     has-bytes-requires
     returns-2

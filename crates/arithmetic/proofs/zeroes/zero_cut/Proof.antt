@@ -14,17 +14,17 @@ use Rattle.arithmetic.proofs.zeroes.zero_cut.Tie as tie
 
 -- past the first test the alignments fit, past the third the sums
 fit-is : (c : tie.Else1) → alignmentsFit (c .before .before .args .align) ≡ true
-fit-is c = sym (c .before .fit .ensures) ∙ not-false _ (c .if1 .left)
+fit-is c = sym (c .before .is-fit .ensures) ∙ not-false _ (c .if1 .left)
 
 sums-fit : (c : tie.Else3) → cutFits (c .before .before .before .before .before .args .align .zero) (c .before .before .before .before .before .args .offset .0) (c .before .before .before .before .before .args .length) ≡ true
 sums-fit c = sym (c .before .cut-fits .ensures) ∙ not-false _ (c .if3 .left)
 
-fit-requires : tie.Need-fit-requires
-fit-requires c κs = search needs
+is-fit-requires : tie.Need-is-fit-requires
+is-fit-requires c κs = search needs
 
 returns : tie.Need-returns
 unfolding zeroCutOf
-returns c = simp (sym (c .before .fit .ensures) ∙ not-true _ (c .if1 .taken))
+returns c = simp (sym (c .before .is-fit .ensures) ∙ not-true _ (c .if1 .taken))
 
 returns-2 : tie.Need-returns-2
 unfolding zeroCutOf
@@ -58,7 +58,7 @@ pub zero-cut-spec : {M : Type 1} → statement M
 zero-cut-spec =
     tie.close
     (tie.spec
-    fit-requires
+    is-fit-requires
     returns
     returns-2
     cut-fits-requires

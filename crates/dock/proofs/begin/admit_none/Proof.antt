@@ -1,4 +1,4 @@
--- `dock::begin::admitNone` meets its contract: the blockers as given, and the state of a free slot. Assumes nothing.
+-- `dock::begin::admit_none` meets its contract: the blockers as given, and the state of a free slot. Assumes nothing.
 use mathlib.Core.Path.{ap}
 use Rattle.stages.specs.declared.state.State.{State}
 use borrow.Author.Needs.{needs}

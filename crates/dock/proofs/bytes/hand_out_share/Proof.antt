@@ -35,7 +35,7 @@ same-length c = search needs
 
 returns-3 : tie.Need-returns-3
 unfolding handedShare
-returns-3 c = simp (sym (ap (λ (t : Bool). t && eqb (c .before .before .before .before .before .before .before .before .before .before .args .code) 0) (c .before .before .before .before .before .before .before .is-bounced-read .ensures)) ∙ not-false _ (c .before .before .before .before .before .before .if1 .left), (sym (c .before .before .before .before .before .is-sound-at .ensures) ∙ not-false _ (c .before .before .before .before .if2 .left))) (c .before .before .hand-out .ensures)
+returns-3 c = let k = c .before .before .before .before in simp (sym (ap (λ (t : Bool). t && eqb (k .before .before .before .before .before .before .args .code) 0) (k .before .before .before .is-bounced-read .ensures)) ∙ not-false _ (k .before .before .if1 .left), (sym (k .before .is-sound-at .ensures) ∙ not-false _ (k .if2 .left))) (c .before .before .hand-out .ensures)
 
 pub hand-out-share-spec : {M : Type 1} → statement M
 hand-out-share-spec =

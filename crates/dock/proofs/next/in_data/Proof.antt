@@ -12,17 +12,17 @@ use Rattle.dock.proofs.next.in_data.Tie as tie
 
 -- past the first test the vector is valid, and so has at most 16 segments
 valid-is : (c : tie.Else1) → isValid (c .before .before .args .data-len) (c .before .before .args .t3) ≡ true
-valid-is c = sym (c .before .valid .ensures) ∙ not-false _ (c .if1 .left)
+valid-is c = sym (c .before .is-valid .ensures) ∙ not-false _ (c .if1 .left)
 
 few : (c : tie.Else1) → c .before .before .args .t3 .count ≤ 16
 unfolding isValid
 few c = leb-true (c .before .before .args .t3 .count) 16 (and-left (leb (c .before .before .args .t3 .count) 16) _ (valid-is c))
 
-valid-requires : tie.Need-valid-requires
-valid-requires c κs = tt
+is-valid-requires : tie.Need-is-valid-requires
+is-valid-requires c κs = tt
 
 returns : tie.Need-returns
-returns c = simp (sym (c .before .valid .ensures) ∙ not-true _ (c .if1 .taken))
+returns c = simp (sym (c .before .is-valid .ensures) ∙ not-true _ (c .if1 .taken))
 
 returns-2 : tie.Need-returns-2
 returns-2 c =
@@ -44,4 +44,4 @@ returns-3 c =
 pub in-data-spec : {M : Type 1} → statement M
 in-data-spec =
     tie.close
-    (tie.spec valid-requires returns returns-2 mul-segment element-copy-out-segment returns-3)
+    (tie.spec is-valid-requires returns returns-2 mul-segment element-copy-out-segment returns-3)

@@ -3,10 +3,11 @@ use mathlib.Core.Path.{sym, _∙_}
 use native.Mathlib.Omega.{arith}
 use borrow.Author.Tests.{not-true, not-false, lt-ltb, le-ltb}
 use Rattle.dock.specs.Next.{pieceIn}
-use Rattle.dock.proofs.SlotsOf.{share-room-sound, sound-share}
+use Rattle.dock.proofs.SlotsOf.{share-room-sound}
 use borrow.Author.Needs.{needs}
 use Rattle.dock.proofs.next.piece_in.Statement.{statement}
 use Rattle.dock.proofs.next.piece_in.Tie as tie
+use Rattle.dock.specs.SlotLaws.{sound-share}
 
 returns : tie.Need-returns
 unfolding pieceIn

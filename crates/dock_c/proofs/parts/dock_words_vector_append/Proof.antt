@@ -4,7 +4,7 @@ use Rattle.arithmetic.specs.Refusals.{outcomeNumber}
 use Rattle.vectors.specs.declared.vector.IoVector.{IoVector}
 use Rattle.vectors.specs.declared.vector.Changed.{Changed}
 use Rattle.vectors.specs.Vectors.{appendOf}
-use Rattle.dock_words.specs.View.{vectorFrom}
+use Rattle.dock_words.specs.View.{vectorFrom, vectorWords}
 use borrow.Author.Needs.{needs}
 use Rattle.dock_c.proofs.parts.dock_words_vector_append.Statement.{statement}
 use Rattle.dock_c.proofs.parts.dock_words_vector_append.Tie as tie
@@ -25,7 +25,7 @@ number-requires : tie.Need-number-requires
 number-requires c κs = search needs
 
 returns : tie.Need-returns
-returns c = let a = c .before .before .before .before .before .before .before .args in let e = c .before .before .before .append .ensures ∙ ap (λ (v : IoVector). appendOf (a .data-len) v (c .before .before .before .before .vector-of2 .result)) (c .before .before .before .before .before .vector-of .ensures) ∙ ap (λ (w : IoVector). appendOf (a .data-len) (vectorFrom (a .vector .now)) w) (c .before .before .before .before .vector-of2 .ensures) in (c .number .ensures ∙ ap (λ (z : Changed). outcomeNumber (z .outcome)) e, c .before .put-vector-of .ensures ∙ ap (λ (z : Changed). z .vector) e)
+returns c = let a = c .before .before .before .before .before .before .before .args in let e = c .before .before .before .append .ensures ∙ ap (λ (v : IoVector). appendOf (a .data-len) v (c .before .before .before .before .vector-of2 .result)) (c .before .before .before .before .before .vector-of .ensures) ∙ ap (λ (w : IoVector). appendOf (a .data-len) (vectorFrom (a .vector .now)) w) (c .before .before .before .before .vector-of2 .ensures) in (c .number .ensures ∙ ap (λ (z : Changed). outcomeNumber (z .outcome)) e, c .before .put-vector-of .ensures ∙ ap (λ (z : Changed). vectorWords (z .vector)) e)
 
 pub dock-words-vector-append-spec : {M : Type 1} → statement M
 dock-words-vector-append-spec =

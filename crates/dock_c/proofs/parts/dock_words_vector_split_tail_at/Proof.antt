@@ -7,6 +7,7 @@ use Rattle.vectors.specs.Vectors.{splitTailOf}
 use borrow.Author.Needs.{needs}
 use Rattle.dock_c.proofs.parts.dock_words_vector_split_tail_at.Statement.{statement}
 use Rattle.dock_c.proofs.parts.dock_words_vector_split_tail_at.Tie as tie
+use Rattle.dock_words.specs.View.{vectorWords}
 
 vector-of-requires : tie.Need-vector-of-requires
 vector-of-requires c κs = search needs
@@ -21,7 +22,7 @@ number-requires : tie.Need-number-requires
 number-requires c κs = search needs
 
 returns : tie.Need-returns
-returns c = let a = c .before .before .before .before .before .before .args in let e = c .before .before .before .split-tail-at .ensures ∙ ap (λ (v : IoVector). splitTailOf (a .data-len) v (a .mid)) (c .before .before .before .before .vector-of .ensures) in (c .number .ensures ∙ ap (λ (z : Changed). outcomeNumber (z .outcome)) e, c .before .put-vector-of .ensures ∙ ap (λ (z : Changed). z .vector) e)
+returns c = let a = c .before .before .before .before .before .before .args in let e = c .before .before .before .split-tail-at .ensures ∙ ap (λ (v : IoVector). splitTailOf (a .data-len) v (a .mid)) (c .before .before .before .before .vector-of .ensures) in (c .number .ensures ∙ ap (λ (z : Changed). outcomeNumber (z .outcome)) e, c .before .put-vector-of .ensures ∙ ap (λ (z : Changed). vectorWords (z .vector)) e)
 
 pub dock-words-vector-split-tail-at-spec : {M : Type 1} → statement M
 dock-words-vector-split-tail-at-spec =

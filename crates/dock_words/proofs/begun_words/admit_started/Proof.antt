@@ -36,8 +36,8 @@ returns-2 c = let k = c .before .before .before .before .before .before .before 
 enum-told : tie.Need-enum-told
 enum-told c = search needs
 
-with-blocker-requires : tie.Need-with-blocker-requires
-with-blocker-requires c κs = search needs
+enter-blocker-requires : tie.Need-enter-blocker-requires
+enter-blocker-requires c κs = search needs
 
 put-state-at-requires : tie.Need-put-state-at-requires
 put-state-at-requires c κs = search needs
@@ -58,7 +58,7 @@ same-length-7 : tie.Need-same-length-7
 same-length-7 c = search needs
 
 returns-3 : tie.Need-returns-3
-returns-3 c = let k = c .before .before .before .before .before .before .before .before .before .before .before .before .before .before .before .before in ((let a = k .before .before .before .before .before .before .before .before .before .before .args in admit-done (a .blockers .now) (a .states .now) (a .vectors .now) (a .slot) (a .slot * a .settings .bounce) (a .x) (a .v) (a .«data» .now) (a .scratch .now) (sym (k .before .before .before .may-enter .ensures) ∙ not-false _ (k .before .before .if1 .left)) _ _ (k .fill-share .ensures ∙ filled-share (a .slot) (a .settings) (a .buffers) (a .x) (a .v) (a .«data» .now) (a .scratch .now) (k .before .before .before .before .before .before .before .before .before .before .pre .4)) (c .before .before .before .before .before .before .before .before .before .before .before .before .enum-told .given .1) _ _ _ (c .before .before .before .before .before .before .before .before .before .before .with-blocker .ensures .1) (c .before .before .before .before .before .before .put-state-at .ensures) (c .before .before .put-vector-at .ensures)), (done-words _ _ _ refl, done-words _ _ _ refl, done-words _ _ _ refl))
+returns-3 c = let k = c .before .before .before .before .before .before .before .before .before .before .before .before .before .before .before .before in ((let a = k .before .before .before .before .before .before .before .before .before .before .args in admit-done (a .blockers .now) (a .states .now) (a .vectors .now) (a .slot) (a .slot * a .settings .bounce) (a .x) (a .v) (a .«data» .now) (a .scratch .now) (sym (k .before .before .before .may-enter .ensures) ∙ not-false _ (k .before .before .if1 .left)) _ _ (k .fill-share .ensures ∙ filled-share (a .slot) (a .settings) (a .buffers) (a .x) (a .v) (a .«data» .now) (a .scratch .now) (k .before .before .before .before .before .before .before .before .before .before .pre .4)) (c .before .before .before .before .before .before .before .before .before .before .before .before .enum-told .given .1) _ _ _ (c .before .before .before .before .before .before .before .before .before .before .enter-blocker .ensures .1) (c .before .before .before .before .before .before .put-state-at .ensures) (c .before .before .put-vector-at .ensures)), (done-words _ _ _ refl, done-words _ _ _ refl, done-words _ _ _ refl))
 
 pub admit-started-spec : {M : Type 1} → statement M
 admit-started-spec =
@@ -73,7 +73,7 @@ admit-started-spec =
     same-length-3
     returns-2
     enum-told
-    with-blocker-requires
+    enter-blocker-requires
     put-state-at-requires
     put-vector-at-requires
     same-length-4

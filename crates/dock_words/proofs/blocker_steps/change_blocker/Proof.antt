@@ -6,18 +6,18 @@ use borrow.Author.Needs.{needs}
 use Rattle.dock_words.proofs.blocker_steps.change_blocker.Statement.{statement}
 use Rattle.dock_words.proofs.blocker_steps.change_blocker.Tie as tie
 
-without-blocker-requires : tie.Need-without-blocker-requires
-without-blocker-requires c κs = search needs
+leave-blocker-requires : tie.Need-leave-blocker-requires
+leave-blocker-requires c κs = search needs
 
-with-blocker-requires : tie.Need-with-blocker-requires
-with-blocker-requires c κs = search needs
+enter-blocker-requires : tie.Need-enter-blocker-requires
+enter-blocker-requires c κs = search needs
 
 same-length : tie.Need-same-length
 same-length c = search needs
 
 returns : tie.Need-returns
-returns c = let a = c .before .before .before .before .before .before .before .before .before .args in c .before .before .with-blocker .ensures .1 ∙ ap (λ (z : Blockers). blockersWith z (a .slot) (a .y) .blockers) (c .before .before .before .before .before .before .without-blocker .ensures .1)
+returns c = let a = c .before .before .before .before .before .before .before .before .before .args in c .before .before .enter-blocker .ensures .1 ∙ ap (λ (z : Blockers). blockersWith z (a .slot) (a .y) .blockers) (c .before .before .before .before .before .before .leave-blocker .ensures .1)
 
 pub change-blocker-spec : {M : Type 1} → statement M
 change-blocker-spec =
-    tie.close (tie.spec without-blocker-requires with-blocker-requires same-length returns)
+    tie.close (tie.spec leave-blocker-requires enter-blocker-requires same-length returns)

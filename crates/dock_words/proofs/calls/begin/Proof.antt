@@ -26,8 +26,8 @@ first-free-requires c κs = search needs
 plan-asked-requires : tie.Need-plan-asked-requires
 plan-asked-requires c κs = search needs
 
-valid-requires : tie.Need-valid-requires
-valid-requires c κs = search needs
+is-valid-requires : tie.Need-is-valid-requires
+is-valid-requires c κs = search needs
 
 decide-requires : tie.Need-decide-requires
 decide-requires c κs = search needs
@@ -48,7 +48,7 @@ same-length-4 : tie.Need-same-length-4
 same-length-4 c = search needs
 
 returns : tie.Need-returns
-returns c = let k = c .before .before .before .before .before .before .before .before .before .before .before .before .before in ((let a = k .before .before .before .before .before .before .before .before .before .before .before .before .before .before .before .before .before .before .args in begin-there (a .settings .now) (a .blockers .now) (a .states .now) (a .vectors .now) (a .asked) (a .«data» .now) (a .scratch .now) _ (k .before .before .before .before .before .before .before .before .before .before .before .get-settings .ensures) _ (k .before .before .before .before .before .before .before .before .before .before .get-buffers .ensures) _ (k .before .before .before .before .before .before .before .before .before .select-vector .ensures) _ (k .before .before .before .before .before .before .overlaps .ensures) _ (k .before .before .before .before .before .check-lent .ensures) _ (k .before .before .before .first-free .ensures) _ (k .before .before .plan-asked .ensures) _ (k .before .valid .ensures) _ (k .decide .ensures) _ _ _ _ _ (c .before .before .before .before .before .before .before .before .admit .ensures .0)), c .before .before .before .before .before .before .before .before .admit .ensures .1)
+returns c = let k = c .before .before .before .before .before .before .before .before .before .before .before .before .before in ((let a = k .before .before .before .before .before .before .before .before .before .before .before .before .before .before .before .before .before .before .args in begin-there (a .settings .now) (a .blockers .now) (a .states .now) (a .vectors .now) (a .asked) (a .«data» .now) (a .scratch .now) _ (k .before .before .before .before .before .before .before .before .before .before .before .get-settings .ensures) _ (k .before .before .before .before .before .before .before .before .before .before .get-buffers .ensures) _ (k .before .before .before .before .before .before .before .before .before .select-vector .ensures) _ (k .before .before .before .before .before .before .overlaps .ensures) _ (k .before .before .before .before .before .check-lent .ensures) _ (k .before .before .before .first-free .ensures) _ (k .before .before .plan-asked .ensures) _ (k .before .is-valid .ensures) _ (k .decide .ensures) _ _ _ _ _ (c .before .before .before .before .before .before .before .before .admit .ensures .0)), c .before .before .before .before .before .before .before .before .admit .ensures .1)
 
 pub begin-spec : {M : Type 1} → statement M
 begin-spec =
@@ -61,7 +61,7 @@ begin-spec =
     check-lent-requires
     first-free-requires
     plan-asked-requires
-    valid-requires
+    is-valid-requires
     decide-requires
     admit-requires
     same-length

@@ -60,19 +60,19 @@ same-length : tie.Need-same-length
 same-length c = search needs
 
 returns-3 : tie.Need-returns-3
-returns-3 c = ((let a = c .before .before .before .before .before .before .before .before .before .before .before .before .args in not-ended (dockOf (a .settings .now) (a .blockers .now) (a .states .now) (a .vectors .now)) (a .slot) (a .data-len) (a .scratch-len) (rw (← c .before .before .before .before .before .before .before .get-buffers .ensures) (sym (c .before .before .before .before .before .before .lent-fits .ensures) ∙ not-false _ (c .before .before .before .before .before .if1 .left))) (c .before .before .before .before .if2 .left) (rw (← c .before .before .state-at .ensures) (sym (c .before .has-ended .ensures) ∙ not-true _ (c .if3 .taken)))), (same-words _ _, same-words _ _))
+returns-3 c = let k = c .before .before .before .before in ((let a = k .before .before .before .before .before .before .before .before .args in not-ended (dockOf (a .settings .now) (a .blockers .now) (a .states .now) (a .vectors .now)) (a .slot) (a .data-len) (a .scratch-len) (rw (← k .before .before .before .get-buffers .ensures) (sym (k .before .before .lent-fits .ensures) ∙ not-false _ (k .before .if1 .left))) (k .if2 .left) (rw (← c .before .before .state-at .ensures) (sym (c .before .has-ended .ensures) ∙ not-true _ (c .if3 .taken)))), (same-words _ _, same-words _ _))
 
 make-vacant-requires : tie.Need-make-vacant-requires
 make-vacant-requires c κs = search needs
 
 put-state-at-requires : tie.Need-put-state-at-requires
-put-state-at-requires c κs = (c .before .before .before .before .before .before .before .before .before .before .before .before .before .before .pre .1, c .before .before .before .before .before .before .if2 .left)
+put-state-at-requires c κs = (c .before .before .before .before .before .before .before .before .before .before .before .before .before .before .pre .2, c .before .before .before .before .before .before .if2 .left)
 
 new-requires : tie.Need-new-requires
 new-requires c κs = search needs
 
 put-vector-at-requires : tie.Need-put-vector-at-requires
-put-vector-at-requires c κs = (c .before .before .before .before .before .before .before .before .before .before .before .before .before .before .before .before .before .before .before .pre .2, c .before .before .before .before .before .before .before .before .before .before .before .if2 .left)
+put-vector-at-requires c κs = (c .before .before .before .before .before .before .before .before .before .before .before .before .before .before .before .before .before .before .before .pre .3, c .before .before .before .before .before .before .before .before .before .before .before .if2 .left)
 
 same-length-2 : tie.Need-same-length-2
 same-length-2 c = search needs

@@ -47,7 +47,7 @@ due-now-requires : tie.Need-due-now-requires
 due-now-requires c κs = search needs
 
 returns-3 : tie.Need-returns-3
-returns-3 c = let a = c .before .before .before .before .before .before .before .before .before .before .before .before .args in due-there (dockOf (a .settings .now) (a .blockers .now) (a .states .now) (a .vectors .now)) (a .slot) (a .data-len) (a .scratch-len) (rw (← c .before .before .before .before .before .before .before .get-buffers .ensures) (sym (c .before .before .before .before .before .before .lent-fits .ensures) ∙ not-false _ (c .before .before .before .before .before .if1 .left))) (c .before .before .before .before .if2 .left) (c .before .before .before .state-at .ensures) (c .before .before .waits .ensures) (c .before .count-at .ensures) (c .due-now .ensures)
+returns-3 c = let k = c .before .before .before .before in let a = k .before .before .before .before .before .before .before .before .args in due-there (dockOf (a .settings .now) (a .blockers .now) (a .states .now) (a .vectors .now)) (a .slot) (a .data-len) (a .scratch-len) (rw (← k .before .before .before .get-buffers .ensures) (sym (k .before .before .lent-fits .ensures) ∙ not-false _ (k .before .if1 .left))) (k .if2 .left) (c .before .before .before .state-at .ensures) (c .before .before .waits .ensures) (c .before .count-at .ensures) (c .due-now .ensures)
 
 pub next-spec : {M : Type 1} → statement M
 next-spec =

@@ -35,7 +35,7 @@ same-length-4 c = search needs
 
 returns-2 : tie.Need-returns-2
 unfolding openOf
-returns-2 c = done-opening _ _ (c .before .before .before .before .before .before .before .before .before .before .before .before .before .before .before .check-opening .ensures) _ _ _ _ (c .before .before .before .before .before .before .before .before .before .before .before .before .before .enum-told .given .1) _ _ _ _ (c .before .before .before .before .before .before .before .before .set-fresh .ensures)
+returns-2 c = let k = c .before .before .before .before .before .before .before .before in done-opening _ _ (k .before .before .before .before .before .before .before .check-opening .ensures) _ _ _ _ (k .before .before .before .before .before .enum-told .given .1) _ _ _ _ (k .set-fresh .ensures)
 
 pub open-spec : {M : Type 1} → statement M
 open-spec =

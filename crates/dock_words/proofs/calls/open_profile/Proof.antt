@@ -32,7 +32,7 @@ same-length-4 c = search needs
 
 returns : tie.Need-returns
 unfolding openProfileOf
-returns c = let e = sym (c .before .before .before .before .before .before .before .before .before .before .before .before .before .before .before .before .drive-profile .ensures) ∙ c .before .before .before .before .before .before .before .before .before .before .before .before .before .before .align .given .1 in simp e (c .before .before .before .before .before .before .before .before .«open» .ensures)
+returns c = let k = c .before .before .before .before .before .before .before .before in let e = sym (k .before .before .before .before .before .before .before .before .drive-profile .ensures) ∙ k .before .before .before .before .before .before .align .given .1 in simp e (k .«open» .ensures)
 
 returns-2 : tie.Need-returns-2
 unfolding openProfileOf

@@ -11,7 +11,7 @@ use Rattle.vectors.specs.declared.vector.IoVector.{IoVector}
 use Rattle.blockers.specs.Blockers.{noBlockers}
 use Rattle.blockers.specs.declared.Blocker.{Blocker}
 use Rattle.dock.specs.Dock.{vacant, fresh}
-use Rattle.dock_words.specs.View.{settingsWords, stateOf, stageOf, phaseOf, jobOf, courseOf, kindOf, blockerOf, segmentOf, vectorFrom, blockersOf, statesOf, vectorsOf, dockOf}
+use Rattle.dock_words.specs.View.{settingsWords, stateFrom, stageOf, phaseOf, jobOf, courseOf, kindOf, blockerOf, segmentOf, vectorFrom, blockersOf, statesOf, vectorsOf, dockOf}
 use Rattle.dock_words.specs.Rows.{rows-same}
 use borrow.Author.Needs.{needs}
 use Rattle.dock_words.proofs.calls.set_fresh.Statement.{statement}
@@ -23,8 +23,8 @@ unfolding noBlockers blockerOf kindOf
 free-blockers = ap (λ (l : List Blocker). record { slots = l }) (rows-same blockerOf 11 8)
 
 free-states : statesOf (replicate 144 0) ≡ replicate 8 vacant
-unfolding vacant stateOf stageOf phaseOf jobOf courseOf
-free-states = rows-same stateOf 18 8
+unfolding vacant stateFrom stageOf phaseOf jobOf courseOf
+free-states = rows-same stateFrom 18 8
 
 empty-vector : vectorFrom (replicate 34 0) ≡ vectorOf []
 unfolding vectorOf vectorFrom sizeOf

@@ -10,7 +10,7 @@ use mathlib.Core.Bool.{Bool}
 use Rattle.stages.specs.Stages.{isFree}
 use Rattle.dock.specs.Dock.{noState}
 use Rattle.dock_words.specs.Rows.{rows-length}
-use Rattle.dock_words.specs.View.{phaseOf, stateOf, statesOf}
+use Rattle.dock_words.specs.View.{phaseOf, stateFrom, statesOf}
 use Rattle.dock_words.specs.Laws.{phase-word}
 use Rattle.dock.specs.SlotLaws.{NoneFree, lowest-here, lowest-none}
 use Rattle.dock_words.proofs.state_words.first_free.Statement.{statement}
@@ -48,7 +48,7 @@ is-free-requires : tie.Need-is-free-requires Inv-loop μ-loop
 is-free-requires c κs = search needs
 
 returns : tie.Need-returns Inv-loop μ-loop
-returns c = lowest-here (statesOf (c .before .before .before .before .before .before .before .args .states .now)) (c .before .before .before .before .before .loop .i) (c .before .before .before .before .before .loop .inv .1) (rw (rows-length stateOf 18 8 (c .before .before .before .before .before .before .before .args .states .now)) (search needs)) (read (c .before) _ (c .if1 .taken))
+returns c = lowest-here (statesOf (c .before .before .before .before .before .before .before .args .states .now)) (c .before .before .before .before .before .loop .i) (c .before .before .before .before .before .loop .inv .1) (rw (rows-length stateFrom 18 8 (c .before .before .before .before .before .before .before .args .states .now)) (search needs)) (read (c .before) _ (c .if1 .taken))
 
 add-i : tie.Need-add-i Inv-loop μ-loop
 add-i c = search needs
@@ -61,7 +61,7 @@ loop-again c = (search needs, below-more _ _ (c .before .before .before .before 
 
 returns-2 : tie.Need-returns-2 Inv-loop μ-loop
 returns-2 c = let w = c .before .before .before .args .states .now in
-    let l : length (statesOf w) ≡ c .before .loop .i = rows-length stateOf 18 8 w ∙ omega arith in
+    let l : length (statesOf w) ≡ c .before .loop .i = rows-length stateFrom 18 8 w ∙ omega arith in
     sym l ∙ lowest-none (statesOf w) (rw l (c .before .loop .inv .1))
 
 pub first-free-spec : {M : Type 1} → statement M

@@ -32,7 +32,7 @@ same-length : tie.Need-same-length
 same-length c = simp length-set (search needs)
 
 returns : tie.Need-returns
-returns c = rw (c .before .before .before .before .put-range4 .ensures, c .before .before .before .before .before .before .before .before .put-range3 .ensures, c .before .before .before .before .before .before .before .before .before .before .before .before .put-range2 .ensures, c .before .before .before .before .before .before .before .before .before .before .before .before .before .before .before .before .put-range .ensures, c .flag-word .ensures, c .before .size-word .ensures)
+returns c = let k = c .before .before .before .before .before .before .before .before in rw (c .before .before .before .before .put-range4 .ensures, k .put-range3 .ensures, k .before .before .before .before .put-range2 .ensures, k .before .before .before .before .before .before .before .before .put-range .ensures, c .flag-word .ensures, c .before .size-word .ensures)
 
 pub put-stage-spec : {M : Type 1} → statement M
 put-stage-spec =

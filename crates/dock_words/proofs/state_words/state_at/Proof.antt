@@ -1,7 +1,7 @@
 -- `dock_words::state_words::state_at` meets its contract: the slot's row, decoded, is its state. Assumes nothing.
 use mathlib.Core.Path.{sym, ap, _∙_}
 use Rattle.dock_words.specs.Rows.{row-part}
-use Rattle.dock_words.specs.View.{stateOf}
+use Rattle.dock_words.specs.View.{stateFrom}
 use Rattle.dock_words.specs.Laws.{state-row}
 use borrow.Author.Needs.{needs}
 use Rattle.dock_words.proofs.state_words.state_at.Statement.{statement}
@@ -29,7 +29,7 @@ get-state-requires : tie.Need-get-state-requires
 get-state-requires c κs = search needs
 
 returns : tie.Need-returns
-returns c = let s = c .before .before .before in let w = s .args .states .now in c .get-state .ensures ∙ ap stateOf (row-part 18 (s .args .slot) w) ∙ sym (state-row w (s .args .slot) (s .pre .1))
+returns c = let s = c .before .before .before in let w = s .args .states .now in c .get-state .ensures ∙ ap stateFrom (row-part 18 (s .args .slot) w) ∙ sym (state-row w (s .args .slot) (s .pre .1))
 
 pub state-at-spec : {M : Type 1} → statement M
 state-at-spec =

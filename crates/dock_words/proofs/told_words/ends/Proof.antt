@@ -38,10 +38,10 @@ same-length-3 : tie.Need-same-length-3
 same-length-3 c = search needs
 
 returns-2 : tie.Need-returns-2
-returns-2 c = ((let a = c .before .before .before .before .before .before .before .before .before .before .before .before .before .before .args in ends-refused (a .blockers .now) (a .states .now) (a .slot) (a .slot * a .settings .bounce) (a .x) (a .code) (a .y) (getD (vectorsOf (a .vectors .now)) (a .slot) noVector) (a .«data» .now) (a .scratch .now) (sym (c .before .before .before .before .before .before .before .may-leave .ensures) ∙ not-false _ (c .before .before .before .before .before .before .if1 .left)) _ _ (c .before .before .before .before .hand-out .ensures ∙ handed-share (a .slot) (a .settings) (a .buffers) (a .x) (a .code) (getD (vectorsOf (a .vectors .now)) (a .slot) noVector) (a .«data» .now) (a .scratch .now) (c .before .before .before .before .before .before .before .before .before .before .before .before .before .before .pre .4)) _ (c .enum-told2 .given .1)), (same-words _ _, same-words _ _))
+returns-2 c = let k = c .before .before .before .before .before .before in ((let a = k .before .before .before .before .before .before .before .before .args in ends-refused (a .blockers .now) (a .states .now) (a .slot) (a .slot * a .settings .bounce) (a .x) (a .code) (a .y) (getD (vectorsOf (a .vectors .now)) (a .slot) noVector) (a .«data» .now) (a .scratch .now) (sym (k .before .may-leave .ensures) ∙ not-false _ (k .if1 .left)) _ _ (c .before .before .before .before .hand-out .ensures ∙ handed-share (a .slot) (a .settings) (a .buffers) (a .x) (a .code) (getD (vectorsOf (a .vectors .now)) (a .slot) noVector) (a .«data» .now) (a .scratch .now) (k .before .before .before .before .before .before .before .before .pre .4)) _ (c .enum-told2 .given .1)), (same-words _ _, same-words _ _))
 
-without-blocker-requires : tie.Need-without-blocker-requires
-without-blocker-requires c κs = search needs
+leave-blocker-requires : tie.Need-leave-blocker-requires
+leave-blocker-requires c κs = search needs
 
 put-state-at-requires : tie.Need-put-state-at-requires
 put-state-at-requires c κs = search needs
@@ -56,7 +56,7 @@ same-length-6 : tie.Need-same-length-6
 same-length-6 c = search needs
 
 returns-3 : tie.Need-returns-3
-returns-3 c = let k = c .before .before .before .before .before .before .before .before .before .before .before .before in ((let a = k .before .before .before .before .before .before .before .before .before .before .args in ends-done (a .blockers .now) (a .states .now) (a .slot) (a .slot * a .settings .bounce) (a .x) (a .code) (a .y) (getD (vectorsOf (a .vectors .now)) (a .slot) noVector) (a .«data» .now) (a .scratch .now) (sym (k .before .before .before .may-leave .ensures) ∙ not-false _ (k .before .before .if1 .left)) _ _ (k .hand-out .ensures ∙ handed-share (a .slot) (a .settings) (a .buffers) (a .x) (a .code) (getD (vectorsOf (a .vectors .now)) (a .slot) noVector) (a .«data» .now) (a .scratch .now) (k .before .before .before .before .before .before .before .before .before .before .pre .4)) (c .before .before .before .before .before .before .before .before .enum-told .given .1) _ (c .before .before .before .before .before .before .without-blocker .ensures .0) _ _ (c .before .before .before .before .before .before .without-blocker .ensures .1) (c .before .before .put-state-at .ensures)), let e = ap isDone (c .before .before .before .before .before .before .without-blocker .ensures .0) ∙ sym (k .before .before .before .may-leave .ensures) ∙ not-false _ (k .before .before .if1 .left) in (done-words _ _ _ e, done-words _ _ _ e))
+returns-3 c = let k = c .before .before .before .before .before .before .before .before .before .before .before .before in ((let a = k .before .before .before .before .before .before .before .before .before .before .args in ends-done (a .blockers .now) (a .states .now) (a .slot) (a .slot * a .settings .bounce) (a .x) (a .code) (a .y) (getD (vectorsOf (a .vectors .now)) (a .slot) noVector) (a .«data» .now) (a .scratch .now) (sym (k .before .before .before .may-leave .ensures) ∙ not-false _ (k .before .before .if1 .left)) _ _ (k .hand-out .ensures ∙ handed-share (a .slot) (a .settings) (a .buffers) (a .x) (a .code) (getD (vectorsOf (a .vectors .now)) (a .slot) noVector) (a .«data» .now) (a .scratch .now) (k .before .before .before .before .before .before .before .before .before .before .pre .4)) (c .before .before .before .before .before .before .before .before .enum-told .given .1) _ (c .before .before .before .before .before .before .leave-blocker .ensures .0) _ _ (c .before .before .before .before .before .before .leave-blocker .ensures .1) (c .before .before .put-state-at .ensures)), let e = ap isDone (c .before .before .before .before .before .before .leave-blocker .ensures .0) ∙ sym (k .before .before .before .may-leave .ensures) ∙ not-false _ (k .before .before .if1 .left) in (done-words _ _ _ e, done-words _ _ _ e))
 
 pub ends-spec : {M : Type 1} → statement M
 ends-spec =
@@ -71,7 +71,7 @@ ends-spec =
     same-length-2
     same-length-3
     returns-2
-    without-blocker-requires
+    leave-blocker-requires
     put-state-at-requires
     same-length-4
     same-length-5

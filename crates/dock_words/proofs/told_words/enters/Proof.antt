@@ -37,7 +37,7 @@ same-length-3 : tie.Need-same-length-3
 same-length-3 c = search needs
 
 returns-2 : tie.Need-returns-2
-returns-2 c = ((let a = c .before .before .before .before .before .before .before .before .before .before .before .before .before .before .args in enters-refused (a .blockers .now) (a .states .now) (a .slot) (a .slot * a .settings .bounce) (a .x) (a .y) (getD (vectorsOf (a .vectors .now)) (a .slot) noVector) (a .«data» .now) (a .scratch .now) (sym (c .before .before .before .before .before .before .before .may-change .ensures) ∙ not-false _ (c .before .before .before .before .before .before .if1 .left)) _ _ (c .before .before .before .before .fill .ensures ∙ filled-share (a .slot) (a .settings) (a .buffers) (a .y) (getD (vectorsOf (a .vectors .now)) (a .slot) noVector) (a .«data» .now) (a .scratch .now) (c .before .before .before .before .before .before .before .before .before .before .before .before .before .before .pre .4)) _ (c .enum-told2 .given .1)), (same-words _ _, same-words _ _))
+returns-2 c = let k = c .before .before .before .before .before .before in ((let a = k .before .before .before .before .before .before .before .before .args in enters-refused (a .blockers .now) (a .states .now) (a .slot) (a .slot * a .settings .bounce) (a .x) (a .y) (getD (vectorsOf (a .vectors .now)) (a .slot) noVector) (a .«data» .now) (a .scratch .now) (sym (k .before .may-change .ensures) ∙ not-false _ (k .if1 .left)) _ _ (c .before .before .before .before .fill .ensures ∙ filled-share (a .slot) (a .settings) (a .buffers) (a .y) (getD (vectorsOf (a .vectors .now)) (a .slot) noVector) (a .«data» .now) (a .scratch .now) (k .before .before .before .before .before .before .before .before .pre .4)) _ (c .enum-told2 .given .1)), (same-words _ _, same-words _ _))
 
 change-blocker-requires : tie.Need-change-blocker-requires
 change-blocker-requires c κs = search needs

@@ -36,7 +36,7 @@ same-length-3 : tie.Need-same-length-3
 same-length-3 c = search needs
 
 returns-2 : tie.Need-returns-2
-returns-2 c = ((let a = c .before .before .before .before .before .before .before .before .before .before .before .before .before .before .before .args in stays-done (a .blockers .now) (a .states .now) (a .slot) (a .slot * a .settings .bounce) (a .y) (getD (vectorsOf (a .vectors .now)) (a .slot) noVector) (a .«data» .now) (a .scratch .now) _ _ (c .before .before .before .before .before .before .before .before .fill .ensures ∙ filled-share (a .slot) (a .settings) (a .buffers) (a .y) (getD (vectorsOf (a .vectors .now)) (a .slot) noVector) (a .«data» .now) (a .scratch .now) (c .before .before .before .before .before .before .before .before .before .before .before .before .before .before .before .pre .3)) (c .before .before .before .before .enum-told .given .1) _ (c .before .before .put-state-at .ensures)), done-words _ _ _ refl)
+returns-2 c = let k = c .before .before .before .before .before .before .before .before in ((let a = k .before .before .before .before .before .before .before .args in stays-done (a .blockers .now) (a .states .now) (a .slot) (a .slot * a .settings .bounce) (a .y) (getD (vectorsOf (a .vectors .now)) (a .slot) noVector) (a .«data» .now) (a .scratch .now) _ _ (k .fill .ensures ∙ filled-share (a .slot) (a .settings) (a .buffers) (a .y) (getD (vectorsOf (a .vectors .now)) (a .slot) noVector) (a .«data» .now) (a .scratch .now) (k .before .before .before .before .before .before .before .pre .3)) (c .before .before .before .before .enum-told .given .1) _ (c .before .before .put-state-at .ensures)), done-words _ _ _ refl)
 
 pub stays-spec : {M : Type 1} → statement M
 stays-spec =

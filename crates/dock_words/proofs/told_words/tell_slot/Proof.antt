@@ -38,14 +38,14 @@ enum-known-answer c = search needs
 enum-known-answer-2 : tie.Need-enum-known-answer-2
 enum-known-answer-2 c = search needs
 
-step-requires : tie.Need-step-requires
-step-requires c κs = let k = c .before .before .before .before .before .before .before .before .before .before .before .before .before .before .before .before .before .before in let a = k .args in (k .pre .0, k .pre .1, k .pre .2, k .pre .3, leads-sound (a .slot) (a .s) (a .l) (a .x) (a .code) (length (a .«data» .now)) (length (a .scratch .now)) (k .pre .3) (k .pre .4) (sym (c .before .before .before .before .before .before .before .before .before .is-sound-in .ensures) ∙ not-false _ (c .before .before .before .before .before .before .before .before .if2 .left)) _ (sym (c .before .before .before .before .before .before .before .interpret-code .ensures) ∙ c .before .before .before .before .before .answer2 .given .1))
+take-step-requires : tie.Need-take-step-requires
+take-step-requires c κs = let k = c .before .before .before .before .before .before .before .before .before .before .before .before .before .before .before .before .before .before in let a = k .args in (k .pre .0, k .pre .1, k .pre .2, k .pre .3, leads-sound (a .slot) (a .s) (a .l) (a .x) (a .code) (length (a .«data» .now)) (length (a .scratch .now)) (k .pre .3) (k .pre .4) (sym (c .before .before .before .before .before .before .before .before .before .is-sound-in .ensures) ∙ not-false _ (c .before .before .before .before .before .before .before .before .if2 .left)) _ (sym (c .before .before .before .before .before .before .before .interpret-code .ensures) ∙ c .before .before .before .before .before .answer2 .given .1))
 
 same-length-3 : tie.Need-same-length-3
 same-length-3 c = search needs
 
 returns-3 : tie.Need-returns-3
-returns-3 c = ((let a = c .before .before .before .before .before .before .before .before .before .before .before .before .before .before .args in told-no-answer (a .b .now) (a .xs .now) (a .slot) (a .s) (a .l) (a .x) (getD (vectorsOf (a .vs .now)) (a .slot) noVector) (a .code) (a .«data» .now) (a .scratch .now) (sym (c .before .before .before .before .before .before .before .is-out .ensures) ∙ not-false _ (c .before .before .before .before .before .before .if1 .left)) (sym (c .before .before .before .before .before .is-sound-in .ensures) ∙ not-false _ (c .before .before .before .before .if2 .left)) _ (c .before .before .before .interpret-code .ensures) _ (c .before .answer .given .1)), (same-words _ _, same-words _ _))
+returns-3 c = let k = c .before .before .before .before in ((let a = k .before .before .before .before .before .before .before .before .before .before .args in told-no-answer (a .b .now) (a .xs .now) (a .slot) (a .s) (a .l) (a .x) (getD (vectorsOf (a .vs .now)) (a .slot) noVector) (a .code) (a .«data» .now) (a .scratch .now) (sym (k .before .before .before .is-out .ensures) ∙ not-false _ (k .before .before .if1 .left)) (sym (k .before .is-sound-in .ensures) ∙ not-false _ (k .if2 .left)) _ (c .before .before .before .interpret-code .ensures) _ (c .before .answer .given .1)), (same-words _ _, same-words _ _))
 
 same-length-4 : tie.Need-same-length-4
 same-length-4 c = search needs
@@ -60,7 +60,7 @@ same-length-7 : tie.Need-same-length-7
 same-length-7 c = search needs
 
 returns-4 : tie.Need-returns-4
-returns-4 c = let k = c .before .before .before .before .before .before .before .before .before .before .before .before .before .before in ((let a = k .before .before .before .before .before .before .before .before .before .before .before .before .before .args in told-leads (a .b .now) (a .xs .now) (a .slot) (a .s) (a .l) (a .x) (getD (vectorsOf (a .vs .now)) (a .slot) noVector) (a .code) (a .«data» .now) (a .scratch .now) (sym (k .before .before .before .before .before .before .is-out .ensures) ∙ not-false _ (k .before .before .before .before .before .if1 .left)) (sym (k .before .before .before .before .is-sound-in .ensures) ∙ not-false _ (k .before .before .before .if2 .left)) _ (k .before .before .interpret-code .ensures) _ (k .answer2 .given .1) _ (c .before .before .before .before .before .before .before .before .step .ensures .0)), c .before .before .before .before .before .before .before .before .step .ensures .1)
+returns-4 c = let k = c .before .before .before .before .before .before .before .before .before .before .before .before .before .before in ((let a = k .before .before .before .before .before .before .before .before .before .before .before .before .before .args in told-leads (a .b .now) (a .xs .now) (a .slot) (a .s) (a .l) (a .x) (getD (vectorsOf (a .vs .now)) (a .slot) noVector) (a .code) (a .«data» .now) (a .scratch .now) (sym (k .before .before .before .before .before .before .is-out .ensures) ∙ not-false _ (k .before .before .before .before .before .if1 .left)) (sym (k .before .before .before .before .is-sound-in .ensures) ∙ not-false _ (k .before .before .before .if2 .left)) _ (k .before .before .interpret-code .ensures) _ (k .answer2 .given .1) _ (c .before .before .before .before .before .before .before .before .take-step .ensures .0)), c .before .before .before .before .before .before .before .before .take-step .ensures .1)
 
 pub tell-slot-spec : {M : Type 1} → statement M
 tell-slot-spec =
@@ -75,7 +75,7 @@ tell-slot-spec =
     interpret-code-requires
     enum-known-answer
     enum-known-answer-2
-    step-requires
+    take-step-requires
     same-length-3
     returns-3
     same-length-4

@@ -20,11 +20,11 @@ shared-slice-read-is-digit c = search needs
 is-digit-requires : tie.Need-is-digit-requires Inv-loop μ-loop
 is-digit-requires c κs = search needs
 
-shared-slice-read-longer : tie.Need-shared-slice-read-longer Inv-loop μ-loop
-shared-slice-read-longer c = search needs
+shared-slice-read-add-digit : tie.Need-shared-slice-read-add-digit Inv-loop μ-loop
+shared-slice-read-add-digit c = search needs
 
-longer-requires : tie.Need-longer-requires Inv-loop μ-loop
-longer-requires c κs = search needs
+add-digit-requires : tie.Need-add-digit-requires Inv-loop μ-loop
+add-digit-requires c κs = search needs
 
 enum-known-y : tie.Need-enum-known-y Inv-loop μ-loop
 enum-known-y c = search needs
@@ -59,8 +59,8 @@ number-at-spec =
     loop-holds
     shared-slice-read-is-digit
     is-digit-requires
-    shared-slice-read-longer
-    longer-requires
+    shared-slice-read-add-digit
+    add-digit-requires
     enum-known-y
     enum-told
     returns

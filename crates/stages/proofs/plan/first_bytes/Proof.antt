@@ -5,7 +5,6 @@ use native.Mathlib.Omega.{arith}
 use Rattle.arithmetic.specs.Offsets.{storeAt, on-store-at}
 use Rattle.arithmetic.specs.RoundingLaws.{fits-true}
 use Rattle.arithmetic.specs.declared.offsets.StoreOffset.{StoreOffset}
-use Rattle.arithmetic.specs.declared.offsets.Range.{Range}
 use Rattle.arithmetic.specs.declared.offsets.OnStore.the-variants.{At}
 use borrow.Author.Needs.{needs}
 use Rattle.stages.proofs.plan.first_bytes.Statement.{statement}

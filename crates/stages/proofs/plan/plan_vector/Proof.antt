@@ -13,11 +13,11 @@ use Rattle.stages.proofs.plan.plan_vector.Statement.{statement}
 use Rattle.stages.proofs.plan.plan_vector.Tie as tie
 
 -- the plan by the call's transfer
-by : (c : tie.After-direct-or-padded) (x : Transfer) {p : Plan} → let a = c .before .before .args in c .direct-or-padded .result ≡ x → p ≡ vectorBy (a .settings) (a .job) (a .direct) (a .offset) (a .n) x
+by : (c : tie.After-plan-transfer) (x : Transfer) {p : Plan} → let a = c .before .before .args in c .plan-transfer .result ≡ x → p ≡ vectorBy (a .settings) (a .job) (a .direct) (a .offset) (a .n) x
     → p ≡ vectorPlan (a .settings) (a .job) (a .direct) (a .offset) (a .n) (a .aligned)
 by c x e q =
     let a = c .before .before .args in
-    vector-by (a .settings) (a .job) (a .direct) (a .offset) (a .n) (a .aligned) x (c .before .if1 .left) (sym (c .direct-or-padded .ensures) ∙ e) q
+    vector-by (a .settings) (a .job) (a .direct) (a .offset) (a .n) (a .aligned) x (c .before .if1 .left) (sym (c .plan-transfer .ensures) ∙ e) q
 
 abbrev span : tie.After-transfer2 → Span
 span c = c .transfer2 .given .0 .0
@@ -25,13 +25,13 @@ span c = c .transfer2 .given .0 .0
 spans : (c : tie.After-transfer2) → let a = c .before .before .before .before .before .args in Spans (a .settings .align) (a .offset .0) (a .n) (span c)
 spans c =
     let a = c .before .before .before .before .before .args in
-    bounced (a .settings .align) (a .offset) (a .n) (a .aligned) (span c) (sym (c .before .before .before .direct-or-padded .ensures) ∙ c .transfer2 .given .1)
+    bounced (a .settings .align) (a .offset) (a .n) (a .aligned) (span c) (sym (c .before .before .before .plan-transfer .ensures) ∙ c .transfer2 .given .1)
 
 returns : tie.Need-returns
 returns c = let a = c .before .args in nothing-moved (a .settings) (a .job) (a .direct) (a .offset) (a .n) (a .aligned) (c .if1 .taken)
 
-direct-or-padded-requires : tie.Need-direct-or-padded-requires
-direct-or-padded-requires c κs = tt
+plan-transfer-requires : tie.Need-plan-transfer-requires
+plan-transfer-requires c κs = tt
 
 enum-known-transfer : tie.Need-enum-known-transfer
 enum-known-transfer c = c .match .keys1
@@ -95,7 +95,7 @@ plan-vector-spec =
     tie.close
     (tie.spec
     returns
-    direct-or-padded-requires
+    plan-transfer-requires
     enum-known-transfer
     nowhere-requires
     direct-stage-requires

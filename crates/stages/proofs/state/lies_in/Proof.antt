@@ -9,8 +9,8 @@ second-at-requires c κs = tt
 size-requires : tie.Need-size-requires
 size-requires c κs = tt
 
-both-within-requires : tie.Need-both-within-requires
-both-within-requires c κs = tt
+is-sum-within-requires : tie.Need-is-sum-within-requires
+is-sum-within-requires c κs = tt
 
 size-requires-2 : tie.Need-size-requires-2
 size-requires-2 c κs = tt
@@ -18,15 +18,15 @@ size-requires-2 c κs = tt
 size-requires-3 : tie.Need-size-requires-3
 size-requires-3 c κs = tt
 
-both-within-requires-2 : tie.Need-both-within-requires-2
-both-within-requires-2 c κs = tt
+is-sum-within-requires-2 : tie.Need-is-sum-within-requires-2
+is-sum-within-requires-2 c κs = tt
 
 size-requires-4 : tie.Need-size-requires-4
 size-requires-4 c κs = tt
 
 returns : tie.Need-returns
 unfolding liesIn
-returns c = rw (c .before .before .before .before .both-within .ensures, c .before .both-within2 .ensures, c .before .before .before .before .before .size .ensures, c .size4 .ensures, c .before .before .before .size2 .ensures, c .before .before .before .before .before .before .second-at .ensures, c .before .before .size3 .ensures)
+returns c = rw (c .before .before .before .before .is-sum-within .ensures, c .before .is-sum-within2 .ensures, c .before .before .before .before .before .size .ensures, c .size4 .ensures, c .before .before .before .size2 .ensures, c .before .before .before .before .before .before .second-at .ensures, c .before .before .size3 .ensures)
 
 pub lies-in-spec : {M : Type 1} → statement M
 lies-in-spec =
@@ -34,9 +34,9 @@ lies-in-spec =
     (tie.spec
     second-at-requires
     size-requires
-    both-within-requires
+    is-sum-within-requires
     size-requires-2
     size-requires-3
-    both-within-requires-2
+    is-sum-within-requires-2
     size-requires-4
     returns)

@@ -1,4 +1,4 @@
--- `dock::dock::Dock::begin` meets its contract: the loop finds whether the vector meets another; what the slot's begin leaves is stored where it is placed. Assumes nothing.
+-- `dock::dock::Dock::begin` meets its contract: the loop finds whether the vector meets another; what the slot's begin leaves is stored where it is admitted. Assumes nothing.
 use denote.Ref.{now}
 use mathlib.Core.Path.{_≡_, _∙_}
 use mathlib.Core.Bool.{_||_}
@@ -78,8 +78,8 @@ first-free-requires c κs = tt
 plan-asked-requires : tie.Need-plan-asked-requires Inv-loop μ-loop
 plan-asked-requires c κs = tt
 
-valid-requires : tie.Need-valid-requires Inv-loop μ-loop
-valid-requires c κs = tt
+is-valid-requires : tie.Need-is-valid-requires Inv-loop μ-loop
+is-valid-requires c κs = tt
 
 decide-requires : tie.Need-decide-requires Inv-loop μ-loop
 decide-requires c κs = tt
@@ -94,13 +94,13 @@ same-length : tie.Need-same-length Inv-loop μ-loop
 same-length c = search needs
 
 returns : tie.Need-returns Inv-loop μ-loop
-returns c = let k = c .before .before .before .before .before .before .before .before .before .before .before in let a = k .before .before .before .before .before .before .before .before .before .args in begin-not-admitted (a .t1) (a .asked) (now (a .«data»)) (now (a .scratch)) _ (k .before .before .before .before .select-vector .ensures) _ (met-all (a .t1 .states) (a .t1 .vectors) (a .asked .job) (k .before .before .before .before .select-vector .result) _ (k .before .before .loop .i) (last (k .before)) (k .before .before .loop .inv .1)) _ (k .check-lent .ensures) _ (c .before .before .before .before .before .before .before .before .before .first-free .ensures) _ (c .before .before .before .before .before .before .before .before .plan-asked .ensures) _ (c .before .before .before .before .before .before .before .valid .ensures) _ (c .before .before .before .before .before .before .decide .ensures) _ _ (c .before .before .before .admit .ensures) (λ p e. admitNone _ p (c .match .keys2) e)
+returns c = let k = c .before .before .before .before .before .before .before .before .before .before .before in let a = k .before .before .before .before .before .before .before .before .before .args in begin-not-admitted (a .t1) (a .asked) (now (a .«data»)) (now (a .scratch)) _ (k .before .before .before .before .select-vector .ensures) _ (met-all (a .t1 .states) (a .t1 .vectors) (a .asked .job) (k .before .before .before .before .select-vector .result) _ (k .before .before .loop .i) (last (k .before)) (k .before .before .loop .inv .1)) _ (k .check-lent .ensures) _ (c .before .before .before .before .before .before .before .before .before .first-free .ensures) _ (c .before .before .before .before .before .before .before .before .plan-asked .ensures) _ (c .before .before .before .before .before .before .before .is-valid .ensures) _ (c .before .before .before .before .before .before .decide .ensures) _ _ (c .before .before .before .admit .ensures) (λ p e. admitNone _ p (c .match .keys2) e)
 
 -- the slot that was found free is one of the eight
 slot : (c : tie.After-state Inv-loop μ-loop) → c .before .before .before .answer .given .0 .0 < 8
 slot c =
     let a = c .before .before .before .before .before .before .before .before .before .before .before .before .before .before .before .before .before .before .before .before .before .before .before .before .args in
-    admitted-at (a .t1 .blockers) (a .t1 .settings .bounce) (c .before .before .before .before .before .before .before .before .before .before .before .before .before .before .before .before .before .before .before .select-vector .result) (now (a .«data»)) (now (a .scratch)) (c .before .before .before .before .before .before .before .before .before .before .before .before .before .before .before .check-lent .result) (c .before .before .before .before .before .before .before .before .before .before .before .valid .result) (c .before .before .before .before .before .before .before .before .before .before .before .before .plan-asked .result) (c .before .before .before .before .before .before .before .before .before .before .before .before .before .before .before .before .before .loop .met) (c .before .before .before .before .before .before .before .before .before .before .before .before .before .first-free .result) (c .before .before .before .before .before .before .before .before .before .before .decide .result) (c .before .before .before .before .before .before .before .before .before .before .decide .ensures) _ _ (c .before .before .before .before .before .before .before .admit .ensures) _ (c .before .before .before .answer .given .1)
+    admitted-at (a .t1 .blockers) (a .t1 .settings .bounce) (c .before .before .before .before .before .before .before .before .before .before .before .before .before .before .before .before .before .before .before .select-vector .result) (now (a .«data»)) (now (a .scratch)) (c .before .before .before .before .before .before .before .before .before .before .before .before .before .before .before .check-lent .result) (c .before .before .before .before .before .before .before .before .before .before .before .is-valid .result) (c .before .before .before .before .before .before .before .before .before .before .before .before .plan-asked .result) (c .before .before .before .before .before .before .before .before .before .before .before .before .before .before .before .before .before .loop .met) (c .before .before .before .before .before .before .before .before .before .before .before .before .before .first-free .result) (c .before .before .before .before .before .before .before .before .before .before .decide .result) (c .before .before .before .before .before .before .before .before .before .before .decide .ensures) _ _ (c .before .before .before .before .before .before .before .admit .ensures) _ (c .before .before .before .answer .given .1)
 
 mul-state : tie.Need-mul-state Inv-loop μ-loop
 mul-state c = omega (arith, slot c)
@@ -118,7 +118,7 @@ same-length-2 : tie.Need-same-length-2 Inv-loop μ-loop
 same-length-2 c = search needs
 
 returns-2 : tie.Need-returns-2 Inv-loop μ-loop
-returns-2 c = let k = c .before .before .before .before .before .before .before .before .before .before in let a = k .before .before .before .before .before .before .before .before .before .before .before .before .before .before .args in begin-admitted (a .t1) (a .asked) (now (a .«data»)) (now (a .scratch)) _ (k .before .before .before .before .before .before .before .before .before .select-vector .ensures) _ (met-all (a .t1 .states) (a .t1 .vectors) (a .asked .job) (k .before .before .before .before .before .before .before .before .before .select-vector .result) _ (k .before .before .before .before .before .before .before .loop .i) (last (k .before .before .before .before .before .before)) (k .before .before .before .before .before .before .before .loop .inv .1)) _ (k .before .before .before .before .before .check-lent .ensures) _ (k .before .before .before .first-free .ensures) _ (k .before .before .plan-asked .ensures) _ (k .before .valid .ensures) _ (k .decide .ensures) _ _ (c .before .before .before .before .before .before .before .admit .ensures) _ (c .before .before .before .answer .given .1)
+returns-2 c = let k = c .before .before .before .before .before .before .before .before .before .before in let a = k .before .before .before .before .before .before .before .before .before .before .before .before .before .before .args in begin-admitted (a .t1) (a .asked) (now (a .«data»)) (now (a .scratch)) _ (k .before .before .before .before .before .before .before .before .before .select-vector .ensures) _ (met-all (a .t1 .states) (a .t1 .vectors) (a .asked .job) (k .before .before .before .before .before .before .before .before .before .select-vector .result) _ (k .before .before .before .before .before .before .before .loop .i) (last (k .before .before .before .before .before .before)) (k .before .before .before .before .before .before .before .loop .inv .1)) _ (k .before .before .before .before .before .check-lent .ensures) _ (k .before .before .before .first-free .ensures) _ (k .before .before .plan-asked .ensures) _ (k .before .is-valid .ensures) _ (k .decide .ensures) _ _ (c .before .before .before .before .before .before .before .admit .ensures) _ (c .before .before .before .answer .given .1)
 
 pub begin-spec : {M : Type 1} → statement M
 begin-spec =
@@ -140,7 +140,7 @@ begin-spec =
     check-lent-requires
     first-free-requires
     plan-asked-requires
-    valid-requires
+    is-valid-requires
     decide-requires
     admit-requires
     enum-known-answer

@@ -84,7 +84,7 @@ element-set-from-none : tie.Need-element-set-from-none
 element-set-from-none c = search needs
 
 returns-4 : tie.Need-returns-4
-returns-4 c = collected (c .before .before .before .before .before .before .before .before .before .before .before .args .t1) (c .before .before .before .before .before .before .before .before .before .before .before .args .slot) _ _ (fit-is (c .before .before .before .before .before .before)) (c .before .make-vacant .result) (c .new .result) (c .before .before .before .before .before .if2 .left) (sym (c .before .before .before .has-ended .ensures) ∙ not-false _ (c .before .before .if3 .left)) (c .before .make-vacant .ensures) (c .new .ensures)
+returns-4 c = let k = c .before .before .before .before .before in collected (k .before .before .before .before .before .before .args .t1) (k .before .before .before .before .before .before .args .slot) _ _ (fit-is (k .before)) (c .before .make-vacant .result) (c .new .result) (k .if2 .left) (sym (c .before .before .before .has-ended .ensures) ∙ not-false _ (c .before .before .if3 .left)) (c .before .make-vacant .ensures) (c .new .ensures)
 
 pub collect-spec : {M : Type 1} → statement M
 collect-spec =

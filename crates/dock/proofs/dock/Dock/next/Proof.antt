@@ -54,7 +54,7 @@ due-now-requires : tie.Need-due-now-requires
 due-now-requires c κs = search needs
 
 returns-3 : tie.Need-returns-3
-returns-3 c = due-there (c .before .before .before .before .before .before .before .before .before .before .before .args .t1) (c .before .before .before .before .before .before .before .before .before .before .before .args .slot) _ _ (fit-is (c .before .before .before .before .before .before)) (c .before .before .before .before .before .if2 .left) (c .before .waits .ensures) (c .due-now .ensures)
+returns-3 c = let k = c .before .before .before .before .before in due-there (k .before .before .before .before .before .before .args .t1) (k .before .before .before .before .before .before .args .slot) _ _ (fit-is (k .before)) (k .if2 .left) (c .before .waits .ensures) (c .due-now .ensures)
 
 pub next-spec : {M : Type 1} → statement M
 next-spec =

@@ -1,5 +1,5 @@
 -- `stages::state::Stage::second_at` meets its contract: behind the request's start it lies as many bytes in, before it there is none. Assumes nothing.
-use mathlib.Core.Path.{_≡_, sym, ap, _∙_}
+use mathlib.Core.Path.{_≡_, ap}
 use Prim.Native.Nat.{ℕ, _-_, _≤_, _<_}
 use native.Mathlib.Decide.{decLt}
 use native.Mathlib.Omega.{arith}

@@ -58,14 +58,14 @@ enum-told c = c .match .keys1
 pass-first-read-requires : tie.Need-pass-first-read-requires
 pass-first-read-requires c κs = tt
 
-in-phase-requires : tie.Need-in-phase-requires
-in-phase-requires c κs = tt
+set-phase-requires : tie.Need-set-phase-requires
+set-phase-requires c κs = tt
 
 enum-told-2 : tie.Need-enum-told-2
 enum-told-2 c = c .match .keys2
 
-in-phase-requires-2 : tie.Need-in-phase-requires-2
-in-phase-requires-2 c κs = tt
+set-phase-requires-2 : tie.Need-set-phase-requires-2
+set-phase-requires-2 c κs = tt
 
 end-stage-requires : tie.Need-end-stage-requires
 end-stage-requires c κs = tt
@@ -76,12 +76,12 @@ ends-requires c κs = tt
 returns : tie.Need-returns
 returns c =
     let a = c .before .before .before .before .args in
-    in-case (a .settings) (a .self) _ (c .before .before .enum-told .given .1) (ap Stays (c .in-phase .ensures ∙ ap (λ (p : Phase). inPhase p (a .self)) (c .before .pass-first-read .ensures)))
+    in-case (a .settings) (a .self) _ (c .before .before .enum-told .given .1) (ap Stays (c .set-phase .ensures ∙ ap (λ (p : Phase). inPhase p (a .self)) (c .before .pass-first-read .ensures)))
 
 returns-2 : tie.Need-returns-2
 returns-2 c =
     let a = c .before .before .before .args in
-    in-case (a .settings) (a .self) _ (c .before .enum-told2 .given .1) (ap Stays (c .in-phase2 .ensures))
+    in-case (a .settings) (a .self) _ (c .before .enum-told2 .given .1) (ap Stays (c .set-phase2 .ensures))
 
 returns-3 : tie.Need-returns-3
 returns-3 c = let a = c .before .before .args in c .end-stage .ensures ∙ lasts (a .settings) (a .self) (a .self .phase) (c .before .match .keys3)
@@ -95,9 +95,9 @@ done-spec =
     (tie.spec
     enum-told
     pass-first-read-requires
-    in-phase-requires
+    set-phase-requires
     enum-told-2
-    in-phase-requires-2
+    set-phase-requires-2
     end-stage-requires
     ends-requires
     returns

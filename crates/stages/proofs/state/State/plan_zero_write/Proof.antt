@@ -13,13 +13,13 @@ use Rattle.stages.proofs.state.State.plan_zero_write.Statement.{stateme
 use Rattle.stages.proofs.state.State.plan_zero_write.Tie as tie
 
 -- the call's transfer is the definition's
-transfer-is : (c : tie.After-direct-or-padded) → let a = c .before .before .before .before .before .args in c .direct-or-padded .result ≡ transfer (a .settings) (a .part)
+transfer-is : (c : tie.After-plan-transfer) → let a = c .before .before .before .before .before .args in c .plan-transfer .result ≡ transfer (a .settings) (a .part)
 transfer-is c =
     let a = c .before .before .before .before .before .args in
-    zeroes-transfer (a .settings) (a .part) _ _ _ (c .before .before .before .size .ensures) (c .before .before .length-align .ensures) (c .before .is-multiple .ensures) (c .direct-or-padded .ensures)
+    zeroes-transfer (a .settings) (a .part) _ _ _ (c .before .before .before .size .ensures) (c .before .before .length-align .ensures) (c .before .is-multiple .ensures) (c .plan-transfer .ensures)
 
 -- the plan by that transfer
-by : (c : tie.After-direct-or-padded) (x : Transfer) {p : Plan} → let a = c .before .before .before .before .before .args in c .direct-or-padded .result ≡ x → p ≡ zeroesBy (a .settings) (a .self .job) (a .self .range) (a .self .middle) (a .course) (a .part) x → p ≡ zeroesPlan (a .settings) (a .self .job) (a .self .range) (a .self .middle) (a .course) (a .part)
+by : (c : tie.After-plan-transfer) (x : Transfer) {p : Plan} → let a = c .before .before .before .before .before .args in c .plan-transfer .result ≡ x → p ≡ zeroesBy (a .settings) (a .self .job) (a .self .range) (a .self .middle) (a .course) (a .part) x → p ≡ zeroesPlan (a .settings) (a .self .job) (a .self .range) (a .self .middle) (a .course) (a .part)
 by c x e q = let a = c .before .before .before .before .before .args in zeroes-by (a .settings) (a .self .job) (a .self .range) (a .self .middle) (a .course) (a .part) x (transfer-is c) e q
 
 abbrev span : tie.After-transfer → Span
@@ -34,8 +34,8 @@ length-align-requires c κs = tt
 is-multiple-requires : tie.Need-is-multiple-requires
 is-multiple-requires c κs = tt
 
-direct-or-padded-requires : tie.Need-direct-or-padded-requires
-direct-or-padded-requires c κs = tt
+plan-transfer-requires : tie.Need-plan-transfer-requires
+plan-transfer-requires c κs = tt
 
 enum-told : tie.Need-enum-told
 enum-told c = c .match .keys1
@@ -50,15 +50,15 @@ returns c =
 direct-stage-requires : tie.Need-direct-stage-requires
 direct-stage-requires c κs = tt
 
-at-stage-requires : tie.Need-at-stage-requires
-at-stage-requires c κs = tt
+set-stage-requires : tie.Need-set-stage-requires
+set-stage-requires c κs = tt
 
 returns-2 : tie.Need-returns-2
 returns-2 c =
     let a = c .before .before .before .before .before .before .before .before .before .before .before .args in
     let t = c .before .before .before .before .enum-told .given in
     let h : sizeOf (a .part) ≤ a .settings .bounce = rw (c .before .before .before .before .before .before .before .before .before .size .ensures) at (c .before .before .if1 .left) in
-    by (c .before .before .before .before .before .before) (Direct (t .0 .0)) (t .1) (zeroes-direct (a .settings) (a .self .job) (a .self .range) (a .self .middle) (a .course) (a .part) (t .0 .0) _ h (ap Started (c .at-stage .ensures)) (c .before .direct-stage .ensures))
+    by (c .before .before .before .before .before .before) (Direct (t .0 .0)) (t .1) (zeroes-direct (a .settings) (a .self .job) (a .self .range) (a .self .middle) (a .course) (a .part) (t .0 .0) _ h (ap Started (c .set-stage .ensures)) (c .before .direct-stage .ensures))
 
 enum-known-transfer : tie.Need-enum-known-transfer
 enum-known-transfer c = c .match2 .keys1
@@ -85,15 +85,15 @@ padded-stage-requires c κs =
 first-phase-requires : tie.Need-first-phase-requires
 first-phase-requires c κs = tt
 
-at-stage-requires-2 : tie.Need-at-stage-requires-2
-at-stage-requires-2 c κs = tt
+set-stage-requires-2 : tie.Need-set-stage-requires-2
+set-stage-requires-2 c κs = tt
 
 returns-5 : tie.Need-returns-5
 returns-5 c =
     let t = c .before .before .before .before .before .before .before in
     by (c .before .before .before .before .before .before .before .before .before .before) (Bounced (span t)) (t .transfer .given .1)
     (in-bounce (c .before .before .before .before .before .before .before .before .before .before .before .before .before .before .before .args .settings) (span t) _ (c .before .before .before .if2 .left)
-    (padded-parts firstPhase _ _ _ _ _ _ (span t) _ _ _ _ (ap Started (c .at-stage2 .ensures)) refl refl (c .before .before .padded-stage .ensures) refl (c .before .first-phase .ensures)))
+    (padded-parts firstPhase _ _ _ _ _ _ (span t) _ _ _ _ (ap Started (c .set-stage2 .ensures)) refl refl (c .before .before .padded-stage .ensures) refl (c .before .first-phase .ensures)))
 
 pub plan-zero-write-spec : {M : Type 1} → statement M
 plan-zero-write-spec =
@@ -102,11 +102,11 @@ plan-zero-write-spec =
     size-requires
     length-align-requires
     is-multiple-requires
-    direct-or-padded-requires
+    plan-transfer-requires
     enum-told
     returns
     direct-stage-requires
-    at-stage-requires
+    set-stage-requires
     returns-2
     enum-known-transfer
     refusal-requires
@@ -114,5 +114,5 @@ plan-zero-write-spec =
     returns-4
     padded-stage-requires
     first-phase-requires
-    at-stage-requires-2
+    set-stage-requires-2
     returns-5)

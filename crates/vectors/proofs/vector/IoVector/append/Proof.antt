@@ -18,10 +18,10 @@ use Rattle.vectors.proofs.vector.IoVector.append.Tie as tie
 
 -- what the tests have shown
 other-of : (c : tie.Else1) → isValid (c .before .before .args .data-len) (c .before .before .args .other) ≡ true
-other-of c = sym (c .before .valid .ensures) ∙ not-false _ (c .if1 .left)
+other-of c = sym (c .before .is-valid .ensures) ∙ not-false _ (c .if1 .left)
 
 valid-of : (c : tie.Else2) → Valid (c .before .before .before .before .args .data-len) (c .before .before .before .before .args .self)
-valid-of c = valid _ _ (sym (c .before .valid2 .ensures) ∙ not-false _ (c .if2 .left))
+valid-of c = valid _ _ (sym (c .before .is-valid2 .ensures) ∙ not-false _ (c .if2 .left))
 
 wide-of : (c : tie.Else2) → length (c .before .before .before .before .args .self .segments) ≡ 16
 wide-of c = search (needs, array-long)
@@ -32,23 +32,23 @@ wide-other c = search (needs, array-long)
 room-of : (c : tie.Else3) → (leb (c .before .before .before .before .before .before .args .self .count + c .before .before .before .before .before .before .args .other .count) 16 && leb (c .before .before .before .before .before .before .args .self .total + c .before .before .before .before .before .before .args .other .total) 1048576) ≡ true
 room-of c = sym (c .before .has-room .ensures) ∙ not-false _ (c .if3 .left)
 
-valid-requires : tie.Need-valid-requires
-valid-requires c κs = search needs
+is-valid-requires : tie.Need-is-valid-requires
+is-valid-requires c κs = search needs
 
 refuse-requires : tie.Need-refuse-requires
 refuse-requires c κs = search needs
 
 returns : tie.Need-returns
-returns c = c .refuse .ensures ∙ append-other _ _ _ (sym (c .before .before .valid .ensures) ∙ not-true _ (c .before .if1 .taken))
+returns c = c .refuse .ensures ∙ append-other _ _ _ (sym (c .before .before .is-valid .ensures) ∙ not-true _ (c .before .if1 .taken))
 
-valid-requires-2 : tie.Need-valid-requires-2
-valid-requires-2 c κs = search needs
+is-valid-requires-2 : tie.Need-is-valid-requires-2
+is-valid-requires-2 c κs = search needs
 
 refuse-requires-2 : tie.Need-refuse-requires-2
 refuse-requires-2 c κs = search needs
 
 returns-2 : tie.Need-returns-2
-returns-2 c = c .refuse2 .ensures ∙ not-valid _ _ _ (sym (c .before .before .valid2 .ensures) ∙ not-true _ (c .before .if2 .taken)) ∙ append-is (c .before .before .before .before .before .args .data-len) (c .before .before .before .before .before .args .self) (c .before .before .before .before .before .args .other) (other-of (c .before .before .before))
+returns-2 c = c .refuse2 .ensures ∙ not-valid _ _ _ (sym (c .before .before .is-valid2 .ensures) ∙ not-true _ (c .before .if2 .taken)) ∙ append-is (c .before .before .before .before .before .args .data-len) (c .before .before .before .before .before .args .self) (c .before .before .before .before .before .args .other) (other-of (c .before .before .before))
 
 has-room-requires : tie.Need-has-room-requires
 has-room-requires c κs = (valid-of c .few, omega (arith, valid-of c .total, valid-of c .fit .small))
@@ -75,10 +75,10 @@ pub append-spec : {M : Type 1} → statement M
 append-spec =
     tie.close
     (tie.spec
-    valid-requires
+    is-valid-requires
     refuse-requires
     returns
-    valid-requires-2
+    is-valid-requires-2
     refuse-requires-2
     returns-2
     has-room-requires

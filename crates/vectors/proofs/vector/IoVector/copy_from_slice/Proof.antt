@@ -14,13 +14,13 @@ use Rattle.vectors.proofs.vector.IoVector.copy_from_slice.Tie as tie
 
 -- past the first test the vector is valid
 valid-of : (c : tie.Else1) → isValid (length (now (c .before .before .before .before .args .«data»))) (c .before .before .before .before .args .self) ≡ true
-valid-of c = sym (c .before .valid .ensures) ∙ not-false _ (c .if1 .left)
+valid-of c = sym (c .before .is-valid .ensures) ∙ not-false _ (c .if1 .left)
 
-valid-requires : tie.Need-valid-requires
-valid-requires c κs = search needs
+is-valid-requires : tie.Need-is-valid-requires
+is-valid-requires c κs = search needs
 
 returns : tie.Need-returns
-returns c = refused _ _ _ (copies-invalid _ _ _ (sym (c .before .valid .ensures) ∙ not-true _ (c .if1 .taken)))
+returns c = refused _ _ _ (copies-invalid _ _ _ (sym (c .before .is-valid .ensures) ∙ not-true _ (c .if1 .taken)))
 
 returns-2 : tie.Need-returns-2
 returns-2 c = refused _ _ _ (copies-other _ _ _ (c .if2 .taken))
@@ -36,4 +36,4 @@ returns-3 c = carried-out _ _ _ _ (copies-true _ _ _ (valid-of (c .before .befor
 
 pub copy-from-slice-spec : {M : Type 1} → statement M
 copy-from-slice-spec =
-    tie.close (tie.spec valid-requires returns returns-2 scatter-requires same-length returns-3)
+    tie.close (tie.spec is-valid-requires returns returns-2 scatter-requires same-length returns-3)

@@ -14,13 +14,13 @@ use Rattle.vectors.proofs.vector.IoVector.fill.Tie as tie
 
 -- past the test the vector is valid
 valid-of : (c : tie.Else1) → isValid (length (now (c .before .before .before .args .«data»))) (c .before .before .before .args .self) ≡ true
-valid-of c = sym (c .before .valid .ensures) ∙ not-false _ (c .if1 .left)
+valid-of c = sym (c .before .is-valid .ensures) ∙ not-false _ (c .if1 .left)
 
-valid-requires : tie.Need-valid-requires
-valid-requires c κs = search needs
+is-valid-requires : tie.Need-is-valid-requires
+is-valid-requires c κs = search needs
 
 returns : tie.Need-returns
-returns c = refused _ _ _ (sym (c .before .valid .ensures) ∙ not-true _ (c .if1 .taken))
+returns c = refused _ _ _ (sym (c .before .is-valid .ensures) ∙ not-true _ (c .if1 .taken))
 
 fill-segments-requires : tie.Need-fill-segments-requires
 fill-segments-requires c κs = valid-of (c .before)
@@ -33,4 +33,4 @@ returns-2 c = carried-out _ _ _ _ (valid-of (c .before .before .before .before))
 
 pub fill-spec : {M : Type 1} → statement M
 fill-spec =
-    tie.close (tie.spec valid-requires returns fill-segments-requires same-length returns-2)
+    tie.close (tie.spec is-valid-requires returns fill-segments-requires same-length returns-2)

@@ -21,7 +21,7 @@ wide-of : (c : tie.Else2) → length (c .before .before .before .args .self .seg
 wide-of c = search (needs, array-long)
 
 valid-of : (c : tie.Else2) → Valid (c .before .before .before .args .data-len) (c .before .before .before .args .self)
-valid-of c = valid _ _ (sym (c .before .valid .ensures) ∙ not-false _ (c .if2 .left))
+valid-of c = valid _ _ (sym (c .before .is-valid .ensures) ∙ not-false _ (c .if2 .left))
 
 lies-of : (c : tie.Else3) → liesIn (c .before .before .before .before .before .args .data-len) (c .before .before .before .before .before .args .segment) ≡ true
 lies-of c = sym (c .before .lies-in .ensures) ∙ not-false _ (c .if3 .left)
@@ -35,14 +35,14 @@ refuse-requires c κs = search needs
 returns : tie.Need-returns
 returns c = c .refuse .ensures ∙ insert-past (c .before .before .args .data-len) (c .before .before .args .self) (c .before .before .args .index) (c .before .before .args .segment) (c .before .if1 .taken)
 
-valid-requires : tie.Need-valid-requires
-valid-requires c κs = search needs
+is-valid-requires : tie.Need-is-valid-requires
+is-valid-requires c κs = search needs
 
 refuse-requires-2 : tie.Need-refuse-requires-2
 refuse-requires-2 c κs = search needs
 
 returns-2 : tie.Need-returns-2
-returns-2 c = c .refuse2 .ensures ∙ not-valid _ _ _ (sym (c .before .before .valid .ensures) ∙ not-true _ (c .before .if2 .taken)) ∙ insert-is (c .before .before .before .before .args .data-len) (c .before .before .before .before .args .self) (c .before .before .before .before .args .index) (c .before .before .before .before .args .segment) (c .before .before .before .if1 .left)
+returns-2 c = c .refuse2 .ensures ∙ not-valid _ _ _ (sym (c .before .before .is-valid .ensures) ∙ not-true _ (c .before .if2 .taken)) ∙ insert-is (c .before .before .before .before .args .data-len) (c .before .before .before .before .args .self) (c .before .before .before .before .args .index) (c .before .before .before .before .args .segment) (c .before .before .before .if1 .left)
 
 lies-in-requires : tie.Need-lies-in-requires
 lies-in-requires c κs = search needs
@@ -83,7 +83,7 @@ insert-spec =
     (tie.spec
     refuse-requires
     returns
-    valid-requires
+    is-valid-requires
     refuse-requires-2
     returns-2
     lies-in-requires

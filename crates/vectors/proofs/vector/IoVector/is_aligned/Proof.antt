@@ -13,19 +13,19 @@ use Rattle.vectors.proofs.vector.IoVector.is_aligned.Tie as tie
 
 -- what the tests have shown
 fit-of : (c : tie.Else1) → alignmentsFit (c .before .before .args .align) ≡ true
-fit-of c = sym (c .before .fit .ensures) ∙ not-false _ (c .if1 .left)
+fit-of c = sym (c .before .is-fit .ensures) ∙ not-false _ (c .if1 .left)
 
 fits-of : (c : tie.Else2) → c .before .before .before .before .before .args .«data» .address + c .before .before .before .before .before .args .«data» .length < 18446744073709551616
 fits-of c = omega arith
 
 valid-of : (c : tie.Else3) → isValid (c .before .before .before .before .before .before .before .args .«data» .length) (c .before .before .before .before .before .before .before .args .self) ≡ true
-valid-of c = sym (c .before .valid .ensures) ∙ not-false _ (c .if3 .left)
+valid-of c = sym (c .before .is-valid .ensures) ∙ not-false _ (c .if3 .left)
 
-fit-requires : tie.Need-fit-requires
-fit-requires c κs = search needs
+is-fit-requires : tie.Need-is-fit-requires
+is-fit-requires c κs = search needs
 
 returns : tie.Need-returns
-returns c = answer-unfit _ _ _ (sym (c .before .fit .ensures) ∙ not-true _ (c .if1 .taken))
+returns c = answer-unfit _ _ _ (sym (c .before .is-fit .ensures) ∙ not-true _ (c .if1 .taken))
 
 sub-if2 : tie.Need-sub-if2
 sub-if2 c = search needs
@@ -33,11 +33,11 @@ sub-if2 c = search needs
 returns-2 : tie.Need-returns-2
 returns-2 c = answer-buffer _ _ _ (fit-of (c .before .before .before)) (omega arith)
 
-valid-requires : tie.Need-valid-requires
-valid-requires c κs = search needs
+is-valid-requires : tie.Need-is-valid-requires
+is-valid-requires c κs = search needs
 
 returns-3 : tie.Need-returns-3
-returns-3 c = answer-segment _ _ _ (fit-of (c .before .before .before .before .before)) (fits-of (c .before .before)) (sym (c .before .valid .ensures) ∙ not-true _ (c .if3 .taken))
+returns-3 c = answer-segment _ _ _ (fit-of (c .before .before .before .before .before)) (fits-of (c .before .before)) (sym (c .before .is-valid .ensures) ∙ not-true _ (c .if3 .taken))
 
 returns-4 : tie.Need-returns-4
 returns-4 c = answer-trivial _ _ _ (fit-of (c .before .before .before .before .before .before .before .before)) (fits-of (c .before .before .before .before .before)) (valid-of (c .before .before .before)) (c .if4 .taken)
@@ -45,27 +45,27 @@ returns-4 c = answer-trivial _ _ _ (fit-of (c .before .before .before .before .b
 length-align-requires : tie.Need-length-align-requires
 length-align-requires c κs = search needs
 
-segments-aligned-requires : tie.Need-segments-aligned-requires
-segments-aligned-requires c κs = answer-asked _ _ _ (fit-of (c .before .before .before .before .before .before .before .before .before)) (fits-of (c .before .before .before .before .before .before)) (valid-of (c .before .before .before .before)) _ (c .length-align .ensures)
+has-aligned-segments-requires : tie.Need-has-aligned-segments-requires
+has-aligned-segments-requires c κs = answer-asked _ _ _ (fit-of (c .before .before .before .before .before .before .before .before .before)) (fits-of (c .before .before .before .before .before .before)) (valid-of (c .before .before .before .before)) _ (c .length-align .ensures)
 
 returns-5 : tie.Need-returns-5
-returns-5 c = answer-yes _ _ _ (fit-of (c .before .before .before .before .before .before .before .before .before .before .before)) (fits-of (c .before .before .before .before .before .before .before .before)) (valid-of (c .before .before .before .before .before .before)) (c .before .before .before .if4 .left) _ (c .before .before .length-align .ensures) (sym (c .before .segments-aligned .ensures) ∙ c .if5 .taken)
+returns-5 c = answer-yes _ _ _ (fit-of (c .before .before .before .before .before .before .before .before .before .before .before)) (fits-of (c .before .before .before .before .before .before .before .before)) (valid-of (c .before .before .before .before .before .before)) (c .before .before .before .if4 .left) _ (c .before .before .length-align .ensures) (sym (c .before .has-aligned-segments .ensures) ∙ c .if5 .taken)
 
 returns-6 : tie.Need-returns-6
-returns-6 c = answer-no _ _ _ (fit-of (c .before .before .before .before .before .before .before .before .before .before .before)) (fits-of (c .before .before .before .before .before .before .before .before)) (valid-of (c .before .before .before .before .before .before)) (c .before .before .before .if4 .left) _ (c .before .before .length-align .ensures) (sym (c .before .segments-aligned .ensures) ∙ c .if5 .left)
+returns-6 c = answer-no _ _ _ (fit-of (c .before .before .before .before .before .before .before .before .before .before .before)) (fits-of (c .before .before .before .before .before .before .before .before)) (valid-of (c .before .before .before .before .before .before)) (c .before .before .before .if4 .left) _ (c .before .before .length-align .ensures) (sym (c .before .has-aligned-segments .ensures) ∙ c .if5 .left)
 
 pub is-aligned-spec : {M : Type 1} → statement M
 is-aligned-spec =
     tie.close
     (tie.spec
-    fit-requires
+    is-fit-requires
     returns
     sub-if2
     returns-2
-    valid-requires
+    is-valid-requires
     returns-3
     returns-4
     length-align-requires
-    segments-aligned-requires
+    has-aligned-segments-requires
     returns-5
     returns-6)

@@ -15,11 +15,11 @@ Inv-loop self n i₀ i = Selfsought self n i
 abbrev μ-loop : tie.MeasureT-loop
 μ-loop self n i₀ i = n - i
 
-used-requires : tie.Need-used-requires Inv-loop μ-loop
-used-requires c κs = search needs
+used-count-requires : tie.Need-used-count-requires Inv-loop μ-loop
+used-count-requires c κs = search needs
 
 loop-holds : tie.Need-loop-holds Inv-loop μ-loop
-loop-holds c = let w : length (c .before .args .t1 .segments) ≡ 16 = search (needs, array-long) in self-start (c .before .args .t1) (c .used .result) w (c .used .ensures)
+loop-holds c = let w : length (c .before .args .t1 .segments) ≡ 16 = search (needs, array-long) in self-start (c .before .args .t1) (c .used-count .result) w (c .used-count .ensures)
 
 mul-p : tie.Need-mul-p Inv-loop μ-loop
 mul-p c = omega (arith, c .before .loop .inv .most)
@@ -54,7 +54,7 @@ overlaps-itself-spec =
     (tie.spec
     Inv-loop
     μ-loop
-    used-requires
+    used-count-requires
     loop-holds
     mul-p
     element-copy-out-p

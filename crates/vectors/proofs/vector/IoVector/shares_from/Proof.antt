@@ -16,11 +16,11 @@ Inv-loop start segment self n i₀ i = Sought self (shares segment) (anySegment 
 abbrev μ-loop : tie.MeasureT-loop
 μ-loop start segment self n i₀ i = n - i
 
-used-requires : tie.Need-used-requires Inv-loop μ-loop
-used-requires c κs = search needs
+used-count-requires : tie.Need-used-count-requires Inv-loop μ-loop
+used-count-requires c κs = search needs
 
 loop-holds : tie.Need-loop-holds Inv-loop μ-loop
-loop-holds c = let w : length (c .before .args .t1 .segments) ≡ 16 = search (needs, array-long) in sought-start (c .before .args .t1) (shares (c .before .args .segment)) (c .used .result) (c .before .args .start) w (c .used .ensures)
+loop-holds c = let w : length (c .before .args .t1 .segments) ≡ 16 = search (needs, array-long) in sought-start (c .before .args .t1) (shares (c .before .args .segment)) (c .used-count .result) (c .before .args .start) w (c .used-count .ensures)
 
 mul-p : tie.Need-mul-p Inv-loop μ-loop
 mul-p c = omega (arith, c .before .loop .inv .most)
@@ -52,7 +52,7 @@ shares-from-spec =
     (tie.spec
     Inv-loop
     μ-loop
-    used-requires
+    used-count-requires
     loop-holds
     mul-p
     element-copy-out-p

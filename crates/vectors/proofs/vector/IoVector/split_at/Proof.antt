@@ -16,7 +16,7 @@ use Rattle.vectors.proofs.vector.IoVector.split_at.Tie as tie
 
 -- past the test the vector is valid
 valid-of : (c : tie.Else1) → isValid (c .before .before .args .data-len) (c .before .before .args .self) ≡ true
-valid-of c = sym (c .before .valid .ensures) ∙ not-false _ (c .if1 .left)
+valid-of c = sym (c .before .is-valid .ensures) ∙ not-false _ (c .if1 .left)
 
 -- where the head ends, and where the tail starts
 head-is : (c : tie.After-do-split-at) → c .do-split-at .result .head ≡ positionOf (segmentsOf (c .before .before .before .args .self)) (c .before .before .before .args .mid)
@@ -32,14 +32,14 @@ cut c p e =
     let w : length (c .before .before .before .args .self .segments) ≡ 16 = search (needs, array-long) in
     cut-of _ _ _ _ w (search needs) (valid _ _ (valid-of (c .before))) e
 
-valid-requires : tie.Need-valid-requires
-valid-requires c κs = search needs
+is-valid-requires : tie.Need-is-valid-requires
+is-valid-requires c κs = search needs
 
 new-requires : tie.Need-new-requires
 new-requires c κs = search needs
 
 returns : tie.Need-returns
-returns c = split-refused _ _ _ _ (sym (c .before .before .valid .ensures) ∙ not-true _ (c .before .if1 .taken)) (c .new .ensures)
+returns c = split-refused _ _ _ _ (sym (c .before .before .is-valid .ensures) ∙ not-true _ (c .before .if1 .taken)) (c .new .ensures)
 
 do-split-at-requires : tie.Need-do-split-at-requires
 do-split-at-requires c κs = valid _ _ (valid-of c) .few
@@ -57,7 +57,7 @@ pub split-at-spec : {M : Type 1} → statement M
 split-at-spec =
     tie.close
     (tie.spec
-    valid-requires
+    is-valid-requires
     new-requires
     returns
     do-split-at-requires

@@ -15,20 +15,20 @@ use Rattle.vectors.proofs.vector.IoVector.split_tail_at.Tie as tie
 
 -- past the test the vector is valid
 valid-of : (c : tie.Else1) → isValid (c .before .before .args .data-len) (c .before .before .args .self) ≡ true
-valid-of c = sym (c .before .valid .ensures) ∙ not-false _ (c .if1 .left)
+valid-of c = sym (c .before .is-valid .ensures) ∙ not-false _ (c .if1 .left)
 
 -- where the tail starts
 tail-is : (c : tie.After-do-split-at) → c .do-split-at .result .tail ≡ positionOf (segmentsOf (c .before .before .before .args .self)) (c .before .before .before .args .mid)
 tail-is c = ap (λ (s : Split). s .tail) (c .do-split-at .ensures)
 
-valid-requires : tie.Need-valid-requires
-valid-requires c κs = search needs
+is-valid-requires : tie.Need-is-valid-requires
+is-valid-requires c κs = search needs
 
 refuse-requires : tie.Need-refuse-requires
 refuse-requires c κs = search needs
 
 returns : tie.Need-returns
-returns c = c .refuse .ensures ∙ tail-refused _ _ (c .before .before .before .args .mid) (sym (c .before .before .valid .ensures) ∙ not-true _ (c .before .if1 .taken))
+returns c = c .refuse .ensures ∙ tail-refused _ _ (c .before .before .before .args .mid) (sym (c .before .before .is-valid .ensures) ∙ not-true _ (c .before .if1 .taken))
 
 do-split-at-requires : tie.Need-do-split-at-requires
 do-split-at-requires c κs = valid _ _ (valid-of c) .few
@@ -43,7 +43,7 @@ pub split-tail-at-spec : {M : Type 1} → statement M
 split-tail-at-spec =
     tie.close
     (tie.spec
-    valid-requires
+    is-valid-requires
     refuse-requires
     returns
     do-split-at-requires

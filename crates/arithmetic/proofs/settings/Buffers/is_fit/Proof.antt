@@ -1,11 +1,11 @@
--- `arithmetic::settings::Buffers::fit` meets its contract: settings that fit bound the shares, and M is no 0. Assumes nothing.
+-- `arithmetic::settings::Buffers::is_fit` meets its contract: settings that fit bound the shares, and M is no 0. Assumes nothing.
 use native.Mathlib.Omega.{arith}
 use Rattle.arithmetic.specs.Rounding.{isMultiple}
 use Rattle.arithmetic.specs.Settings.{buffersFit}
 use Rattle.arithmetic.specs.SettingsLaws.{accepted}
 use borrow.Author.Needs.{needs}
-use Rattle.arithmetic.proofs.settings.Buffers.fit.Statement.{statement}
-use Rattle.arithmetic.proofs.settings.Buffers.fit.Tie as tie
+use Rattle.arithmetic.proofs.settings.Buffers.is_fit.Statement.{statement}
+use Rattle.arithmetic.proofs.settings.Buffers.is_fit.Tie as tie
 
 has-end-requires : tie.Need-has-end-requires
 has-end-requires c κs = search needs
@@ -23,5 +23,5 @@ returns : tie.Need-returns
 unfolding buffersFit isMultiple
 returns c = let b = c .before .before .before .before in simp (b .before .has-end .ensures, b .has-end2 .ensures)
 
-pub fit-spec : {M : Type 1} → statement M
-fit-spec = tie.close (tie.spec has-end-requires has-end-requires-2 mul-result rem-result returns)
+pub is-fit-spec : {M : Type 1} → statement M
+is-fit-spec = tie.close (tie.spec has-end-requires has-end-requires-2 mul-result rem-result returns)

@@ -1,10 +1,10 @@
--- `dock::tell::step` meets its contract: each step is its case of the definition. Assumes nothing.
+-- `dock::tell::take_step` meets its contract: each step is its case of the definition. Assumes nothing.
 use denote.Ref.{now}
 use mathlib.Core.Path.{sym, ap, _∙_}
 use Rattle.dock.specs.Tell.{steppedAt}
 use borrow.Author.Needs.{needs}
-use Rattle.dock.proofs.tell.step.Statement.{statement}
-use Rattle.dock.proofs.tell.step.Tie as tie
+use Rattle.dock.proofs.tell.take_step.Statement.{statement}
+use Rattle.dock.proofs.tell.take_step.Tie as tie
 
 enum-known-step : tie.Need-enum-known-step
 enum-known-step c = search needs
@@ -51,8 +51,8 @@ same-length-6 c = search needs
 returns-3 : tie.Need-returns-3
 returns-3 c = let a = c .before .before .before .before .before .before .before .before .before .before .args in c .before .before .enters .ensures ∙ sym (ap (λ q. steppedAt (a .b) (a .slot) (a .share) (a .x) (a .code) (a .v) (now (a .«data»)) (now (a .scratch)) q) (c .before .before .before .before .before .before .step3 .given .1))
 
-pub step-spec : {M : Type 1} → statement M
-step-spec =
+pub take-step-spec : {M : Type 1} → statement M
+take-step-spec =
     tie.close
     (tie.spec
     enum-known-step

@@ -1,4 +1,4 @@
--- `dock_words::told_words::step` meets its contract: each step by its case of the definition. Assumes nothing.
+-- `dock_words::told_words::take_step` meets its contract: each step by its case of the definition. Assumes nothing.
 use mathlib.Core.Path.{sym, ap, _∙_}
 use Prim.Native.Nat.{_*_}
 use lib.ListN.{getD}
@@ -9,8 +9,8 @@ use Rattle.dock_words.specs.View.{blockersOf, statesOf, vectorsOf}
 use Rattle.dock_words.specs.CallWords.{storedWords}
 use Rattle.dock_words.specs.CallWordsLaws.{same-words}
 use borrow.Author.Needs.{needs}
-use Rattle.dock_words.proofs.told_words.step.Statement.{statement}
-use Rattle.dock_words.proofs.told_words.step.Tie as tie
+use Rattle.dock_words.proofs.told_words.take_step.Statement.{statement}
+use Rattle.dock_words.proofs.told_words.take_step.Tie as tie
 
 enum-known-step : tie.Need-enum-known-step
 enum-known-step c = search needs
@@ -58,7 +58,7 @@ same-length-8 : tie.Need-same-length-8
 same-length-8 c = search needs
 
 returns-2 : tie.Need-returns-2
-returns-2 c = ((let a = c .before .before .before .before .before .before .before .before .before .before .before .before .before .before .before .before .before .before .before .args in c .before .before .before .before .before .before .ends .ensures .0 ∙ sym (ap (λ (q : Step). storedWords (blockersOf (a .b .now)) (statesOf (a .xs .now)) (a .slot) (steppedAt (blockersOf (a .b .now)) (a .slot) (a .slot * a .s .bounce) (a .x) (a .code) (getD (vectorsOf (a .vs .now)) (a .slot) noVector) (a .«data» .now) (a .scratch .now) q)) (c .before .before .before .before .before .before .before .before .before .before .before .before .step2 .given .1))), c .before .before .before .before .before .before .ends .ensures .1)
+returns-2 c = let k = c .before .before .before .before .before .before in ((let a = k .before .before .before .before .before .before .before .before .before .before .before .before .before .args in k .ends .ensures .0 ∙ sym (ap (λ (q : Step). storedWords (blockersOf (a .b .now)) (statesOf (a .xs .now)) (a .slot) (steppedAt (blockersOf (a .b .now)) (a .slot) (a .slot * a .s .bounce) (a .x) (a .code) (getD (vectorsOf (a .vs .now)) (a .slot) noVector) (a .«data» .now) (a .scratch .now) q)) (k .before .before .before .before .before .before .step2 .given .1))), k .ends .ensures .1)
 
 same-length-9 : tie.Need-same-length-9
 same-length-9 c = search needs
@@ -73,10 +73,10 @@ same-length-12 : tie.Need-same-length-12
 same-length-12 c = search needs
 
 returns-3 : tie.Need-returns-3
-returns-3 c = ((let a = c .before .before .before .before .before .before .before .before .before .before .before .before .before .before .before .before .before .before .before .args in c .before .before .before .before .before .before .enters .ensures .0 ∙ sym (ap (λ (q : Step). storedWords (blockersOf (a .b .now)) (statesOf (a .xs .now)) (a .slot) (steppedAt (blockersOf (a .b .now)) (a .slot) (a .slot * a .s .bounce) (a .x) (a .code) (getD (vectorsOf (a .vs .now)) (a .slot) noVector) (a .«data» .now) (a .scratch .now) q)) (c .before .before .before .before .before .before .before .before .before .before .before .before .step3 .given .1))), c .before .before .before .before .before .before .enters .ensures .1)
+returns-3 c = let k = c .before .before .before .before .before .before in ((let a = k .before .before .before .before .before .before .before .before .before .before .before .before .before .args in k .enters .ensures .0 ∙ sym (ap (λ (q : Step). storedWords (blockersOf (a .b .now)) (statesOf (a .xs .now)) (a .slot) (steppedAt (blockersOf (a .b .now)) (a .slot) (a .slot * a .s .bounce) (a .x) (a .code) (getD (vectorsOf (a .vs .now)) (a .slot) noVector) (a .«data» .now) (a .scratch .now) q)) (k .before .before .before .before .before .before .step3 .given .1))), k .enters .ensures .1)
 
-pub step-spec : {M : Type 1} → statement M
-step-spec =
+pub take-step-spec : {M : Type 1} → statement M
+take-step-spec =
     tie.close
     (tie.spec
     enum-known-step

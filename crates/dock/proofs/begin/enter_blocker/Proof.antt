@@ -1,10 +1,10 @@
--- `dock::begin::with_blocker` meets its contract: no blocker for what does not block, else a strong or a weak one as the stage says. Assumes nothing.
+-- `dock::begin::enter_blocker` meets its contract: no blocker for what does not block, else a strong or a weak one as the stage says. Assumes nothing.
 use mathlib.Core.Path.{sym, _∙_}
 use borrow.Author.Tests.{not-true, not-false}
 use Rattle.dock.specs.Begin.{blockersWith}
 use borrow.Author.Needs.{needs}
-use Rattle.dock.proofs.begin.with_blocker.Statement.{statement}
-use Rattle.dock.proofs.begin.with_blocker.Tie as tie
+use Rattle.dock.proofs.begin.enter_blocker.Statement.{statement}
+use Rattle.dock.proofs.begin.enter_blocker.Tie as tie
 
 is-blocking-requires : tie.Need-is-blocking-requires
 is-blocking-requires c κs = search needs
@@ -27,8 +27,8 @@ returns-3 : tie.Need-returns-3
 unfolding blockersWith
 returns-3 c = simp (sym (c .before .before .before .is-blocking .ensures) ∙ not-false _ (c .before .before .if1 .left), c .before .if2 .left) (c .weak-write-blocker .ensures)
 
-pub with-blocker-spec : {M : Type 1} → statement M
-with-blocker-spec =
+pub enter-blocker-spec : {M : Type 1} → statement M
+enter-blocker-spec =
     tie.close
     (tie.spec
     is-blocking-requires

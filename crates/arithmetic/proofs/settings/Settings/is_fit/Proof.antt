@@ -1,4 +1,4 @@
--- `arithmetic::settings::Settings::fit` meets its contract. Assumes nothing.
+-- `arithmetic::settings::Settings::is_fit` meets its contract. Assumes nothing.
 use borrow.Author.Needs.{needs}
 use borrow.Author.Tests.{not-true, not-false}
 use mathlib.Core.Path.{_≡_, sym, _∙_}
@@ -7,22 +7,22 @@ use native.Mathlib.Omega.{arith}
 use Rattle.arithmetic.specs.Rounding.{isMultiple}
 use Rattle.arithmetic.specs.Settings.{alignmentsFit, bounceFits, settingsFit}
 use Rattle.arithmetic.specs.SettingsLaws.{Aligned, aligned}
-use Rattle.arithmetic.proofs.settings.Settings.fit.Statement.{statement}
-use Rattle.arithmetic.proofs.settings.Settings.fit.Tie as tie
+use Rattle.arithmetic.proofs.settings.Settings.is_fit.Statement.{statement}
+use Rattle.arithmetic.proofs.settings.Settings.is_fit.Tie as tie
 
-fit-requires : tie.Need-fit-requires
-fit-requires c κs = search needs
+is-fit-requires : tie.Need-is-fit-requires
+is-fit-requires c κs = search needs
 
 returns : tie.Need-returns
 unfolding settingsFit
-returns c = simp (sym (c .before .fit .ensures) ∙ not-true _ (c .if1 .taken))
+returns c = simp (sym (c .before .is-fit .ensures) ∙ not-true _ (c .if1 .taken))
 
 length-align-requires : tie.Need-length-align-requires
 length-align-requires c κs = search needs
 
 -- past the test the alignments fit
 fit-is : (c : tie.Else1) → alignmentsFit (c .before .before .before .args .self .align) ≡ true
-fit-is c = sym (c .before .fit .ensures) ∙ not-false _ (c .if1 .left)
+fit-is c = sym (c .before .is-fit .ensures) ∙ not-false _ (c .if1 .left)
 
 known : (c : tie.Else1) → Aligned (c .before .before .before .args .self .align)
 known c = aligned (c .before .before .before .args .self .align) (fit-is c)
@@ -43,7 +43,7 @@ returns-2 : tie.Need-returns-2
 unfolding settingsFit bounceFits isMultiple
 returns-2 c = simp (fit-is (c .before .before), c .before .length-align .ensures)
 
-pub fit-spec : {M : Type 1} → statement M
-fit-spec =
+pub is-fit-spec : {M : Type 1} → statement M
+is-fit-spec =
     tie.close
-    (tie.spec fit-requires returns length-align-requires rem-result mul-result mul-result-2 add-result returns-2)
+    (tie.spec is-fit-requires returns length-align-requires rem-result mul-result mul-result-2 add-result returns-2)

@@ -1,8 +1,8 @@
--- `arithmetic::settings::Alignments::fit` meets its contract: each of the four alignments is tested. Assumes nothing.
+-- `arithmetic::settings::Alignments::is_fit` meets its contract: each of the four alignments is tested. Assumes nothing.
 use Rattle.arithmetic.specs.Settings.{alignmentsFit}
 use borrow.Author.Needs.{needs}
-use Rattle.arithmetic.proofs.settings.Alignments.fit.Statement.{statement}
-use Rattle.arithmetic.proofs.settings.Alignments.fit.Tie as tie
+use Rattle.arithmetic.proofs.settings.Alignments.is_fit.Statement.{statement}
+use Rattle.arithmetic.proofs.settings.Alignments.is_fit.Tie as tie
 
 is-alignment-requires : tie.Need-is-alignment-requires
 is-alignment-requires c κs = search needs
@@ -20,8 +20,8 @@ returns : tie.Need-returns
 unfolding alignmentsFit
 returns c = simp (c .before .before .before .is-alignment .ensures, c .before .before .is-alignment2 .ensures, c .before .is-alignment3 .ensures, c .is-alignment4 .ensures)
 
-pub fit-spec : {M : Type 1} → statement M
-fit-spec =
+pub is-fit-spec : {M : Type 1} → statement M
+is-fit-spec =
     tie.close
     (tie.spec
     is-alignment-requires

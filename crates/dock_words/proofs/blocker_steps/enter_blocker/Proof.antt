@@ -1,11 +1,11 @@
--- `dock_words::blocker_steps::with_blocker` meets its contract: none for a job without, else it enters with its strength. Assumes nothing.
+-- `dock_words::blocker_steps::enter_blocker` meets its contract: none for a job without, else it enters with its strength. Assumes nothing.
 use mathlib.Core.Path.{refl, sym, _∙_}
 use borrow.Author.Tests.{not-true, not-false}
 use Rattle.dock.specs.Begin.{blockersWith}
 use Rattle.dock_words.specs.CallWordsLaws.{same-words}
 use borrow.Author.Needs.{needs}
-use Rattle.dock_words.proofs.blocker_steps.with_blocker.Statement.{statement}
-use Rattle.dock_words.proofs.blocker_steps.with_blocker.Tie as tie
+use Rattle.dock_words.proofs.blocker_steps.enter_blocker.Statement.{statement}
+use Rattle.dock_words.proofs.blocker_steps.enter_blocker.Tie as tie
 
 is-blocking-requires : tie.Need-is-blocking-requires
 is-blocking-requires c κs = search needs
@@ -27,7 +27,7 @@ returns-2 : tie.Need-returns-2
 unfolding blockersWith
 returns-2 c = simp (sym (c .before .before .before .before .before .before .is-blocking .ensures) ∙ not-false _ (c .before .before .before .before .before .if1 .left)) (rw (c .before .before .before .before .strength .ensures) at (c .before .before .enter .ensures .0), rw (c .before .before .before .before .strength .ensures) at (c .before .before .enter .ensures .1), c .before .before .enter .ensures .2)
 
-pub with-blocker-spec : {M : Type 1} → statement M
-with-blocker-spec =
+pub enter-blocker-spec : {M : Type 1} → statement M
+enter-blocker-spec =
     tie.close
     (tie.spec is-blocking-requires returns strength-requires enter-requires same-length returns-2)

@@ -1,4 +1,4 @@
--- `arithmetic::padding::direct_or_padded` meets its contract: 201, 207, direct, then as padded. Assumes nothing.
+-- `arithmetic::padding::plan_transfer` meets its contract: 201, 207, direct, then as padded. Assumes nothing.
 use borrow.Author.Tests.{not-true, not-false}
 use mathlib.Core.Path.{_≡_, sym, ap, _∙_}
 use mathlib.Core.Bool.{true}
@@ -10,12 +10,12 @@ use Rattle.arithmetic.specs.Padding.{transferOf, bounced}
 use Rattle.arithmetic.specs.declared.padding.Padding.the-variants.{Padded, Refused}
 use Prim.Native.Nat.{_+_}
 use borrow.Author.Needs.{needs}
-use Rattle.arithmetic.proofs.padding.direct_or_padded.Statement.{statement}
-use Rattle.arithmetic.proofs.padding.direct_or_padded.Tie as tie
+use Rattle.arithmetic.proofs.padding.plan_transfer.Statement.{statement}
+use Rattle.arithmetic.proofs.padding.plan_transfer.Tie as tie
 
 -- past the first test the alignments fit
 fit-is : (c : tie.Else1) → alignmentsFit (c .before .before .args .align) ≡ true
-fit-is c = sym (c .before .fit .ensures) ∙ not-false _ (c .if1 .left)
+fit-is c = sym (c .before .is-fit .ensures) ∙ not-false _ (c .if1 .left)
 
 known : (c : tie.Else1) → Aligned (c .before .before .args .align)
 known c = aligned (c .before .before .args .align) (fit-is c)
@@ -24,13 +24,13 @@ known c = aligned (c .before .before .args .align) (fit-is c)
 end-is : (c : tie.After-known-told) → Passed (fits (c .before .before .before .before .before .before .args .offset .0 + c .before .before .before .before .before .before .args .length)) (c .before .before .before .before .before .before .args .offset .0 + c .before .before .before .before .before .before .args .length) (c .before .end .given .0 .0)
 end-is c = sum-fits _ _ _ (cc)
 
-fit-requires : tie.Need-fit-requires
+is-fit-requires : tie.Need-is-fit-requires
 unfolding transferOf
-fit-requires c κs = search needs
+is-fit-requires c κs = search needs
 
 returns : tie.Need-returns
 unfolding transferOf
-returns c = simp (sym (c .before .fit .ensures) ∙ not-true _ (c .if1 .taken))
+returns c = simp (sym (c .before .is-fit .ensures) ∙ not-true _ (c .if1 .taken))
 
 add-requires : tie.Need-add-requires
 unfolding transferOf
@@ -92,11 +92,11 @@ returns-5 c =
     let e : p .pad-to .result ≡ Refused (c .before .r .given .0 .0) = cc in
     simp (fit-is (b .before .before .before .before), end-is b .ok, n) (ap bounced (sym e ∙ (rw (p .before .length-align .ensures) at (p .pad-to .ensures))))
 
-pub direct-or-padded-spec : {M : Type 1} → statement M
-direct-or-padded-spec =
+pub plan-transfer-spec : {M : Type 1} → statement M
+plan-transfer-spec =
     tie.close
     (tie.spec
-    fit-requires
+    is-fit-requires
     returns
     add-requires
     enum-known-end

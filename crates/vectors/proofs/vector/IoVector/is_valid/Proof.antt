@@ -1,4 +1,4 @@
--- `vectors::vector::IoVector::valid` meets its contract: the segments before i lie in the data and sum up to what was added, which stays at most 1,048,576. Assumes nothing.
+-- `vectors::vector::IoVector::is_valid` meets its contract: the segments before i lie in the data and sum up to what was added, which stays at most 1,048,576. Assumes nothing.
 use borrow.Author.Needs.{needs}
 use native.Mathlib.Omega.{arith}
 use mathlib.Core.Path.{_≡_, sym, _∙_}
@@ -8,8 +8,8 @@ use borrow.Author.Tests.{not-true, not-false, lt-leb}
 use Rattle.vectors.specs.Vectors.{isValid}
 use Rattle.arithmetic.specs.Loops.{array-long}
 use Rattle.vectors.proofs.Pass.{Checked, check-start, check-end, check-bad, check-long, check-next}
-use Rattle.vectors.proofs.vector.IoVector.valid.Statement.{statement}
-use Rattle.vectors.proofs.vector.IoVector.valid.Tie as tie
+use Rattle.vectors.proofs.vector.IoVector.is_valid.Statement.{statement}
+use Rattle.vectors.proofs.vector.IoVector.is_valid.Tie as tie
 
 abbrev Inv-loop : tie.InvT-loop
 Inv-loop data-len self n sum₀ i₀ sum i = Checked data-len self sum i
@@ -57,8 +57,8 @@ loop-again c = check-next _ _ _ _ (c .before .before .before .before .before .lo
 returns-4 : tie.Need-returns-4 Inv-loop μ-loop
 returns-4 c = check-end _ _ _ _ (c .before .loop .inv) (c .loop-test .left)
 
-pub valid-spec : {M : Type 1} → statement M
-valid-spec =
+pub is-valid-spec : {M : Type 1} → statement M
+is-valid-spec =
     tie.close
     (tie.spec
     Inv-loop

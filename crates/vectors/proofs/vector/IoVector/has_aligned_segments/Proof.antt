@@ -1,4 +1,4 @@
--- `vectors::vector::IoVector::segments_aligned` meets its contract: whether all are aligned is whether those from segment i on are. Assumes nothing.
+-- `vectors::vector::IoVector::has_aligned_segments` meets its contract: whether all are aligned is whether those from segment i on are. Assumes nothing.
 use borrow.Author.Needs.{needs}
 use mathlib.Core.Path.{_≡_, refl}
 use Prim.Native.Nat.{_-_}
@@ -6,8 +6,8 @@ use native.Mathlib.Omega.{arith}
 use lib.ListN.{length}
 use Rattle.arithmetic.specs.Loops.{array-long}
 use Rattle.vectors.proofs.Testing.{Lined, few, lined-fits, off-start, off-length, lined-next, lined-end}
-use Rattle.vectors.proofs.vector.IoVector.segments_aligned.Statement.{statement}
-use Rattle.vectors.proofs.vector.IoVector.segments_aligned.Tie as tie
+use Rattle.vectors.proofs.vector.IoVector.has_aligned_segments.Statement.{statement}
+use Rattle.vectors.proofs.vector.IoVector.has_aligned_segments.Tie as tie
 
 abbrev Inv-loop : tie.InvT-loop
 Inv-loop address mem len self n i₀ i = Lined self address mem len i
@@ -51,8 +51,8 @@ loop-again c = lined-next _ _ _ _ _ (c .before .before .before .before .loop .in
 returns-3 : tie.Need-returns-3 Inv-loop μ-loop
 returns-3 c = lined-end _ _ _ _ _ (c .before .loop .inv) (c .loop-test .left)
 
-pub segments-aligned-spec : {M : Type 1} → statement M
-segments-aligned-spec =
+pub has-aligned-segments-spec : {M : Type 1} → statement M
+has-aligned-segments-spec =
     tie.close
     (tie.spec
     Inv-loop
