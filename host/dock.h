@@ -23,7 +23,7 @@
  *
  * A call that refuses changes nothing: not a word of the dock, not the vector, not the lent bytes. Nor does a refused
  * opening: a dock that was open stays open with its jobs, and memory that was no dock is none after it. Zeroes count as
- * a dock that refuses all: every begin with 201, every other call with 205 or 208.
+ * a dock that refuses all: every begin with 201, next, piece, tell and collect with 205 or 208.
  *
  * Null pointers: a buffer of length 0 may be null. One that is null and has a length is refused with 205; at opening
  * 201 comes before it, in other calls nothing does. The dock, the vector and the lent buffers' struct must not be null.
