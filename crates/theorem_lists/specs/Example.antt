@@ -13,7 +13,7 @@ use Rattle.arithmetic.specs.declared.settings.Settings.{Settings}
 use Rattle.arithmetic.specs.declared.settings.Buffers.{Buffers}
 use Rattle.vectors.specs.Vectors.{vectorOf, segment}
 use Rattle.dock.specs.Begin.{readOf, writeOf, zeroesOf, discardOf, beginOf}
-use Rattle.dock.specs.Next.{nextOf}
+use Rattle.dock.specs.Next.{nextOf, pieceOf}
 use Rattle.dock.specs.Tell.{collectOf}
 use Rattle.dock.specs.declared.begin.Asked.{Asked}
 use Rattle.dock.specs.declared.begin.Begun.{Begun}
@@ -22,6 +22,8 @@ use Rattle.dock.specs.declared.tell.Collected.{Collected}
 use Rattle.dock.specs.declared.tell.Collected.the-variants.{Final}
 use Rattle.dock.specs.declared.next.Due.{Due}
 use Rattle.dock.specs.declared.next.Due.the-variants.{Waiting}
+use Rattle.dock.specs.declared.next.Piece.{Piece}
+use Rattle.dock.specs.declared.next.Piece.the-variants.{InData}
 use Rattle.theorem_lists.specs.Store.{Choice, window}
 use Rattle.theorem_lists.specs.PlainStore.{Plain, plainOpened}
 use Rattle.theorem_lists.specs.Histories.{Lends, World, opened, Lawful}
@@ -76,13 +78,15 @@ zeroes-done =
     ∷ (served 2 (0 ∷ []) ++ (begin (zeroesOf false (storeAt 4) 20) ∷ served 3 (1 ∷ 0 ∷ 0 ∷ 0 ∷ []))))
 
 -- "write 2 at 26", whose write fails with code 5; "discard 10 at 31": 8 at 32; "read 8 at 24", direct
-abbrev jobs-done : List Act
-jobs-done =
+abbrev read-begun : List Act
+read-begun =
     zeroes-done
     ++ (begin (writeOf (storeAt 26) (vectorOf (segment 26 2 ∷ [])))
     ∷ (served 4 (0 ∷ 0 ∷ 5 ∷ [])
-    ++ (begin (discardOf (storeAt 31) 10)
-    ∷ (served 5 (0 ∷ []) ++ (begin (readOf (storeAt 24) (vectorOf (segment 16 8 ∷ []))) ∷ served 6 (0 ∷ []))))))
+    ++ (begin (discardOf (storeAt 31) 10) ∷ (served 5 (0 ∷ []) ++ (begin (readOf (storeAt 24) (vectorOf (segment 16 8 ∷ []))) ∷ [])))))
+
+abbrev jobs-done : List Act
+jobs-done = read-begun ++ served 6 (0 ∷ [])
 
 -- a read into a byte of the direct write, which is in flight until its collect; a begin that is lent no bytes at all
 abbrev overlapping : Asked
@@ -107,6 +111,9 @@ answer w p = collectOf (w .dock) p (length (w .memory)) (length (w .scratch)) .a
 abbrev due : World → ℕ → Due
 due w p = nextOf (w .dock) p (length (w .memory)) (length (w .scratch))
 
+abbrev piece : World → ℕ → Piece
+piece w p = pieceOf (w .dock) p 0 (length (w .memory)) (length (w .scratch))
+
 -- the store's first 42 bytes at the end: the direct write's, zeroes, the failing write's first byte alone, what the discard left
 abbrev bytes : List ℕ
 bytes = (1 ∷ 2 ∷ 3 ∷ 4 ∷ []) ++ (replicate 20 0 ++ (9 ∷ 9 ∷ 31 ∷ (replicate 5 9 ++ (replicate 8 55 ++ (9 ∷ 9 ∷ [])))))
@@ -117,6 +124,8 @@ pub record Computed : Type 0 where
   -- the padded write puts its two bytes, and none beside them
   pub first : window (run world plain first-done .real .store) 0 10 ≡ 9 ∷ 9 ∷ 9 ∷ 101 ∷ 102 ∷ 9 ∷ 9 ∷ 9 ∷ 9 ∷ 9 ∷ []
   pub second : window (run world plain both-done .real .store) 0 10 ≡ 1 ∷ 2 ∷ 3 ∷ 4 ∷ 5 ∷ 6 ∷ 7 ∷ 8 ∷ 9 ∷ 9 ∷ []
+  -- the second read goes straight to its bytes of the data
+  pub direct : piece (run world plain read-begun .real) 6 ≡ InData (segment 16 8)
   -- at the end both sides have the same bytes
   pub real : window (run world plain all-done .real .store) 0 42 ≡ bytes
   pub plain-bytes : window (run world plain all-done .plain .bytes) 0 42 ≡ bytes
@@ -143,6 +152,7 @@ computed = record {
   waits = refl;
   first = refl;
   second = refl;
+  direct = refl;
   real = refl;
   plain-bytes = refl;
   write-answer = refl;
