@@ -9,7 +9,7 @@ use lib.Seq.{set-append-seam, append-snoc, take-suc, getD-drop, getD-take, take-
 use Rattle.vectors.specs.declared.vector.Segment.{Segment}
 use Rattle.vectors.specs.declared.vector.IoVector.{IoVector}
 use Rattle.vectors.specs.Vectors.{none, segmentsOf, sizeOf, vectorOf}
-use Rattle.vectors.specs.Joining.{Room, Joins}
+use Rattle.vectors.specs.Joining.{Room, Joins, Gluing}
 use Rattle.vectors.specs.SegmentLaws.{size-append, size-cut, segments-of}
 use Rattle.vectors.proofs.Pass.{nth, in-use}
 
@@ -105,7 +105,7 @@ pub grown : {u r : IoVector} (xs ys : List Segment) → u ≡ vectorOf xs → r 
 grown {u} {r} xs ys e f = let s : segmentsOf u ≡ xs = rw e (segments-of xs) in rw s at f
 
 module _ (u : IoVector) (ps : List Segment) (e : u ≡ vectorOf ps) where
-  count-of : u .count ≡ length ps
+  pub count-of : u .count ≡ length ps
   unfolding vectorOf
   count-of = rw e
 
@@ -119,3 +119,6 @@ module _ (u : IoVector) (ps : List Segment) (e : u ≡ vectorOf ps) where
   pub joins-of : (w : IoVector) (s n : ℕ) → length ps + n ≤ 16 → s + n ≤ w .count → w .count ≤ 16
       → sizeOf ps + sizeOf (take n (drop s (segmentsOf w))) ≤ 1048576 → Joins u w s n
   joins-of w s n h k m z = record { plain = plain-of u ps e; few = omega (arith, count-of); whole = k; most = m; small = omega (arith, total-of) }
+
+  pub gluing-of : (n : ℕ) → length ps ≤ 16 → sizeOf ps + n ≤ 1048576 → Gluing u n
+  gluing-of n h k = record { plain = plain-of u ps e; few = omega (arith, count-of); small = omega (arith, total-of) }

@@ -1,173 +1,245 @@
 -- What insert and append show of a vector: each step of the building, and which lists fit. Assumes nothing.
-use mathlib.Core.Path.{_≡_, sym, ap, _∙_}
-use mathlib.Core.Bool.{Bool, true, false, _&&_, and-false, and-true, and-assoc, and-comm}
-use mathlib.Core.List.{List, [], _∷_, _++_}
+use mathlib.Core.Path.{_≡_, refl, sym, ap, _∙_}
+use mathlib.Core.Bool.{Bool, true, false, _&&_, and-false, false≢true}
+use mathlib.Core.List.{List, [], _∷_}
 use Prim.Native.Nat.{ℕ, _+_, _-_, _≤_, _<_}
 use native.Mathlib.Omega.{arith}
 use lib.Dec.{leb}
-use lib.ListN.{length, take, drop, length-append, length-take, length-drop, take-append-drop, drop-of-length-le}
-use lib.Seq.{take-all, append-snoc, length-take-le}
+use lib.ListN.{length, take, drop, length-take, length-drop, drop-of-length-le}
+use lib.Seq.{take-all}
 use borrow.Author.Tests.{le-leb, lt-leb, leb-true}
-use Rattle.arithmetic.specs.SettingsLaws.{and-left, and-right}
+use Rattle.arithmetic.specs.SettingsLaws.{and-left, and-right, both}
 use Rattle.arithmetic.specs.declared.refusals.Outcome.the-variants.{Done}
 use Rattle.vectors.specs.declared.vector.Segment.{Segment}
 use Rattle.vectors.specs.declared.vector.IoVector.{IoVector}
-use Rattle.vectors.specs.Vectors.{segmentsOf, sizeOf, liesIn, allSegments, segmentsFit, vectorOf, isValid, refusedVector, changedTo, pushOf, insertOf, appendOf}
-use Rattle.vectors.specs.Joining.{Room, Joins}
-use Rattle.vectors.specs.SegmentLaws.{size-append, size-cut, all-append, all-cut, Fit, Valid, valid-true}
+use Rattle.vectors.specs.declared.vector.Glued.{Glued}
+use Rattle.vectors.specs.Vectors.{segmentsOf, sizeOf, liesIn, allSegments, segmentsFit, vectorOf, isValid, glued, refusedVector}
+use Rattle.vectors.specs.Vectors.{changedTo, pushOf, insertedAt, insertOf, appendOf}
+use Rattle.vectors.specs.Joining.{Joins, Gluing, GluesAll, gluedOf}
+use Rattle.vectors.specs.SegmentLaws.{size-cut, all-cut, segments-of, Valid, valid, valid-true}
+use Rattle.vectors.specs.SeamLaws.{glued-size, glued-lies, glued-longer, glued-nothing}
 use Rattle.vectors.proofs.Pass.{in-use}
-use Rattle.vectors.proofs.Building.{room-of, joins-of}
+use Rattle.vectors.proofs.Building.{joins-of, gluing-of}
+use Rattle.vectors.proofs.Gluing.{glued-is, glued-not}
 
--- ---- which lists fit
+-- ---- what a call returns whose segments would be js, of a valid vector
 
--- behind a list that fits
-pub fit-append : (n : ℕ) (ps qs : List Segment) → Fit n ps
-    → segmentsFit n (ps ++ qs) ≡ (leb (length ps + length qs) 16 && (allSegments (liesIn n) qs && leb (sizeOf ps + sizeOf qs) 1048576))
-unfolding segmentsFit
-fit-append n ps qs f = simp (length-append, all-append (liesIn n) ps qs, f .lie, size-append)
+module _ (n : ℕ) (v : IoVector) (js : List Segment) where
+  pub too-many : 16 < length js → refusedVector v ≡ changedTo n v js
+  unfolding changedTo segmentsFit
+  too-many h = rw (lt-leb (length js) 16 h, and-false)
 
--- the place of one more segment does not matter
-pub fit-insert : (n i : ℕ) (ps : List Segment) (p : Segment) → segmentsFit n (take i ps ++ (p ∷ drop i ps)) ≡ segmentsFit n (ps ++ (p ∷ []))
-unfolding segmentsFit allSegments sizeOf
-fit-insert n i ps p =
-    let l : length (take i ps ++ (p ∷ drop i ps)) ≡ length (ps ++ (p ∷ [])) =
-    omega (arith, length-append (take i ps) (p ∷ drop i ps), length-append ps (p ∷ []), length-append (take i ps) (drop i ps), ap length (take-append-drop i ps)) in
-    let z : sizeOf (take i ps ++ (p ∷ drop i ps)) ≡ sizeOf (ps ++ (p ∷ [])) =
-    omega (arith, size-append (take i ps) (p ∷ drop i ps), size-append ps (p ∷ []), size-cut i ps) in
-    let t : Bool = allSegments (liesIn n) (take i ps) in
-    let d : Bool = allSegments (liesIn n) (drop i ps) in
-    let a : allSegments (liesIn n) (take i ps ++ (p ∷ drop i ps)) ≡ allSegments (liesIn n) (ps ++ (p ∷ [])) =
-    all-append (liesIn n) (take i ps) (p ∷ drop i ps)
-    ∙ ap (λ (b : Bool). t && b) (and-comm (liesIn n p) d)
-    ∙ sym (and-assoc t d (liesIn n p))
-    ∙ ap (λ (b : Bool). b && liesIn n p) (all-cut (liesIn n) i ps)
-    ∙ ap (λ (b : Bool). allSegments (liesIn n) ps && b) (sym (and-true (liesIn n p)))
-    ∙ sym (all-append (liesIn n) ps (p ∷ [])) in
-    rw (l, z, a)
+  pub too-long : 1048576 < sizeOf js → refusedVector v ≡ changedTo n v js
+  unfolding changedTo segmentsFit
+  too-long h = rw (lt-leb (sizeOf js) 1048576 h, and-false (allSegments (liesIn n) js), and-false, and-false)
 
--- ---- refused
+  pub changed : (u : IoVector) → isValid n v ≡ true → allSegments (liesIn n) js ≡ true → length js ≤ 16 → sizeOf js ≤ 1048576 → u ≡ vectorOf js
+      → record { vector = u; outcome = Done } ≡ changedTo n v js
+  unfolding changedTo segmentsFit
+  changed u e a h k f = rw (e, a, le-leb (length js) 16 h, le-leb (sizeOf js) 1048576 k, f)
 
-pub not-valid : (n : ℕ) (v : IoVector) (ps : List Segment) → isValid n v ≡ false → refusedVector v ≡ changedTo n v ps
-unfolding changedTo
-not-valid n v ps e = rw e
+-- the segments of a vector that is that of a list
+its : {u : IoVector} {xs : List Segment} → u ≡ vectorOf xs → segmentsOf u ≡ xs
+its {u} {xs} e = rw e (segments-of xs)
 
-pub not-fit : (n : ℕ) (v : IoVector) (ps : List Segment) → segmentsFit n ps ≡ false → refusedVector v ≡ changedTo n v ps
-unfolding changedTo
-not-fit n v ps e = rw (e, and-false)
+-- what was glued behind the vector of xs
+module _ (u : IoVector) (xs qs : List Segment) (e : u ≡ vectorOf xs) (r : Glued) (g : r ≡ gluedOf u qs) where
+  fitting : r .fits ≡ true → (r .vector ≡ vectorOf (glued xs qs)) × (length (glued xs qs) ≤ 16)
+  fitting f = rw (its e) at (glued-is u qs r g f)
 
-pub changed : (n : ℕ) (v : IoVector) (ps : List Segment) (u : IoVector) → isValid n v ≡ true → segmentsFit n ps ≡ true → u ≡ vectorOf ps → record { vector = u; outcome = Done } ≡ changedTo n v ps
-unfolding changedTo
-changed n v ps u e f g = rw (e, f, g)
+  not-fitting : r .fits ≡ false → 16 < length (glued xs qs)
+  not-fitting f = rw (its e) at (glued-not u qs r g f)
+
+-- ---- tests of what other calls returned
+
+pub tests-are : (x : Bool) {a b c d : Bool} → a ≡ b → c ≡ d → ((x && a) && c) ≡ ((x && b) && d)
+tests-are x e f = rw (e, f)
+
+pub both-are : {a b c d : Bool} → a ≡ b → c ≡ d → (a && c) ≡ (b && d)
+both-are e f = rw (e, f)
 
 -- ---- insert
 
-pub insert-past : (n : ℕ) (v : IoVector) (i : ℕ) (p : Segment) → v .count < i → refusedVector v ≡ insertOf n v i p
-unfolding insertOf
-insert-past n v i p h = rw (lt-leb i (v .count) h)
+pub insert-not : (n : ℕ) (v : IoVector) (i : ℕ) (p : Segment) → ((leb i (v .count) && isValid n v) && liesIn n p) ≡ false
+    → refusedVector v ≡ insertOf n v i p
+unfolding insertOf changedTo
+insert-not n v i p t = go (leb i (v .count)) (liesIn n p) (isValid n v) refl refl refl
+  where
+    go : (a b c : Bool) → leb i (v .count) ≡ a → liesIn n p ≡ b → isValid n v ≡ c → refusedVector v ≡ insertOf n v i p
+    go false b c e f g = rw e
+    go true false c e f g = rw (e, f)
+    go true true false e f g = rw (e, f, g)
+    go true true true e f g = absurd (false≢true (sym (rw (e, f, g) at t)))
 
-pub insert-is : (n : ℕ) (v : IoVector) (i : ℕ) (p : Segment) → i ≤ v .count → changedTo n v (take i (segmentsOf v) ++ (p ∷ drop i (segmentsOf v))) ≡ insertOf n v i p
-unfolding insertOf
-insert-is n v i p h = rw (le-leb i (v .count) h)
-
-module _ (n : ℕ) (v : IoVector) (i : ℕ) (p : Segment) (wide : length (v .segments) ≡ 16) (w : Valid n v) where
+module _ (n : ℕ) (v : IoVector) (i : ℕ) (p : Segment) (wide : length (v .segments) ≡ 16)
+    (t : ((leb i (v .count) && isValid n v) && liesIn n p) ≡ true) where
   abbrev ps : List Segment
   ps = segmentsOf v
 
+  abbrev front : List Segment
+  front = glued (take i ps) (p ∷ [])
+
+  pub insert-reach : i ≤ v .count
+  insert-reach = leb-true _ _ (and-left (leb i (v .count)) (isValid n v) (and-left (leb i (v .count) && isValid n v) (liesIn n p) t))
+
+  pub insert-valid : Valid n v
+  insert-valid = valid n v (and-right (leb i (v .count)) (isValid n v) (and-left (leb i (v .count) && isValid n v) (liesIn n p) t))
+
+  lie : liesIn n p ≡ true
+  lie = and-right (leb i (v .count) && isValid n v) (liesIn n p) t
+
   long : length ps ≡ v .count
-  long = in-use v wide (w .few)
+  long = in-use v wide (insert-valid .few)
 
-  pub fits-one : segmentsFit n (take i ps ++ (p ∷ drop i ps)) ≡ (leb (v .count + 1) 16 && (liesIn n p && leb (v .total + p .length) 1048576))
-  unfolding allSegments sizeOf
-  fits-one =
-      let z : p .length + 0 ≡ p .length = omega arith in
-      fit-insert n i ps p ∙ fit-append n ps (p ∷ []) (w .fit) ∙ (rw (long, ← w .total, and-true, z))
+  insert-is : changedTo n v (glued front (drop i ps)) ≡ insertOf n v i p
+  unfolding insertOf insertedAt
+  insert-is = rw (le-leb i (v .count) insert-reach, lie)
 
-  module _ (h : i ≤ v .count) where
-    pub insert-empty : liesIn n p ≡ false → refusedVector v ≡ insertOf n v i p
-    insert-empty e = not-fit n v (take i ps ++ (p ∷ drop i ps)) (fits-one ∙ (rw (e, and-false))) ∙ insert-is n v i p h
+  sizes : sizeOf (glued front (drop i ps)) ≡ v .total + p .length
+  unfolding sizeOf
+  sizes =
+      omega (arith, glued-size (drop i ps) front, glued-size (p ∷ []) (take i ps), size-cut i ps, insert-valid .total)
 
-    module _ (lie : liesIn n p ≡ true) where
-      fits-two : segmentsFit n (take i ps ++ (p ∷ drop i ps)) ≡ (leb (v .count + 1) 16 && leb (v .total + p .length) 1048576)
-      fits-two = fits-one ∙ (rw lie)
+  all-lie : allSegments (liesIn n) (glued front (drop i ps)) ≡ true
+  unfolding allSegments
+  all-lie =
+      let a : (allSegments (liesIn n) (take i ps) && allSegments (liesIn n) (drop i ps)) ≡ true = all-cut (liesIn n) i ps ∙ insert-valid .fit .lie in
+      let f = and-left (allSegments (liesIn n) (take i ps)) (allSegments (liesIn n) (drop i ps)) a in
+      let b = and-right (allSegments (liesIn n) (take i ps)) (allSegments (liesIn n) (drop i ps)) a in
+      glued-lies (drop i ps) n b front (glued-lies (p ∷ []) n (both _ _ lie refl) (take i ps) f)
 
-      pub insert-full : (leb (v .count + 1) 16 && leb (v .total + p .length) 1048576) ≡ false → refusedVector v ≡ insertOf n v i p
-      insert-full e = not-fit n v (take i ps ++ (p ∷ drop i ps)) (fits-two ∙ e) ∙ insert-is n v i p h
+  pub insert-long : 1048576 - v .total < p .length → refusedVector v ≡ insertOf n v i p
+  insert-long h = too-long n v (glued front (drop i ps)) (omega (arith, sizes, insert-valid .total, insert-valid .fit .small)) ∙ insert-is
 
-      module _ (t : (leb (v .count + 1) 16 && leb (v .total + p .length) 1048576) ≡ true) where
-        few : v .count + 1 ≤ 16
-        few = leb-true _ _ (and-left (leb (v .count + 1) 16) (leb (v .total + p .length) 1048576) t)
+  module _ (h : p .length ≤ 1048576 - v .total) where
+    small : sizeOf (glued front (drop i ps)) ≤ 1048576
+    small = omega (arith, sizes, insert-valid .total, insert-valid .fit .small)
 
-        small : v .total + p .length ≤ 1048576
-        small = leb-true _ _ (and-right (leb (v .count + 1) 16) (leb (v .total + p .length) 1048576) t)
+    pub insert-first : (u : IoVector) → u ≡ vectorOf [] → Joins u v 0 i
+    unfolding sizeOf
+    insert-first u e =
+        joins-of u [] e v 0 i (omega (arith, insert-reach, insert-valid .few)) (omega (arith, insert-reach)) (insert-valid .few)
+        (omega (arith, size-cut i ps, insert-valid .fit .small))
 
-        front : length (take i ps) ≡ i
-        front = length-take-le i ps (omega (arith, long))
+    module _ (u : IoVector) (e : u ≡ vectorOf (take i ps)) where
+      pub insert-glues : Gluing u (p .length)
+      insert-glues =
+          gluing-of u (take i ps) e (p .length) (omega (arith, length-take i ps, long, insert-valid .few))
+          (omega (arith, size-cut i ps, insert-valid .total, insert-valid .fit .small))
 
-        pub insert-first : (u : IoVector) → u ≡ vectorOf [] → Joins u v 0 i
-        unfolding sizeOf
-        insert-first u e = joins-of u [] e v 0 i (omega (arith, few)) (omega arith) (w .few) (omega (arith, size-cut i ps, w .total, small))
+      module _ (r : Glued) (g : r ≡ gluedOf u (p ∷ [])) where
+        pub insert-full : r .fits ≡ false → refusedVector v ≡ insertOf n v i p
+        insert-full f =
+            too-many n v (glued front (drop i ps))
+            (omega (arith, not-fitting u (take i ps) (p ∷ []) e r g f, glued-longer front (drop i ps))) ∙ insert-is
 
-        pub insert-with : (u : IoVector) → u ≡ vectorOf (take i ps) → Room u p
-        insert-with u e = room-of u (take i ps) e p (omega (arith, front, few)) (omega (arith, size-cut i ps, w .total, small))
+        module _ (f : r .fits ≡ true) where
+          first-is : (r .vector ≡ vectorOf front) × (length front ≤ 16)
+          first-is = fitting u (take i ps) (p ∷ []) e r g f
 
-        pub insert-rest : (u : IoVector) → u ≡ vectorOf (take i ps ++ (p ∷ [])) → Joins u v i (v .count - i)
-        unfolding sizeOf
-        insert-rest u e =
-            joins-of u (take i ps ++ (p ∷ [])) e v i (v .count - i)
-            (omega (arith, length-append (take i ps) (p ∷ []), front, few))
-            (omega arith)
-            (w .few)
-            (omega (arith, size-append (take i ps) (p ∷ []), size-cut i ps, size-cut (v .count - i) (drop i ps), w .total, small))
+          rest : take (v .count - i) (drop i ps) ≡ drop i ps
+          rest = take-all (v .count - i) (drop i ps) (simp length-drop (omega (arith, long)))
 
-        pub insert-done : (u : IoVector) → u ≡ vectorOf ((take i ps ++ (p ∷ [])) ++ take (v .count - i) (drop i ps)) → record { vector = u; outcome = Done } ≡ insertOf n v i p
-        insert-done u e =
-            let l : length (drop i ps) ≤ v .count - i = simp length-drop (omega (arith, long)) in
-            let a : (take i ps ++ (p ∷ [])) ++ take (v .count - i) (drop i ps) ≡ take i ps ++ (p ∷ drop i ps) =
-            ap (λ (t : List Segment). (take i ps ++ (p ∷ [])) ++ t) (take-all (v .count - i) (drop i ps) l) ∙ append-snoc (take i ps) p (drop i ps) in
-            changed n v (take i ps ++ (p ∷ drop i ps)) u (valid-true n v w) (fits-two ∙ t) (e ∙ ap vectorOf a) ∙ insert-is n v i p h
+          pub insert-rest : GluesAll (r .vector) v i (v .count - i)
+          insert-rest = record {
+            asked = gluing-of (r .vector) front (first-is .0) (sizeOf (take (v .count - i) (drop i ps))) (first-is .1)
+                (rw rest (omega (arith, small, glued-size (drop i ps) front)));
+            whole = omega (arith, insert-reach);
+            most = insert-valid .few;
+          }
+
+          module _ (q : Glued) (k : q ≡ gluedOf (r .vector) (take (v .count - i) (drop i ps))) where
+            whole : q ≡ gluedOf (r .vector) (drop i ps)
+            whole = k ∙ ap (gluedOf (r .vector)) rest
+
+            pub insert-over : q .fits ≡ false → refusedVector v ≡ insertOf n v i p
+            insert-over z =
+                too-many n v (glued front (drop i ps)) (not-fitting (r .vector) front (drop i ps) (first-is .0) q whole z) ∙ insert-is
+
+            pub insert-done : q .fits ≡ true → record { vector = q .vector; outcome = Done } ≡ insertOf n v i p
+            insert-done z =
+                let y = fitting (r .vector) front (drop i ps) (first-is .0) q whole z in
+                changed n v (glued front (drop i ps)) (q .vector) (valid-true n v insert-valid) all-lie (y .1) small (y .0) ∙ insert-is
 
 -- push is an insert at the end
 pub push-is : (n : ℕ) (v : IoVector) (p : Segment) → insertOf n v (v .count) p ≡ pushOf n v p
-unfolding insertOf pushOf
+unfolding insertOf insertedAt pushOf
 push-is n v p =
-    let l : length (segmentsOf v) ≤ v .count = omega (arith, length-take (v .count) (v .segments)) in
-    let t : take (v .count) (segmentsOf v) ≡ segmentsOf v = take-all (v .count) (segmentsOf v) l in
-    let d : drop (v .count) (segmentsOf v) ≡ [] = drop-of-length-le (segmentsOf v) l in
-    rw (le-leb (v .count) (v .count) (omega arith)) (ap (λ (l : List Segment). changedTo n v l) (ap (λ (x : List Segment). x ++ (p ∷ drop (v .count) (segmentsOf v))) t ∙ ap (λ (x : List Segment). segmentsOf v ++ (p ∷ x)) d))
+    let ps = segmentsOf v in
+    let l : length ps ≤ v .count = omega (arith, length-take (v .count) (v .segments)) in
+    let e : glued (glued (take (v .count) ps) (p ∷ [])) (drop (v .count) ps) ≡ glued ps (p ∷ []) =
+    ap (glued (glued (take (v .count) ps) (p ∷ []))) (drop-of-length-le ps l) ∙ glued-nothing (glued (take (v .count) ps) (p ∷ []))
+    ∙ ap (λ (x : List Segment). glued x (p ∷ [])) (take-all (v .count) ps l) in
+    rw (le-leb (v .count) (v .count) (omega arith), e)
 
 -- ---- append
 
-pub append-other : (n : ℕ) (v w : IoVector) → isValid n w ≡ false → refusedVector v ≡ appendOf n v w
-unfolding appendOf
-append-other n v w e = rw e
+pub append-not : (n : ℕ) (v w : IoVector) → (isValid n w && isValid n v) ≡ false → refusedVector v ≡ appendOf n v w
+unfolding appendOf changedTo
+append-not n v w t = go (isValid n w) (isValid n v) refl refl
+  where
+    go : (a b : Bool) → isValid n w ≡ a → isValid n v ≡ b → refusedVector v ≡ appendOf n v w
+    go false b e f = rw e
+    go true false e f = rw (e, f)
+    go true true e f = absurd (false≢true (sym (rw (e, f) at t)))
 
-pub append-is : (n : ℕ) (v w : IoVector) → isValid n w ≡ true → changedTo n v (segmentsOf v ++ segmentsOf w) ≡ appendOf n v w
-unfolding appendOf
-append-is n v w e = rw e
+module _ (n : ℕ) (v w : IoVector) (wide : length (v .segments) ≡ 16) (wide' : length (w .segments) ≡ 16)
+    (t : (isValid n w && isValid n v) ≡ true) where
+  abbrev js : List Segment
+  js = glued (segmentsOf v) (segmentsOf w)
 
-module _ (n : ℕ) (v w : IoVector) (wide : length (v .segments) ≡ 16) (wide' : length (w .segments) ≡ 16) (a : Valid n v) (b : Valid n w) where
-  all-fit : segmentsFit n (segmentsOf v ++ segmentsOf w) ≡ (leb (v .count + w .count) 16 && leb (v .total + w .total) 1048576)
-  all-fit = fit-append n (segmentsOf v) (segmentsOf w) (a .fit) ∙ (rw (in-use v wide (a .few), in-use w wide' (b .few), b .fit .lie, ← a .total, ← b .total))
+  pub append-valid : Valid n v
+  append-valid = valid n v (and-right (isValid n w) (isValid n v) t)
 
-  pub append-full : (leb (v .count + w .count) 16 && leb (v .total + w .total) 1048576) ≡ false → refusedVector v ≡ appendOf n v w
-  append-full e = not-fit n v (segmentsOf v ++ segmentsOf w) (all-fit ∙ e) ∙ append-is n v w (valid-true n w b)
+  other : Valid n w
+  other = valid n w (and-left (isValid n w) (isValid n v) t)
 
-  whole : take (v .count) (segmentsOf v) ≡ segmentsOf v
-  whole = take-all (v .count) (segmentsOf v) (omega (arith, in-use v wide (a .few)))
+  append-is : changedTo n v js ≡ appendOf n v w
+  unfolding appendOf
+  append-is = rw (and-left (isValid n w) (isValid n v) t)
 
-  whole' : take (w .count) (segmentsOf w) ≡ segmentsOf w
-  whole' = take-all (w .count) (segmentsOf w) (omega (arith, in-use w wide' (b .few)))
+  both-sizes : sizeOf js ≡ v .total + w .total
+  both-sizes = omega (arith, glued-size (segmentsOf w) (segmentsOf v), append-valid .total, other .total)
 
-  module _ (t : (leb (v .count + w .count) 16 && leb (v .total + w .total) 1048576) ≡ true) where
-    pub append-first : (u : IoVector) → u ≡ vectorOf [] → Joins u v 0 (v .count)
-    unfolding sizeOf
-    append-first u e = joins-of u [] e v 0 (v .count) (omega (arith, a .few)) (omega arith) (a .few) (rw whole (omega (arith, a .fit .small)))
+  pub append-long : 1048576 - v .total < w .total → refusedVector v ≡ appendOf n v w
+  append-long h = too-long n v js (omega (arith, both-sizes, append-valid .total, append-valid .fit .small)) ∙ append-is
 
-    pub append-rest : (u : IoVector) → u ≡ vectorOf (take (v .count) (segmentsOf v)) → Joins u w 0 (w .count)
-    append-rest u e =
-        let few : v .count + w .count ≤ 16 = leb-true _ _ (and-left (leb (v .count + w .count) 16) (leb (v .total + w .total) 1048576) t) in
-        let small : v .total + w .total ≤ 1048576 = leb-true _ _ (and-right (leb (v .count + w .count) 16) (leb (v .total + w .total) 1048576) t) in
-        joins-of u (segmentsOf v) (rw whole at e) w 0 (w .count) (omega (arith, in-use v wide (a .few))) (omega arith) (b .few) (rw whole' (omega (arith, a .total, b .total)))
+  own : take (v .count) (segmentsOf v) ≡ segmentsOf v
+  own = take-all (v .count) (segmentsOf v) (omega (arith, in-use v wide (append-valid .few)))
 
-    pub append-done : (u : IoVector) → u ≡ vectorOf (take (v .count) (segmentsOf v) ++ take (w .count) (segmentsOf w)) → record { vector = u; outcome = Done } ≡ appendOf n v w
-    append-done u e = changed n v (segmentsOf v ++ segmentsOf w) u (valid-true n v a) (all-fit ∙ t) (rw (whole, whole') at e) ∙ append-is n v w (valid-true n w b)
+  others : take (w .count) (segmentsOf w) ≡ segmentsOf w
+  others = take-all (w .count) (segmentsOf w) (omega (arith, in-use w wide' (other .few)))
+
+  pub append-first : (u : IoVector) → u ≡ vectorOf [] → Joins u v 0 (v .count)
+  unfolding sizeOf
+  append-first u e =
+      joins-of u [] e v 0 (v .count) (omega (arith, append-valid .few)) (omega arith) (append-valid .few)
+      (rw own (omega (arith, append-valid .fit .small)))
+
+  module _ (h : w .total ≤ 1048576 - v .total) (u : IoVector) (e : u ≡ vectorOf (take (v .count) (segmentsOf v))) where
+    is-own : u ≡ vectorOf (segmentsOf v)
+    is-own = e ∙ ap vectorOf own
+
+    pub append-rest : GluesAll u w 0 (w .count)
+    append-rest = record {
+      asked = gluing-of u (segmentsOf v) is-own (sizeOf (take (w .count) (segmentsOf w)))
+          (omega (arith, in-use v wide (append-valid .few), append-valid .few))
+          (rw others (omega (arith, append-valid .total, append-valid .fit .small, other .total)));
+      whole = omega arith;
+      most = other .few;
+    }
+
+    module _ (r : Glued) (k : r ≡ gluedOf u (take (w .count) (segmentsOf w))) where
+      all-of : r ≡ gluedOf u (segmentsOf w)
+      all-of = k ∙ ap (gluedOf u) others
+
+      pub append-over : r .fits ≡ false → refusedVector v ≡ appendOf n v w
+      append-over f = too-many n v js (not-fitting u (segmentsOf v) (segmentsOf w) is-own r all-of f) ∙ append-is
+
+      pub append-done : r .fits ≡ true → record { vector = r .vector; outcome = Done } ≡ appendOf n v w
+      append-done f =
+          let y = fitting u (segmentsOf v) (segmentsOf w) is-own r all-of f in
+          changed n v js (r .vector) (valid-true n v append-valid)
+          (glued-lies (segmentsOf w) n (other .fit .lie) (segmentsOf v) (append-valid .fit .lie)) (y .1)
+          (omega (arith, both-sizes, append-valid .total, append-valid .fit .small)) (y .0)
+          ∙ append-is

@@ -109,10 +109,6 @@ module _ (n : ℕ) (v : IoVector) (sum i : ℕ) (g : Checked n v sum i) where
 
 -- ---- tests by differences, where sums may not fit
 
--- room for two numbers more
-pub both-room : (a b x y : ℕ) → a ≤ 16 → x ≤ 1048576 → (leb b (16 - a) && leb y (1048576 - x)) ≡ (leb (a + b) 16 && leb (x + y) 1048576)
-both-room a b x y h k = rw (room 16 a b h, room 1048576 x y k)
-
 pub lies-out : (n : ℕ) (p : Segment) → n < p .start → false ≡ liesIn n p
 unfolding liesIn
 lies-out n p h = let l : n < p .start + p .length = omega arith in simp (lt-leb (p .start + p .length) n l, and-false)

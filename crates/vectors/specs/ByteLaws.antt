@@ -10,15 +10,16 @@ use native.Mathlib.Omega.{arith}
 use lib.ListN.{length, take, drop, getD, replicate, length-append, length-take, length-drop, length-replicate, replicate-append-replicate}
 use lib.ListN.{take-append-drop, getD-replicate, List·getD-append}
 use lib.Seq.{take-at, drop-at, take-take, take-nil, drop-drop, take-append-le, take-append-seam, drop-append-add, length-take-le, getD-take}
-use lib.Seq.{getD-drop, getD-append-add}
+use lib.Seq.{getD-drop, getD-append-add, take-add}
 use borrow.Author.Tests.{lt-ltb, le-ltb, le-leb}
 use Rattle.arithmetic.specs.Loops.{or-first}
 use Rattle.arithmetic.specs.SettingsLaws.{and-left, and-right}
 use Rattle.vectors.specs.declared.vector.Segment.{Segment}
 use Rattle.vectors.specs.Vectors.{sizeOf, liesIn, allSegments, anySegment, put, bytesOf, scatterOf, fillOf, shares, overlapOf}
-use Rattle.vectors.specs.Vectors.{selfOverlapOf}
+use Rattle.vectors.specs.Vectors.{selfOverlapOf, seam, glued}
 use Rattle.vectors.specs.Places.{inSegment, covered, placeOf}
-use Rattle.vectors.specs.SegmentLaws.{Lies, lies}
+use Rattle.vectors.specs.SegmentLaws.{Lies, lies, size-append}
+use Rattle.vectors.specs.SeamLaws.{Touching, seam-cases, glued-size}
 use Rattle.vectors.specs.OverlapLaws.{or-left, or-right, or-cases, apart, inside, outside}
 
 -- ---- put
@@ -68,6 +69,21 @@ module _ {A : Type 0} where
         ∙ ap (λ (t : List A). drop (s - (a + length bs)) t) (drop-drop (length bs) a l)
         ∙ drop-drop (s - (a + length bs)) (a + length bs) l
         ∙ ap (λ (i : ℕ). drop i l) f)
+
+-- two runs of bytes, the second put behind the first, are one
+put-behind : (l : List ℕ) (a : ℕ) (bs cs : List ℕ) → a ≤ length l → put (put l a bs) (a + length bs) cs ≡ put l a (bs ++ cs)
+unfolding put
+put-behind l a bs cs h =
+    let front : List ℕ = take a l ++ bs in
+    let rest : List ℕ = drop (length bs) (drop a l) in
+    let n : length front ≡ a + length bs = length-append (take a l) bs ∙ ap (λ (k : ℕ). k + length bs) (length-take-le a l h) in
+    let e : take a l ++ (bs ++ rest) ≡ front ++ rest = sym (append-assoc (take a l) bs rest) in
+    let d : drop (length cs) rest ≡ drop (length (bs ++ cs)) (drop a l) =
+    drop-drop (length cs) (length bs) (drop a l) ∙ ap (λ (k : ℕ). drop k (drop a l)) (sym (length-append bs cs)) in
+    ap (λ (t : List ℕ). take (a + length bs) t ++ (cs ++ drop (length cs) (drop (a + length bs) t))) e
+    ∙ (rw (take-at front rest (a + length bs) n, drop-at front rest (a + length bs) n)
+    (append-assoc (take a l) bs (cs ++ drop (length cs) rest)
+    ∙ ap (λ (t : List ℕ). take a l ++ t) (sym (append-assoc bs cs (drop (length cs) rest)) ∙ ap (λ (t : List ℕ). (bs ++ cs) ++ t) d)))
 
 -- one byte, as a run of one
 one : (l m : List ℕ) (k : ℕ) → take 1 (drop k l) ≡ take 1 (drop k m) → getD l k 0 ≡ getD m k 0
@@ -317,3 +333,44 @@ covered-place (p ∷ ps) k e = ⊎-elim (λ a. here a) (λ b. there (covered-pla
         let l : p .length ≤ p .length + r .0 = omega arith in
         let m : p .length + r .0 - p .length ≡ r .0 = omega arith in
         (p .length + r .0, omega (arith, r .1), rw (le-ltb (p .length + r .0) (p .length) l, m) (r .2))
+
+-- ---- segments glued
+
+-- bytes go where they went into the two lists
+pub scatter-glued : (l : List ℕ) (ps qs : List Segment) (src : List ℕ) → allSegments (liesIn (length l)) ps ≡ true → sizeOf ps ≤ length src
+    → scatterOf l (glued ps qs) src ≡ scatterOf l (ps ++ qs) src
+unfolding scatterOf glued seam sizeOf
+scatter-glued l [] qs src e h = refl
+scatter-glued l (p ∷ []) qs src e h = at-seam qs
+  where
+    at-seam : (qs : List Segment) → scatterOf l (seam p qs) src ≡ scatterOf l (p ∷ qs) src
+    at-seam [] = refl
+    at-seam (q ∷ qs) = ⊎-elim touching (λ a. rw (a .is)) (seam-cases p q qs)
+      where
+        touching : Touching p q qs → scatterOf l (seam p (q ∷ qs)) src ≡ scatterOf l (p ∷ (q ∷ qs)) src
+        touching t =
+            let bs = take (p .length) src in
+            let n : length bs ≡ p .length = length-take-le (p .length) src (omega arith) in
+            let k : p .start + length bs ≡ q .start = omega (arith, t .ends) in
+            let a : p .start ≤ length l = omega (arith, head-lies (length l) p [] e .ends) in
+            let cs = take (q .length) (drop (p .length) src) in
+            let m : List ℕ = put (put l (p .start) bs) (q .start) cs in
+            let x : m ≡ put l (p .start) (take (p .length + q .length) src) =
+            ap (λ (i : ℕ). put (put l (p .start) bs) i cs) (sym k)
+            ∙ put-behind l (p .start) bs cs a
+            ∙ ap (put l (p .start)) (sym (take-add (p .length) (q .length) src)) in
+            rw (t .is) (ap (λ (y : List ℕ). scatterOf y qs (drop (p .length + q .length) src)) (sym x)
+            ∙ ap (scatterOf m qs) (sym (drop-drop (q .length) (p .length) src)))
+scatter-glued l (p ∷ (r ∷ ps)) qs src e h =
+    let bs = take (p .length) src in
+    scatter-glued (put l (p .start) bs) (r ∷ ps) qs (drop (p .length) src) (still l p (r ∷ ps) bs e (taken p src))
+    (simp length-drop (omega arith))
+
+pub fill-glued : (l : List ℕ) (ps qs : List Segment) (b : ℕ) → allSegments (liesIn (length l)) ps ≡ true
+    → fillOf l (glued ps qs) b ≡ fillOf l (ps ++ qs) b
+fill-glued l ps qs b e =
+    let n : sizeOf (glued ps qs) ≡ sizeOf (ps ++ qs) = glued-size qs ps ∙ sym (size-append ps qs) in
+    let h : sizeOf ps ≤ length (replicate (sizeOf (ps ++ qs)) b) =
+    omega (arith, length-replicate (sizeOf (ps ++ qs)) b, size-append ps qs) in
+    fill-is l (glued ps qs) b ∙ ap (λ (k : ℕ). scatterOf l (glued ps qs) (replicate k b)) n
+    ∙ scatter-glued l ps qs (replicate (sizeOf (ps ++ qs)) b) e h ∙ sym (fill-is l (ps ++ qs) b)

@@ -1,18 +1,18 @@
 -- What push, insert, append and the splits return is valid, or the call was refused and the vector is as it was. Assumes nothing.
 use mathlib.Core.Path.{_≡_, refl}
 use mathlib.Core.Bool.{Bool, true, false, _&&_}
-use mathlib.Core.List.{List, [], _∷_, _++_}
+use mathlib.Core.List.{List, [], _∷_}
 use mathlib.Core.Logic.{_⊎_, inl, inr}
 use Prim.Native.Nat.{ℕ}
 use lib.Dec.{leb}
-use lib.ListN.{take, drop}
+use Rattle.arithmetic.specs.Rounding.{pick}
 use Rattle.arithmetic.specs.SettingsLaws.{and-right}
 use Rattle.arithmetic.specs.declared.refusals.Outcome.the-variants.{Done}
 use Rattle.vectors.specs.declared.vector.Segment.{Segment}
 use Rattle.vectors.specs.declared.vector.IoVector.{IoVector}
 use Rattle.vectors.specs.declared.vector.Changed.{Changed}
-use Rattle.vectors.specs.Vectors.{segmentsOf, segmentsFit, isValid, refusedVector, changedTo, pushOf, insertOf, appendOf, headOf}
-use Rattle.vectors.specs.Vectors.{tailOf, splitOf, splitTailOf}
+use Rattle.vectors.specs.Vectors.{segmentsOf, liesIn, segmentsFit, isValid, glued, refusedVector, changedTo, pushOf, insertedAt}
+use Rattle.vectors.specs.Vectors.{insertOf, appendOf, headOf, tailOf, splitOf, splitTailOf}
 use Rattle.vectors.specs.SegmentLaws.{fit-true, valid, segments-of, vector-valid}
 use Rattle.vectors.specs.SplitLaws.{head-fits, tail-fits}
 
@@ -32,27 +32,25 @@ changed n v ps = go (isValid n v && segmentsFit n ps) refl
         inl (record { done = rw e; segments = rw e (segments-of ps); valid = rw e f })
     go false e = inr (rw e)
 
-pub pushed : (n : ℕ) (v : IoVector) (p : Segment) → EditedTo n (segmentsOf v ++ (p ∷ [])) (pushOf n v p) ⊎ (pushOf n v p ≡ refusedVector v)
-unfolding pushOf
-pushed n v p = changed n v (segmentsOf v ++ (p ∷ []))
+module _ (n : ℕ) (v : IoVector) where
+  -- a call that is carried out if t, and then gives the segments ps
+  when-asked : (t : Bool) (ps : List Segment) → EditedTo n ps (pick t (changedTo n v ps) (refusedVector v))
+      ⊎ (pick t (changedTo n v ps) (refusedVector v) ≡ refusedVector v)
+  when-asked true ps = changed n v ps
+  when-asked false ps = inr refl
 
-pub inserted : (n : ℕ) (v : IoVector) (i : ℕ) (p : Segment) →
-    EditedTo n (take i (segmentsOf v) ++ (p ∷ drop i (segmentsOf v))) (insertOf n v i p) ⊎ (insertOf n v i p ≡ refusedVector v)
-unfolding insertOf
-inserted n v i p = go (leb i (v .count)) refl
-  where
-    go : (t : Bool) → leb i (v .count) ≡ t → EditedTo n (take i (segmentsOf v) ++ (p ∷ drop i (segmentsOf v))) (insertOf n v i p)
-        ⊎ (insertOf n v i p ≡ refusedVector v)
-    go true e = rw e (changed n v (take i (segmentsOf v) ++ (p ∷ drop i (segmentsOf v))))
-    go false e = inr (rw e)
+  pub pushed : (p : Segment) → EditedTo n (glued (segmentsOf v) (p ∷ [])) (pushOf n v p) ⊎ (pushOf n v p ≡ refusedVector v)
+  unfolding pushOf
+  pushed p = when-asked (liesIn n p) (glued (segmentsOf v) (p ∷ []))
 
-pub appended : (n : ℕ) (v w : IoVector) → EditedTo n (segmentsOf v ++ segmentsOf w) (appendOf n v w) ⊎ (appendOf n v w ≡ refusedVector v)
-unfolding appendOf
-appended n v w = go (isValid n w) refl
-  where
-    go : (t : Bool) → isValid n w ≡ t → EditedTo n (segmentsOf v ++ segmentsOf w) (appendOf n v w) ⊎ (appendOf n v w ≡ refusedVector v)
-    go true e = rw e (changed n v (segmentsOf v ++ segmentsOf w))
-    go false e = inr (rw e)
+  pub inserted : (i : ℕ) (p : Segment) → EditedTo n (insertedAt i (segmentsOf v) p) (insertOf n v i p)
+      ⊎ (insertOf n v i p ≡ refusedVector v)
+  unfolding insertOf
+  inserted i p = when-asked (leb i (v .count) && liesIn n p) (insertedAt i (segmentsOf v) p)
+
+  pub appended : (w : IoVector) → EditedTo n (glued (segmentsOf v) (segmentsOf w)) (appendOf n v w) ⊎ (appendOf n v w ≡ refusedVector v)
+  unfolding appendOf
+  appended w = when-asked (isValid n w) (glued (segmentsOf v) (segmentsOf w))
 
 -- the two parts of a valid vector are valid
 module _ (n : ℕ) (v : IoVector) (mid : ℕ) (e : isValid n v ≡ true) where

@@ -4,8 +4,11 @@ pub mod Joining
 pub mod Positions
 pub mod Aligning
 pub mod Places
+pub mod Runs
 pub mod SegmentLaws
 pub mod SplitLaws
+pub mod SeamLaws
+pub mod RunLaws
 pub mod EditLaws
 pub mod OverlapLaws
 pub mod ByteLaws

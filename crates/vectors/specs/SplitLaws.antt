@@ -66,7 +66,7 @@ cases p ps mid = elim (decLt 0 mid) [
 
 -- ---- bytes
 
-parts : (d : List ℕ) (s m n : ℕ) → take m (drop s d) ++ take n (drop (s + m) d) ≡ take (m + n) (drop s d)
+pub parts : (d : List ℕ) (s m n : ℕ) → take m (drop s d) ++ take n (drop (s + m) d) ≡ take (m + n) (drop s d)
 parts d s m n = ap (λ (t : List ℕ). take m (drop s d) ++ take n t) (sym (drop-drop m s d)) ∙ sym (take-add m n (drop s d))
 
 -- the bytes of the head and then of the tail are those of the whole, wherever the split falls

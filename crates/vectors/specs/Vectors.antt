@@ -60,7 +60,22 @@ vectorOf ps = record { segments = ps ++ replicate (16 - length ps) none; count =
 unfoldable pub isValid : ℕ → IoVector → Bool
 isValid n v = leb (v .count) 16 && (segmentsFit n (segmentsOf v) && eqb (v .total) (sizeOf (segmentsOf v)))
 
--- ---- push, insert, append
+-- ---- push, insert, append: pieces that touch become one (document 02, N1)
+
+-- q "starts where" p "ends"
+unfoldable pub touches : Segment → Segment → Bool
+touches p q = eqb (p .start + p .length) (q .start)
+
+-- p before qs, where p touches their first as one segment with it
+unfoldable pub seam : Segment → List Segment → List Segment
+seam p [] = p ∷ []
+seam p (q ∷ qs) = pick (touches p q) (segment (p .start) (p .length + q .length) ∷ qs) (p ∷ (q ∷ qs))
+
+-- ps and then qs: the last of ps and the first of qs are one segment where they touch
+unfoldable pub glued : List Segment → List Segment → List Segment
+glued [] qs = qs
+glued (p ∷ []) qs = seam p qs
+glued (p ∷ (r ∷ ps)) qs = p ∷ glued (r ∷ ps) qs
 
 abbrev pub refusedVector : IoVector → Changed
 refusedVector v = record { vector = v; outcome = Refused BadSegment }
@@ -69,15 +84,20 @@ refusedVector v = record { vector = v; outcome = Refused BadSegment }
 unfoldable pub changedTo : ℕ → IoVector → List Segment → Changed
 changedTo n v ps = pick (isValid n v && segmentsFit n ps) (record { vector = vectorOf ps; outcome = Done }) (refusedVector v)
 
+-- "A push .. whose first new piece starts where the last one ends shall lengthen that last piece"; an empty piece is 202 wherever it starts
 unfoldable pub pushOf : ℕ → IoVector → Segment → Changed
-pushOf n v p = changedTo n v (segmentsOf v ++ (p ∷ []))
+pushOf n v p = pick (liesIn n p) (changedTo n v (glued (segmentsOf v) (p ∷ []))) (refusedVector v)
+
+-- ps with p before the one at i: "Insert joins on either side"
+unfoldable pub insertedAt : ℕ → List Segment → Segment → List Segment
+insertedAt i ps p = glued (glued (take i ps) (p ∷ [])) (drop i ps)
 
 -- an index past the count: 202
 unfoldable pub insertOf : ℕ → IoVector → ℕ → Segment → Changed
-insertOf n v i p = pick (leb i (v .count)) (changedTo n v (take i (segmentsOf v) ++ (p ∷ drop i (segmentsOf v)))) (refusedVector v)
+insertOf n v i p = pick (leb i (v .count) && liesIn n p) (changedTo n v (insertedAt i (segmentsOf v) p)) (refusedVector v)
 
 unfoldable pub appendOf : ℕ → IoVector → IoVector → Changed
-appendOf n v w = pick (isValid n w) (changedTo n v (segmentsOf v ++ segmentsOf w)) (refusedVector v)
+appendOf n v w = pick (isValid n w) (changedTo n v (glued (segmentsOf v) (segmentsOf w))) (refusedVector v)
 
 -- ---- split
 

@@ -2,13 +2,13 @@
 use arithmetic::refusals::Outcome;
 use arithmetic::refusals::Refusal;
 ghost use mathlib.Core.Path.{_≡_};
-ghost use mathlib.Core.Bool.{_&&_};
 ghost use mathlib.Core.List.{[], _∷_, _++_};
-ghost use Prim.Native.Nat.{_+_, _≤_};
-ghost use lib.Dec.{eqb, leb};
+ghost use Prim.Native.Nat.{_≤_};
+ghost use lib.Dec.{eqb};
 ghost use lib.ListN.{take, drop};
-ghost use Rattle.vectors.specs.Vectors.{vectorOf, segmentsOf, liesIn, isValid, refusedVector, pushOf, insertOf, appendOf};
-ghost use Rattle.vectors.specs.Joining.{Room, Joins};
+ghost use Rattle.vectors.specs.Vectors.{vectorOf, segmentsOf, liesIn, isValid, touches, glued, refusedVector};
+ghost use Rattle.vectors.specs.Vectors.{pushOf, insertOf, appendOf};
+ghost use Rattle.vectors.specs.Joining.{Room, Joins, lastTouches, Lengthens, Gluing, GluesAll, gluedOf};
 
 // A run of bytes of the lent data (document 01: a piece of a vector).
 pub struct Segment {
@@ -26,6 +26,12 @@ pub struct IoVector {
 pub struct Changed {
     pub vector: IoVector,
     pub outcome: Outcome,
+}
+
+// A vector with segments glued behind it, and whether they fit; where they do not, it is as it was.
+pub struct Glued {
+    pub vector: IoVector,
+    pub fits: bool,
 }
 
 // The two parts of a split; of a refused one the vector as it was, and an empty one.
@@ -67,6 +73,16 @@ impl Segment {
             return false;
         }
         (0 < self.length) & (self.length <= data_len - self.start)
+    }
+
+    // Whether `next` starts where this one ends; by the difference, as the sum may pass 2^64 - 1.
+    fn touches(self, next: Segment) -> bool
+        ensures { λ r. ⌜ r ≡ touches self next ⌝ }
+    {
+        if next.start < self.start {
+            return false;
+        }
+        next.start - self.start == self.length
     }
 }
 
@@ -130,14 +146,6 @@ impl IoVector {
         self.total == sum
     }
 
-    // Whether that many segments and bytes more are within the limits.
-    fn has_room(self, count: usize, length: u64) -> bool
-        requires { ⌜ (self .count ≤ 16) × (self .total ≤ 1048576) ⌝ }
-        ensures { λ r. ⌜ r ≡ (leb (self .count + count) 16 && leb (self .total + length) 1048576) ⌝ }
-    {
-        (count <= MAX_COUNT - self.count) & (length <= MAX_TOTAL - self.total)
-    }
-
     // With one segment more at the end.
     pub(crate) fn add(mut self, segment: Segment) -> IoVector
         requires { ⌜ Room self segment ⌝ }
@@ -165,6 +173,82 @@ impl IoVector {
         v
     }
 
+    // Whether the last segment ends where `next` starts.
+    fn last_touches(self, next: Segment) -> bool
+        requires { ⌜ self .count ≤ 16 ⌝ }
+        ensures { λ r. ⌜ r ≡ lastTouches (segmentsOf self) next ⌝ }
+    {
+        let n = self.count;
+        if n == 0 {
+            return false;
+        }
+        let last = self.segments[n - 1];
+        last.touches(next)
+    }
+
+    // With the last segment longer by `next`, which it touches.
+    fn lengthen(mut self, next: Segment) -> IoVector
+        requires { ⌜ Lengthens self next ⌝ }
+        ensures { λ r. ⌜ r ≡ vectorOf (glued (segmentsOf self) (next ∷ [])) ⌝ }
+    {
+        let end = self.count - 1;
+        let last = self.segments[end];
+        self.segments[end] = Segment {
+            start: last.start,
+            length: last.length + next.length,
+        };
+        self.total += next.length as u64;
+        self
+    }
+
+    // With `segment` at the end, as part of the last segment where they touch. It does not fit where it is a 17th.
+    fn glue(self, segment: Segment) -> Glued
+        requires { ⌜ Gluing self (segment .length) ⌝ }
+        ensures { λ r. ⌜ r ≡ gluedOf self (segment ∷ []) ⌝ }
+    {
+        if self.last_touches(segment) {
+            return Glued {
+                vector: self.lengthen(segment),
+                fits: true,
+            };
+        }
+        if self.count == MAX_COUNT {
+            return Glued {
+                vector: self,
+                fits: false,
+            };
+        }
+        Glued {
+            vector: self.add(segment),
+            fits: true,
+        }
+    }
+
+    // With n segments of `other`, from `start` on, at the end: the first is glued. They do not fit where one is a 17th.
+    fn glue_all(self, other: IoVector, start: usize, n: usize) -> Glued
+        requires { ⌜ GluesAll self other start n ⌝ }
+        ensures { λ r. ⌜ r ≡ gluedOf self (take n (drop start (segmentsOf other))) ⌝ }
+    {
+        if n == 0 {
+            return Glued {
+                vector: self,
+                fits: true,
+            };
+        }
+        let first = self.glue(other.segments[start]);
+        let is_over = !first.fits | (MAX_COUNT - first.vector.count < n - 1);
+        if is_over {
+            return Glued {
+                vector: self,
+                fits: false,
+            };
+        }
+        Glued {
+            vector: first.vector.join(other, start + 1, n - 1),
+            fits: true,
+        }
+    }
+
     // 202: the vector stays as it was.
     pub(crate) fn refuse(self) -> Changed
         ensures { λ r. ⌜ r ≡ refusedVector self ⌝ }
@@ -175,53 +259,60 @@ impl IoVector {
         }
     }
 
-    // With `segment` at the end. Refused where the vector is none over the data, or would then be none.
+    // With `segment` at the end: where it starts where the last one ends, that one is longer by it. Refused where the
+    // vector is none over the data, or would then be none, or the segment lies outside or is empty.
     pub fn push(self, segment: Segment, data_len: usize) -> Changed
         ensures { λ r. ⌜ r ≡ pushOf data_len self segment ⌝ }
     {
         self.insert(self.count, segment, data_len)
     }
 
-    // With `segment` before the one at `index`, which is at most the count. Refused as push is.
+    // With `segment` before the one at `index`, which is at most the count; on either side joined where they touch.
+    // Refused as push is.
     pub fn insert(self, index: usize, segment: Segment, data_len: usize) -> Changed
         ensures { λ r. ⌜ r ≡ insertOf data_len self index segment ⌝ }
     {
         let n = self.count;
-        if n < index {
+        let is_asked = (index <= n) & self.is_valid(data_len) & segment.lies_in(data_len);
+        if !is_asked {
             return self.refuse();
         }
-        if !self.is_valid(data_len) {
+        if MAX_TOTAL - self.total < segment.length as u64 {
             return self.refuse();
         }
-        if !segment.lies_in(data_len) {
+        let front = IoVector::new().join(self, 0, index).glue(segment);
+        if !front.fits {
             return self.refuse();
         }
-        if !self.has_room(1, segment.length as u64) {
+        let whole = front.vector.glue_all(self, index, n - index);
+        if !whole.fits {
             return self.refuse();
         }
-        let front = IoVector::new().join(self, 0, index).add(segment);
-        let vector = front.join(self, index, n - index);
+        let vector = whole.vector;
         Changed {
             vector,
             outcome: Outcome::Done,
         }
     }
 
-    // With the segments of `other` at the end. Refused as push is, and where `other` is no vector over the data.
+    // With the segments of `other` at the end, the first of them as in push. Refused as push is, and where `other` is no
+    // vector over the data.
     pub fn append(self, other: IoVector, data_len: usize) -> Changed
         ensures { λ r. ⌜ r ≡ appendOf data_len self other ⌝ }
     {
-        if !other.is_valid(data_len) {
+        let is_asked = other.is_valid(data_len) & self.is_valid(data_len);
+        if !is_asked {
             return self.refuse();
         }
-        if !self.is_valid(data_len) {
-            return self.refuse();
-        }
-        if !self.has_room(other.count, other.total) {
+        if MAX_TOTAL - self.total < other.total {
             return self.refuse();
         }
         let front = IoVector::new().join(self, 0, self.count);
-        let vector = front.join(other, 0, other.count);
+        let whole = front.glue_all(other, 0, other.count);
+        if !whole.fits {
+            return self.refuse();
+        }
+        let vector = whole.vector;
         Changed {
             vector,
             outcome: Outcome::Done,
