@@ -3,6 +3,7 @@ use crate::show;
 use arithmetic::settings::Alignments;
 use arithmetic::settings::Lent;
 use vectors::vector::IoVector;
+use vectors::vector::Segment;
 
 // With alignments M and R, over 8,192 bytes at the address.
 fn ask(label: &[u8], v: IoVector, mem: u64, req: u64, address: u64) {
@@ -70,4 +71,16 @@ pub fn lengths() {
         1,
         0,
     );
+}
+
+// Two halves of a block that touch: pushed they are one segment; a begin is handed what a host wrote.
+pub fn halves() {
+    let pushed = show::more(show::one(0, 256), 256, 256);
+    ask(b"M 1, R 512, two halves pushed", pushed, 1, 512, 0);
+    let mut hand = show::more(show::one(0, 256), 300, 256);
+    hand.segments[1] = Segment {
+        start: 256,
+        length: 256,
+    };
+    ask(b"M 1, R 512, two halves by hand", hand, 1, 512, 0);
 }

@@ -15,13 +15,24 @@ fn append(label: &[u8], v: IoVector, other: IoVector) {
     show::changed(label, v.append(other, 2000000));
 }
 
-// n segments of one byte, side by side.
+// n pushes of one byte, each behind the one before it: one segment.
 fn side_by_side(n: usize) -> IoVector {
     let mut v = IoVector::new();
     let mut i = 0usize;
     while i < n {
         v = show::more(v, i, 1);
         i += 1;
+    }
+    v
+}
+
+// n pushes of one byte, each before the one before it, the last at 0: n segments.
+fn downward(n: usize) -> IoVector {
+    let mut v = IoVector::new();
+    let mut left = n;
+    while 0 < left {
+        left -= 1;
+        v = show::more(v, left, 1);
     }
     v
 }
@@ -56,13 +67,15 @@ pub fn segment_limits() {
 }
 
 pub fn count_limits() {
-    let v = side_by_side(15);
+    let v = downward(15);
     show::vector_line(b"15 segments", v);
     push(b"push the 16th", v, 15, 1, 100);
     let w = show::more(v, 15, 1);
-    push(b"push the 17th", w, 16, 1, 100);
+    push(b"push the 17th", w, 17, 1, 100);
     insert(b"insert the 16th", v, 0, 15, 1);
     insert(b"insert the 17th", w, 0, 16, 1);
+    push(b"push to the 16th", w, 16, 1, 100);
+    push(b"push an empty one to the 16th", w, 16, 0, 100);
 }
 
 pub fn total_limits() {
@@ -84,13 +97,76 @@ pub fn inserts() {
     insert(b"insert an empty one", v, 1, 30, 0);
 }
 
+// Segments that touch become one.
+pub fn joins() {
+    show::vector_line(b"40 pushes side by side", side_by_side(40));
+    let v = show::one(4, 2);
+    push(b"push where the last ends", v, 6, 3, 100);
+    push(b"push one behind the last", v, 7, 3, 100);
+    push(b"push from inside the last", v, 5, 3, 100);
+    push(b"push up to the last", v, 0, 4, 100);
+    push(b"push an empty one where the last ends", v, 6, 0, 100);
+    let full = show::one(4, 1048575);
+    push(
+        b"push up to 1048576 bytes in one",
+        full,
+        1048579,
+        1,
+        2000000,
+    );
+    push(b"push past 1048576 bytes in one", full, 1048579, 2, 2000000);
+    let high = IoVector::new()
+        .push(
+            Segment {
+                start: 18446744073709551613,
+                length: 1,
+            },
+            18446744073709551615,
+        )
+        .vector;
+    push(
+        b"push up to 2^64 - 1",
+        high,
+        18446744073709551614,
+        1,
+        18446744073709551615,
+    );
+    push(
+        b"push past 2^64 - 1",
+        high,
+        18446744073709551614,
+        2,
+        18446744073709551615,
+    );
+}
+
+// On either side of an insert.
+pub fn insert_joins() {
+    let v = show::more(show::one(10, 2), 16, 4);
+    insert(b"insert where the first ends", v, 1, 12, 1);
+    insert(b"insert up to the second", v, 1, 15, 1);
+    insert(b"insert between the two", v, 1, 12, 4);
+    insert(b"insert one short of the second", v, 1, 12, 3);
+    insert(b"insert up to the first", v, 0, 9, 1);
+    insert(b"insert where the last ends", v, 2, 20, 5);
+    insert(b"insert an empty one where the first ends", v, 1, 12, 0);
+    let mut hand = v;
+    hand.segments[1] = Segment {
+        start: 12,
+        length: 4,
+    };
+    insert(b"insert before two that touch", hand, 0, 30, 1);
+}
+
 pub fn appends() {
-    let eight = side_by_side(8);
+    let eight = downward(8);
     let half = show::one(0, 524288);
     append(b"append nothing", half, IoVector::new());
     append(b"append to nothing", IoVector::new(), half);
     append(b"append 8 to 8", eight, eight);
-    append(b"append 9 to 8", eight, side_by_side(9));
+    append(b"append 9 to 8", eight, downward(9));
+    let nine = show::one(1, 1).append(eight, 100).vector;
+    append(b"append 9 to 8, the last of which it touches", eight, nine);
     append(b"append up to 1048576 bytes", half, half);
     append(b"append one byte more", half, show::one(0, 524289));
     show::changed(b"append one outside of the data", eight.append(half, 100));

@@ -11,6 +11,8 @@ fn main() {
     edits::count_limits();
     edits::total_limits();
     edits::inserts();
+    edits::joins();
+    edits::insert_joins();
     edits::appends();
     edits::values();
     splits::all();
@@ -24,4 +26,5 @@ fn main() {
     copies::overlaps_itself();
     aligned::answers();
     aligned::lengths();
+    aligned::halves();
 }
