@@ -127,7 +127,8 @@ struct dock_lent {
     size_t scratch_len;
 };
 
-/* Up to 16 segments of the data: count, total, then start and length of each. Begin tests whatever stands in it. */
+/* Up to 16 segments of the data: count, total, then start and length of each. Begin tests whatever stands in it, and
+ * takes the segments as they stand: it joins none. */
 struct dock_vector {
     uint64_t words[34];
 };
@@ -277,21 +278,37 @@ static inline uint8_t dock_open_row(struct dock *dock, size_t row, uint64_t boun
 
 /* ---- Vectors ---- */
 
-/* Appends a segment: `length` bytes of the data from `start` on. A 17th is not kept, but the vector is one with too
- * many from then on, and begin refuses it (202). */
+/* Whether a segment of `more` bytes from `next` on joins the one before it: it starts where that one ends, neither is
+ * empty, and the length of both is a number. An empty one thus stays an empty one, for begin to see. */
+static inline int dock_vector_joins(uint64_t start, uint64_t length, uint64_t next, uint64_t more)
+{
+    return length != 0 && more != 0 && length <= UINT64_MAX - start && start + length == next
+        && more <= UINT64_MAX - length;
+}
+
+/* Appends a segment: `length` bytes of the data from `start` on. One that starts where the last one ends lengthens that
+ * one. A 17th is not kept, but the vector is one with too many from then on, and begin refuses it (202). No push makes
+ * a vector right that begin refuses. */
 static inline void dock_vector_push(struct dock_vector *vector, uint64_t start, uint64_t length)
 {
-    uint64_t count = vector->words[0];
-    uint64_t room = UINT64_MAX - vector->words[1];
-    if (count >= DOCK_SEGMENTS) {
-        vector->words[0] = DOCK_SEGMENTS + 1;
+    uint64_t *words = vector->words;
+    uint64_t count = words[0];
+    uint64_t room = UINT64_MAX - words[1];
+    int joins = count != 0 && count <= DOCK_SEGMENTS
+             && dock_vector_joins(words[2 * count], words[1 + 2 * count], start, length);
+    if (count >= DOCK_SEGMENTS && !joins) {
+        words[0] = DOCK_SEGMENTS + 1;
         return;
     }
-    vector->words[0] = count + 1;
     /* a sum past 2^64 - 1 stays there, far over the longest vector */
-    vector->words[1] += length < room ? length : room;
-    vector->words[2 + 2 * count] = start;
-    vector->words[3 + 2 * count] = length;
+    words[1] += length < room ? length : room;
+    if (joins) {
+        words[1 + 2 * count] += length;
+        return;
+    }
+    words[0] = count + 1;
+    words[2 + 2 * count] = start;
+    words[3 + 2 * count] = length;
 }
 
 /* ---- Begin: refused with 201 to 207 ---- */

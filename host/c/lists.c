@@ -141,7 +141,8 @@ int main(int argc, char **argv)
             fflush(stdout);
         }
     }
-    check(begun > 0 && refused > 0 && carried > 0 && waited > 0 && collected > 0 && fallbacks > 0,
+    check(begun > 0 && refused > 0 && carried > 0 && waited > 0 && collected > 0 && fallbacks > 0 && joined > 0
+              && left_apart > 0,
           "something was never reached");
     printf("%llu begun, %llu refused, %llu carried, ", (unsigned long long)begun, (unsigned long long)refused,
            (unsigned long long)carried);

@@ -322,17 +322,40 @@ static inline int is_aligned(const struct dock_vector *vector)
     return 1;
 }
 
-/* Up to three segments, often aligned. */
+static uint64_t joined;
+static uint64_t left_apart;
+
+/* A segment as words of the host's own: one that touches the last stays apart. */
+static inline void put_segment(struct dock_vector *vector, uint64_t start, uint64_t length)
+{
+    uint64_t count = vector->words[0]++;
+    vector->words[1] += length;
+    vector->words[2 + 2 * count] = start;
+    vector->words[3 + 2 * count] = length;
+}
+
+/* Up to three segments, often aligned, of which some start where the last one ends. Half of the vectors are pushed, and
+ * these then join; begin takes the others as they are. */
 static inline struct dock_vector any_vector(void)
 {
     struct dock_vector vector = DOCK_VECTOR_EMPTY;
+    int pushes = below(2) == 0;
     uint64_t unit = below(2) == 0 ? longer_align() : 1;
     uint64_t left = 1 + below(3);
+    uint64_t end = DATA;
+    uint64_t count = 0;
     for (; left > 0; left--) {
         uint64_t length = unit * (1 + below(unit == 1 ? 700 : 2));
         uint64_t start = down(below(DATA - length + 1), unit);
-        dock_vector_push(&vector, start, length);
+        if (below(3) == 0 && end <= DATA - length)
+            start = end;
+        (pushes ? dock_vector_push : put_segment)(&vector, start, length);
+        count += !pushes || start != end;
+        joined += pushes && start == end;
+        left_apart += !pushes && start == end;
+        end = start + length;
     }
+    check(vector.words[0] == count, "pushes join what does not touch, or leave apart what does");
     return vector;
 }
 

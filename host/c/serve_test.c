@@ -764,7 +764,8 @@ int main(int argc, char **argv)
     began = time(NULL);
     for (list = first; list - first < LEAST || time(NULL) - began < seconds; list++)
         run_random();
-    check(refused > 0 && waited > 0 && no_answers > 0 && fallbacks > 0, "something was never reached");
+    check(refused > 0 && waited > 0 && no_answers > 0 && fallbacks > 0 && joined > 0 && left_apart > 0,
+          "something was never reached");
     printf("%llu random runs: %llu jobs, %llu requests, ", (unsigned long long)(list - first),
            (unsigned long long)collected, (unsigned long long)carried);
     printf("%llu times waiting, %llu fallbacks, %llu times no answer; no difference\n", (unsigned long long)waited,

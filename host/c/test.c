@@ -598,31 +598,67 @@ static void test_blockers(void)
 
 /* ---- Refusals of begin ---- */
 
+/* A 17th is refused, and so is whatever is pushed after it; one that touches the 16th is none. */
+static void test_seventeen(void)
+{
+    struct dock_vector vector = DOCK_VECTOR_EMPTY;
+    int i;
+    open_row(ROW, BOUNCE);
+    for (i = 0; i < 16; i++)
+        dock_vector_push(&vector, (uint64_t)(2 * i), 1);
+    CHECK(begin(DOCK_WRITE, 0, &vector, 0) == 256);
+    dock_vector_push(&vector, 31, 1);
+    CHECK(vector.words[0] == 16 && vector.words[1] == 17 && vector.words[32] == 30 && vector.words[33] == 2);
+    CHECK(begin(DOCK_WRITE, 0, &vector, 0) == 256);
+    for (i = 0; i < 3; i++) {
+        dock_vector_push(&vector, i == 0 ? 33 : 32, 1);
+        CHECK(vector.words[0] == 17 && vector.words[1] == 17);
+        REFUSED_VECTOR(DOCK_SEGMENT, DOCK_WRITE, 0, vector);
+    }
+}
+
 static void test_segments(void)
 {
     struct dock_vector empty = one_segment(0, 0);
     struct dock_vector outside = one_segment(DATA - 1, 2);
     struct dock_vector far = one_segment(UINT64_MAX, 2);
-    struct dock_vector seventeen = DOCK_VECTOR_EMPTY;
     struct dock_vector total = one_segment(0, 10);
     struct dock_vector sum = one_segment(0, UINT64_MAX);
-    int i;
     open_row(ROW, BOUNCE);
-    for (i = 0; i < 16; i++)
-        dock_vector_push(&seventeen, (uint64_t)i, 1);
-    CHECK(begin(DOCK_WRITE, 0, &seventeen, 0) == 256);
-    for (i = 0; i < 3; i++) {
-        dock_vector_push(&seventeen, 16, 1);
-        REFUSED_VECTOR(DOCK_SEGMENT, DOCK_WRITE, 0, seventeen);
-    }
-    dock_vector_push(&sum, 0, 11);
-    CHECK(sum.words[1] == UINT64_MAX);
+    dock_vector_push(&far, 1, 5); /* the end of the first is 1 past 2^64 */
+    dock_vector_push(&sum, UINT64_MAX, 11); /* and here the length of both is past 2^64 - 1 */
+    CHECK(far.words[0] == 2 && sum.words[0] == 2 && sum.words[1] == UINT64_MAX);
     total.words[1] = 11;
     REFUSED_VECTOR(DOCK_SEGMENT, DOCK_READ, 0, empty);
     REFUSED_VECTOR(DOCK_SEGMENT, DOCK_READ, 0, outside);
     REFUSED_VECTOR(DOCK_SEGMENT, DOCK_WRITE, 0, far);
     REFUSED_VECTOR(DOCK_SEGMENT, DOCK_WRITE, 0, total);
     REFUSED_VECTOR(DOCK_SEGMENT, DOCK_WRITE, 0, sum);
+}
+
+/* A vector that begin refuses stays one, though segments are pushed that start where its last one ends. */
+static void test_refused_for_good(void)
+{
+    static const uint64_t wrong[][4] = {
+        { 0, 10, 10, 0 },                       /* an empty one that touches */
+        { 10, 0, 10, 5 },                       /* one that touches an empty one */
+        { 0, 10, 10, DATA },                    /* outside, and touching */
+        { UINT64_MAX, 2, 1, 5 },                /* the last one wraps to where this one starts */
+        { 4, UINT64_MAX - 4, UINT64_MAX, 100 }, /* lengths whose sum is no number */
+        { 0, DATA, DATA, 1 },                   /* one byte past the data */
+    };
+    size_t i;
+    int left;
+    open_row(ROW, BOUNCE);
+    for (i = 0; i < sizeof wrong / sizeof *wrong; i++) {
+        struct dock_vector vector = one_segment(wrong[i][0], wrong[i][1]);
+        uint64_t end = wrong[i][2] + wrong[i][3];
+        dock_vector_push(&vector, wrong[i][2], wrong[i][3]);
+        for (left = 20; left > 0; left--, end += 10) {
+            REFUSED_VECTOR(DOCK_SEGMENT, DOCK_WRITE, 0, vector);
+            dock_vector_push(&vector, end, 10);
+        }
+    }
 }
 
 /* 16 segments of 65,536 bytes are the longest vector, one byte more is too long. */
@@ -640,6 +676,64 @@ static void test_longest(void)
     REFUSED_VECTOR(DOCK_SEGMENT, DOCK_WRITE, 0, too_long);
     CHECK(begin(DOCK_WRITE, 0, &longest, 0) == 256);
     CHECK(is_due(0, DOCK_WRITE, 0, DOCK_LONGEST_VECTOR) && dock_next(&dock, 0, &lent).request.pieces == 16);
+}
+
+/* Segments of the host's own words, which begin takes as they are. */
+static struct dock_vector two_segments(uint64_t start, uint64_t length, uint64_t next, uint64_t more)
+{
+    struct dock_vector vector = { { 2, length + more, start, length, next, more } };
+    return vector;
+}
+
+/* The request of a job over a vector at 512: how many pieces it has, and the first of them. Then the job runs. */
+static void runs_over(const struct dock_vector *vector, enum dock_kind kind, size_t pieces, const uint8_t *first,
+                      size_t first_len, int line)
+{
+    struct wanted wanted = { kind, 512, 0, 0 };
+    struct dock_part part;
+    wanted.length = vector->words[1];
+    check(begin(kind, 512, vector, 0) == 256, "the job gets a slot", line);
+    part = dock_piece(&dock, 0, 0, &lent);
+    check(dock_next(&dock, 0, &lent).request.pieces == pieces, "its request has so many pieces", line);
+    check(part.bytes == first && part.length == first_len, "and the first lies there", line);
+    runs(0, &wanted, 1, 0, line);
+}
+
+/* Pushed segments that touch are one: direct, and one piece, though neither half is a block. */
+static void test_joined(void)
+{
+    struct dock_vector halves = one_segment(0, 256);
+    struct dock_vector blocks = one_segment(1024, 512);
+    open_row(ROW, BOUNCE);
+    dock_vector_push(&halves, 256, 256);
+    dock_vector_push(&blocks, 1536, 512);
+    CHECK(halves.words[0] == 1 && halves.words[1] == 512 && halves.words[2] == 0 && halves.words[3] == 512);
+    CHECK(halves.words[4] == 0 && halves.words[5] == 0);
+    runs_over(&halves, DOCK_WRITE, 1, lent.data, 512, __LINE__);
+    CHECK(store_has(512, 0, 512));
+    fill();
+    runs_over(&halves, DOCK_READ, 1, lent.data, 512, __LINE__);
+    CHECK(memcmp(lent.data, store + 512, 512) == 0);
+    runs_over(&blocks, DOCK_WRITE, 1, lent.data + 1024, 1024, __LINE__);
+    CHECK(store_has(512, 1024, 1024));
+}
+
+/* The same segments in words that no push made stay two: halves of a block go through the bounce buffer, and blocks
+ * are a piece each. The bytes are the same. */
+static void test_as_they_are(void)
+{
+    struct dock_vector halves = two_segments(0, 256, 256, 256);
+    struct dock_vector blocks = two_segments(1024, 512, 1536, 512);
+    open_row(ROW, BOUNCE);
+    runs_over(&halves, DOCK_WRITE, 1, lent.scratch, 512, __LINE__);
+    CHECK(store_has(512, 0, 512));
+    fill();
+    runs_over(&halves, DOCK_READ, 1, lent.scratch, 512, __LINE__);
+    CHECK(memcmp(lent.data, store + 512, 512) == 0);
+    runs_over(&blocks, DOCK_WRITE, 2, lent.data + 1024, 512, __LINE__);
+    CHECK(store_has(512, 1024, 1024));
+    dock_vector_push(&halves, 512, 512);
+    CHECK(halves.words[0] == 2 && halves.words[1] == 1024 && halves.words[3] == 256 && halves.words[5] == 768);
 }
 
 static void test_overlap(void)
@@ -943,6 +1037,16 @@ static void test_row_zero(void)
     CHECK(store_zero(3, 10));
 }
 
+static void test_vectors(void)
+{
+    test_seventeen();
+    test_segments();
+    test_refused_for_good();
+    test_joined();
+    test_as_they_are();
+    test_longest();
+}
+
 int main(void)
 {
     test_rows();
@@ -963,8 +1067,7 @@ int main(void)
     test_late_overflow();
     test_two_edits();
     test_blockers();
-    test_segments();
-    test_longest();
+    test_vectors();
     test_overlap();
     test_overlap_until_collect();
     test_full();
