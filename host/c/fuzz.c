@@ -248,17 +248,32 @@ static void put_bytes(uint8_t *bytes, size_t length)
         bytes[i] = (uint8_t)rnd();
 }
 
-/* A vector of some segments of the data, right or nearly so, or any words. */
+/* A segment as words of no push's making; a 17th has no room there. */
+static void put_segment(struct dock_vector *vector, uint64_t start, uint64_t length)
+{
+    uint64_t count = vector->words[0]++;
+    if (count >= DOCK_SEGMENTS)
+        return;
+    vector->words[1] += length;
+    vector->words[2 + 2 * count] = start;
+    vector->words[3 + 2 * count] = length;
+}
+
+/* A vector of some segments of the data, some of which touch, right or nearly so, or any words. */
 static void put_vector(void)
 {
     struct dock_vector vector = DOCK_VECTOR_EMPTY;
     size_t length = areas[LENT_DATA].length;
     size_t left = one_in(16) ? 17 : (size_t)below(4);
+    int pushes = one_in(2);
+    uint64_t end = 0;
     for (; left > 0; left--) {
-        uint64_t start = below(length + 1);
+        uint64_t start = one_in(4) && end <= length ? end : below(length + 1);
         uint64_t most = one_in(32) ? length + 2 : length - start + (length == start);
         uint64_t bytes = one_in(3) ? 512 * (1 + below(3)) : 1 + below(1500);
-        dock_vector_push(&vector, start, bytes < most ? bytes : most);
+        bytes = bytes < most ? bytes : most;
+        (pushes ? dock_vector_push : put_segment)(&vector, start, bytes);
+        end = start + bytes;
     }
     memcpy(words(VECTOR), vector.words, sizeof vector.words);
     if (one_in(16))
