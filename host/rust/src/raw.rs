@@ -114,6 +114,8 @@ extern "C" {
         vectors: &mut VectorWords, slot: usize, data_len: usize, scratch_len: usize) -> u8;
     fn dock_words_chunks(settings: &SettingsWords, offset: u64, length: u64) -> Reply;
     fn dock_words_chunk(settings: &SettingsWords, offset: u64, length: u64, i: u64) -> Reply;
+    #[cfg(test)]
+    fn dock_words_vector_push(vector: &mut [u64; 34], start: usize, length: usize, data_len: usize) -> u8;
 }
 
 impl<'buf> Buffer<'buf> {
@@ -344,6 +346,13 @@ impl Reply {
             refused => Err(Refusal::answered(refused)),
         }
     }
+}
+
+/// The library's own push on the words of a vector over data of that length: 0 or a refusal's number.
+#[cfg(test)]
+pub(crate) fn push_segment(words: &mut [u64; 34], start: usize, length: usize, data_len: usize) -> u8 {
+    // SAFETY: the words are borrowed; the rest are numbers.
+    unsafe { dock_words_vector_push(words, start, length, data_len) }
 }
 
 #[cfg(test)]

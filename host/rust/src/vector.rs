@@ -10,8 +10,8 @@ pub const LONGEST_VECTOR: u64 = 1_048_576;
 /// The words of a vector: count, total, start and length of each segment.
 const WORDS: usize = 2 + 2 * SEGMENTS;
 
-/// Up to 16 segments of the data, used one after the other. Begin tests it: [`crate::Refusal::Segment`] where it does
-/// not fit.
+/// Up to 16 segments of the data, used one after the other; those that touch as they are pushed are one. Begin tests it:
+/// [`crate::Refusal::Segment`] where it does not fit.
 #[derive(Clone, Copy, Debug, PartialEq, Eq)]
 pub struct Vector {
     words: [u64; WORDS],
@@ -30,17 +30,40 @@ impl Vector {
         vector
     }
 
-    /// Appends a segment. A 17th is not kept, but the vector is one with too many from then on, and begin refuses it.
+    /// Appends a segment. One that starts where the last one ends lengthens that one. A 17th is not kept, but the
+    /// vector is one with too many from then on, and begin refuses it. No push makes a vector right that begin refuses.
     pub fn push(&mut self, start: usize, length: usize) {
+        let (start, length) = (start as u64, length as u64);
         let count = self.words[0] as usize;
-        if count >= SEGMENTS {
+        let joined = self.joined(start, length);
+        if count >= SEGMENTS && joined.is_none() {
             self.words[0] = SEGMENTS as u64 + 1;
             return;
         }
+        self.words[1] = self.words[1].saturating_add(length);
+        if let Some(longer) = joined {
+            self.words[1 + 2 * count] = longer;
+            return;
+        }
         self.words[0] = count as u64 + 1;
-        self.words[1] = self.words[1].saturating_add(length as u64);
-        self.words[2 + 2 * count] = start as u64;
-        self.words[3 + 2 * count] = length as u64;
+        self.words[2 + 2 * count] = start;
+        self.words[3 + 2 * count] = length;
+    }
+
+    /// The last segment's length with that of one which starts where it ends. None where they do not join: then they do
+    /// not touch, or their length is no number, or one is empty, which stays an empty one for begin to see.
+    fn joined(&self, start: u64, length: u64) -> Option<u64> {
+        let count = self.words[0] as usize;
+        if count == 0 || count > SEGMENTS {
+            return None;
+        }
+        let (last, last_length) = (self.words[2 * count], self.words[1 + 2 * count]);
+        let touches = last.checked_add(last_length) == Some(start);
+        if touches && last_length != 0 && length != 0 {
+            last_length.checked_add(length)
+        } else {
+            None
+        }
     }
 
     /// How many bytes its segments have.
@@ -71,52 +94,4 @@ impl Default for Vector {
 }
 
 #[cfg(test)]
-mod tests {
-    use super::{Vector, SEGMENTS};
-
-    #[test]
-    fn words_are_count_total_and_segments() {
-        let mut vector = Vector::of(7, 3);
-        vector.push(100, 20);
-        assert_eq!(vector.words()[..8], [2, 23, 7, 3, 100, 20, 0, 0]);
-        assert_eq!(vector.total(), 23);
-    }
-
-    #[test]
-    fn a_seventeenth_segment_shows_in_the_count_alone() {
-        let mut vector = Vector::new();
-        for i in 0..SEGMENTS {
-            vector.push(i, 1);
-        }
-        let full = vector;
-        for _ in 0..3 {
-            vector.push(50, 1);
-            assert_eq!(vector.words()[0], 17);
-            assert_eq!(vector.words()[1..], full.words()[1..]);
-        }
-    }
-
-    #[test]
-    fn a_sum_past_the_last_number_stays_there() {
-        let mut vector = Vector::of(0, usize::MAX);
-        vector.push(0, 2);
-        assert_eq!(vector.total(), u64::MAX);
-    }
-
-    #[test]
-    fn a_range_meets_the_segments_whose_bytes_it_shares() {
-        let mut vector = Vector::of(10, 5);
-        vector.push(20, 1);
-        for (range, meets) in [
-            (0..10, false),
-            (0..11, true),
-            (14..15, true),
-            (15..20, false),
-            (20..21, true),
-            (21..99, false),
-            (12..12, false),
-        ] {
-            assert_eq!(vector.meets(&range), meets, "{range:?}");
-        }
-    }
-}
+mod tests;

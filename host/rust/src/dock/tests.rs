@@ -101,6 +101,23 @@ fn a_direct_read_fills_its_segments_in_order() {
     });
 }
 
+/// Neither half is a block of 512, and with a byte between them the write would go through the bounce buffer.
+#[test]
+fn segments_that_touch_are_one_piece() {
+    with_dock(|dock| {
+        for (second, direct) in [(356, true), (357, false)] {
+            let mut vector = Vector::of(100, 256);
+            vector.push(second, 256);
+            dock.begin_write(512, &vector).unwrap();
+            assert_eq!(dock.next(0), Ok(due(Kind::Write, 512, 512)));
+            let address = dock.data()[100..].as_ptr();
+            assert_eq!(dock.piece(0, 0).unwrap().bytes().as_ptr() == address, direct, "{second}");
+            dock.tell(0, 0).unwrap();
+            assert_eq!(dock.collect(0), Ok(Answer::Done));
+        }
+    });
+}
+
 #[test]
 fn a_padded_read_gives_the_asked_bytes_at_its_tell() {
     with_dock(|dock| {
