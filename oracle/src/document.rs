@@ -1,4 +1,5 @@
-//! Document 01's rules, written from the document alone: what is refused, and which requests a job makes.
+//! Document 01's rules, written from the document alone: what is refused, and which requests a job makes; and document
+//! 02's joining of segments that touch, for pushes that build a vector.
 
 use crate::side::{Alignments, Begin, Job, Kind, Lent, Opening, Segment, SLOTS};
 use std::ops::Range;
@@ -19,7 +20,7 @@ pub const UNALIGNED: u8 = 210;
 pub const FIRST_NO_ANSWER: u8 = 200;
 pub const LONGEST_BOUNCE: u64 = 1_048_576;
 pub const LONGEST_VECTOR: u64 = 1_048_576;
-const MOST_SEGMENTS: usize = 16;
+pub const MOST_SEGMENTS: usize = 16;
 const LARGEST_ALIGNMENT: u64 = 65_536;
 
 fn down(x: u64, align: u64) -> u64 {
@@ -77,6 +78,27 @@ pub fn vector(segments: &[Segment], data: u64) -> u8 {
     } else {
         SEGMENT
     }
+}
+
+/// Whether a pushed segment lengthens the last one: it starts where that one ends. An empty one joins no other, and the
+/// length of both is a number.
+fn lengthens(last: &Segment, s: &Segment) -> bool {
+    let touches = last.start.checked_add(last.length) == Some(s.start);
+    touches && last.length > 0 && s.length > 0 && last.length.checked_add(s.length).is_some()
+}
+
+/// The list that segments leave which are pushed one after the other. It is a vector over the data exactly where every
+/// push is accepted: an empty segment stays in it, one outside the data is only lengthened, and neither count nor total
+/// ever shrinks.
+pub fn pushed(segments: &[Segment]) -> Vec<Segment> {
+    let mut list: Vec<Segment> = Vec::with_capacity(segments.len());
+    for s in segments {
+        match list.last_mut() {
+            Some(last) if lengthens(last, s) => last.length += s.length,
+            _ => list.push(*s),
+        }
+    }
+    list
 }
 
 pub fn total(segments: &[Segment]) -> u64 {

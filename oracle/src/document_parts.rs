@@ -1,4 +1,7 @@
-//! Document 01's vectors and planner; its blockers are those of `document_side.rs`.
+//! Document 01's vectors, with document 02's joining, and its planner; its blockers are those of `document_side.rs`.
+//!
+//! Joining is told from the bytes, not as in `imago_parts.rs`: a vector's bytes have flat positions, its segments are
+//! the runs between cuts, and a call takes away the cut at a seam where one byte follows the other in the data.
 
 use crate::document;
 use crate::side::{Alignments, Opening, Planner, Segment, Vectors};
@@ -12,12 +15,43 @@ impl DocumentVectors {
         DocumentVectors { data: bytes.to_vec() }
     }
 
-    fn accepted(&self, v: Vec<Segment>) -> Result<Vec<Segment>, u8> {
-        match document::vector(&v, self.data.len() as u64) {
-            0 => Ok(v),
-            refusal => Err(refusal),
+    /// With `new` between two parts of a vector, and without the cuts there between bytes that follow each other. Both
+    /// must be vectors over the data, and so must be what comes of them.
+    fn with(&self, v: &[Segment], index: usize, new: &[Segment]) -> Result<Vec<Segment>, u8> {
+        let fits = |v: &[Segment]| document::vector(v, self.data.len() as u64) == 0;
+        if index > v.len() || !fits(v) || !fits(new) {
+            return Err(document::SEGMENT);
+        }
+        let (before, after) = v.split_at(index);
+        let first = document::total(before);
+        let made = without_cuts(&[before, new, after].concat(), [first, first + document::total(new)]);
+        if fits(&made) {
+            Ok(made)
+        } else {
+            Err(document::SEGMENT)
         }
     }
+}
+
+/// The position in the data of the byte at a flat position.
+fn position(v: &[Segment], at: u64) -> u64 {
+    between(v, at, at + 1)[0].start
+}
+
+/// The runs of a vector's bytes with its cuts, but for those at seams between a byte and the one after it in the data.
+fn without_cuts(v: &[Segment], seams: [u64; 2]) -> Vec<Segment> {
+    let end = document::total(v);
+    let follows = |at: u64| 0 < at && at < end && position(v, at) == position(v, at - 1) + 1;
+    let mut runs = Vec::new();
+    let (mut start, mut cut) = (0, 0);
+    for s in v {
+        cut += s.length;
+        if !(seams.contains(&cut) && follows(cut)) {
+            runs.push(Segment { start: position(v, start), length: cut - start });
+            start = cut;
+        }
+    }
+    runs
 }
 
 /// The segments of the bytes at flat positions `from` up to `to` of a vector.
@@ -41,18 +75,15 @@ fn positions(v: &[Segment]) -> impl Iterator<Item = usize> + '_ {
 
 impl Vectors for DocumentVectors {
     fn push(&mut self, v: &[Segment], s: Segment) -> Result<Vec<Segment>, u8> {
-        self.insert(v, v.len(), s)
+        self.with(v, v.len(), &[s])
     }
 
     fn insert(&mut self, v: &[Segment], index: usize, s: Segment) -> Result<Vec<Segment>, u8> {
-        if index > v.len() {
-            return Err(document::SEGMENT);
-        }
-        self.accepted([&v[..index], &[s], &v[index..]].concat())
+        self.with(v, index, &[s])
     }
 
     fn append(&mut self, v: &[Segment], other: &[Segment]) -> Result<Vec<Segment>, u8> {
-        self.accepted([v, other].concat())
+        self.with(v, v.len(), other)
     }
 
     fn split_at(&mut self, v: &[Segment], mid: u64) -> (Vec<Segment>, Vec<Segment>) {

@@ -65,7 +65,7 @@ impl Blockers for ImagoBlockers {
     }
 }
 
-/// imago's vectors over a data buffer at an address that is a multiple of every alignment.
+/// imago's vectors over a data buffer at an address that is a multiple of every alignment, joined as in document 02.
 pub struct ImagoVectors {
     data: Data,
 }
@@ -91,18 +91,37 @@ impl ImagoVectors {
         Segment { start, length: slice.len() as u64 }
     }
 
-    /// The vector after a call that document 01 does not refuse; imago has no such refusals.
-    fn changed(&self, wanted: Vec<Segment>, call: impl FnOnce() -> IoVector<'static>) -> Result<Vec<Segment>, u8> {
-        match document::vector(&wanted, self.data.bytes().len() as u64) {
-            0 => Ok(self.segments(call())),
-            refusal => Err(refusal),
+    /// The vector after a call that takes new segments, joined at the seams of that call, which are named from the last
+    /// to the first. imago itself joins nothing and refuses nothing: the refusals are those of documents 01 and 02.
+    fn changed(
+        &self,
+        (v, new): (&[Segment], &[Segment]),
+        seams: &[usize],
+        call: impl FnOnce() -> IoVector<'static>,
+    ) -> Result<Vec<Segment>, u8> {
+        let accepted = |list: &[Segment]| document::vector(list, self.data.bytes().len() as u64) == 0;
+        if !accepted(v) || !accepted(new) {
+            return Err(document::SEGMENT);
+        }
+        let joined = seams.iter().fold(self.segments(call()), |list, at| joined_at(list, *at));
+        accepted(&joined).then_some(joined).ok_or(document::SEGMENT)
+    }
+}
+
+/// The list with the segments before and after a seam as one, where they touch; a seam at an end has but one of them.
+pub fn joined_at(mut list: Vec<Segment>, seam: usize) -> Vec<Segment> {
+    if let Some([left, right]) = seam.checked_sub(1).and_then(|i| list.get_mut(i..=seam)) {
+        if left.start + left.length == right.start {
+            left.length += right.length;
+            list.remove(seam);
         }
     }
+    list
 }
 
 impl Vectors for ImagoVectors {
     fn push(&mut self, v: &[Segment], s: Segment) -> Result<Vec<Segment>, u8> {
-        self.changed([v, &[s]].concat(), || {
+        self.changed((v, &[s]), &[v.len()], || {
             let mut vector = self.data.vector(v);
             vector.push(self.data.slice(&s));
             vector
@@ -113,7 +132,7 @@ impl Vectors for ImagoVectors {
         if index > v.len() {
             return Err(document::SEGMENT);
         }
-        self.changed([v, &[s]].concat(), || {
+        self.changed((v, &[s]), &[index + 1, index], || {
             let mut vector = self.data.vector(v);
             vector.insert(index, self.data.slice(&s));
             vector
@@ -121,7 +140,7 @@ impl Vectors for ImagoVectors {
     }
 
     fn append(&mut self, v: &[Segment], other: &[Segment]) -> Result<Vec<Segment>, u8> {
-        self.changed([v, other].concat(), || {
+        self.changed((v, other), &[v.len()], || {
             let mut vector = self.data.vector(v);
             vector.append(self.data.vector(other));
             vector

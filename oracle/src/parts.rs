@@ -51,26 +51,93 @@ fn segment(random: &mut Random) -> Segment {
     Segment { start, length }
 }
 
+fn end(s: &Segment) -> u64 {
+    s.start + s.length
+}
+
+/// A segment that starts where another ends, now and then a byte off; now and then an empty one.
+fn segment_behind(random: &mut Random, other: &Segment) -> Segment {
+    let at = end(other);
+    let start = random.pick(&[at, at, at, at, at + 1, at.saturating_sub(1)]);
+    let length = if random.once_in(8) { 0 } else { 1 + random.below(64) };
+    Segment { start, length }
+}
+
+/// A segment for the place before `index`: one that touches what stands before it, or after it, or both; or any.
+fn segment_between(random: &mut Random, v: &[Segment], index: usize) -> Segment {
+    let neighbours = (index.checked_sub(1).and_then(|i| v.get(i)), v.get(index));
+    match (random.below(4), neighbours) {
+        (0, (Some(left), _)) => segment_behind(random, left),
+        (1, (_, Some(right))) => {
+            let length = random.below(64).min(right.start);
+            Segment { start: right.start - length - u64::from(right.start > length && random.once_in(8)), length }
+        }
+        (2, (Some(left), Some(right))) if end(left) <= right.start => {
+            Segment { start: end(left), length: right.start - end(left) }
+        }
+        _ => segment(random),
+    }
+}
+
+/// A vector of so many segments, or a few less where they do not fit. Where segments may touch, every third is to.
+fn vector(random: &mut Random, count: usize, touching: bool) -> Vec<Segment> {
+    let mut v: Vec<Segment> = Vec::new();
+    for _ in 0..8 * count {
+        let behind = touching && random.once_in(3);
+        let s = match v.last() {
+            Some(last) if behind => segment_behind(random, last),
+            _ => segment(random),
+        };
+        if v.len() < count && document::vector(&[&v[..], &[s]].concat(), MEMORY.data) == 0 {
+            v.push(s);
+        }
+    }
+    v
+}
+
+/// What is appended to a vector: few segments, or as many as have room, one or two more; every second time the first of
+/// them starts where the vector ends, which may be outside the data.
+fn other_vector(random: &mut Random, v: &[Segment]) -> Vec<Segment> {
+    let room = document::MOST_SEGMENTS - v.len();
+    let count = random.pick(&[1, 2, room, room + 1, room + 2]).min(document::MOST_SEGMENTS);
+    let touching = random.once_in(2);
+    let mut other = vector(random, count, touching);
+    if let (true, Some(last), Some(first)) = (random.once_in(2), v.last(), other.first_mut()) {
+        first.start = end(last);
+    }
+    other
+}
+
 /// Whether no two segments share a byte: imago's mutable vectors cannot be built otherwise.
 fn is_apart(v: &[Segment]) -> bool {
     v.iter().enumerate().all(|(i, s)| !v[i + 1..].iter().any(|t| document::overlap(s, t)))
 }
 
-/// The calls that give a vector; the first of them that differs.
-fn vector_shapes(random: &mut Random, v: &[Segment], left: &mut impl Vectors, right: &mut impl Vectors) -> Found {
-    let s = segment(random);
+/// The calls that take segments in; the first of them that differs.
+fn vector_edits(random: &mut Random, v: &[Segment], left: &mut impl Vectors, right: &mut impl Vectors) -> Found {
     let index = random.below(v.len() as u64 + 2) as usize;
+    let (last, s) = (segment_between(random, v, v.len()), segment_between(random, v, index));
+    let (rest, other) = (&v[index.min(v.len())..], other_vector(random, v));
+    let mut append = |v: &[Segment], other: &[Segment]| {
+        unlike(&format!("{v:?} append {other:?}"), left.append(v, other), right.append(v, other))
+    };
+    let appended = append(v, v).or_else(|| append(v, rest)).or_else(|| append(v, &other));
+    appended
+        .or_else(|| unlike(&format!("{v:?} push {last:?}"), left.push(v, last), right.push(v, last)))
+        .or_else(|| unlike(&format!("{v:?} insert {index} {s:?}"), left.insert(v, index, s), right.insert(v, index, s)))
+}
+
+/// The splits, and the parts of one appended to each other again.
+fn vector_splits(random: &mut Random, v: &[Segment], left: &mut impl Vectors, right: &mut impl Vectors) -> Found {
     let mid = random.below(document::total(v) + 3);
     let mid = random.pick(&[mid, 0, document::total(v), v.first().map_or(0, |s| s.length)]);
-    let rest = &v[index.min(v.len())..];
-    unlike(&format!("{v:?} push {s:?}"), left.push(v, s), right.push(v, s))
-        .or_else(|| unlike(&format!("{v:?} insert {index} {s:?}"), left.insert(v, index, s), right.insert(v, index, s)))
-        .or_else(|| unlike(&format!("{v:?} append itself"), left.append(v, v), right.append(v, v)))
-        .or_else(|| unlike(&format!("{v:?} append {rest:?}"), left.append(v, rest), right.append(v, rest)))
-        .or_else(|| unlike(&format!("{v:?} split_at {mid}"), left.split_at(v, mid), right.split_at(v, mid)))
+    let parts = left.split_at(v, mid);
+    let (head, tail) = (&parts.0, &parts.1);
+    unlike(&format!("{v:?} split_at {mid}"), parts.clone(), right.split_at(v, mid))
         .or_else(|| {
             unlike(&format!("{v:?} split_tail_at {mid}"), left.split_tail_at(v, mid), right.split_tail_at(v, mid))
         })
+        .or_else(|| unlike(&format!("{head:?} append {tail:?}"), left.append(head, tail), right.append(head, tail)))
 }
 
 /// The calls that move bytes.
@@ -92,20 +159,16 @@ fn vector_bytes(random: &mut Random, v: &[Segment], left: &mut impl Vectors, rig
     found.or_else(|| unlike(&format!("{v:?} fill, the data"), left.data(), right.data()))
 }
 
-/// Every call on a random vector.
+/// Every call on a random vector, as pushes leave it or with segments that touch.
 pub fn vectors(random: &mut Random, left: &mut impl Vectors, right: &mut impl Vectors) -> Found {
-    let count = random.pick(&[0, 1, 2, 3, 5, 8, 15, 16]);
-    let mut v = Vec::new();
-    for _ in 0..count {
-        let s = segment(random);
-        if document::vector(&[&v[..], &[s]].concat(), MEMORY.data) == 0 {
-            v.push(s);
-        }
-    }
+    let (count, touching) = (random.pick(&[0, 1, 2, 3, 5, 8, 15, 16]), random.once_in(2));
+    let v = vector(random, count, touching);
+    let v = if random.once_in(2) { document::pushed(&v) } else { v };
     let (mem, req) = (1 << random.below(11), 1 << random.below(11));
     let aligned = (left.is_aligned(&v, mem, req), right.is_aligned(&v, mem, req));
     unlike(&format!("{v:?} is_aligned {mem} {req}"), aligned.0, aligned.1)
-        .or_else(|| vector_shapes(random, &v, left, right))
+        .or_else(|| vector_edits(random, &v, left, right))
+        .or_else(|| vector_splits(random, &v, left, right))
         .or_else(|| vector_bytes(random, &v, left, right))
         .or_else(|| left.fault())
         .or_else(|| right.fault())

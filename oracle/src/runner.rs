@@ -140,7 +140,7 @@ pub fn run_lists<A: Side, B: Side>(
 
 /// The calls on blockers of one list, and how many calls a list has at least.
 const BLOCKER_CALLS: u64 = 40;
-const CALLS: usize = BLOCKER_CALLS as usize + 8;
+const CALLS: usize = BLOCKER_CALLS as usize + 10;
 
 /// Compares vectors, blockers and the planner of two sides; blockers are made anew for every list.
 pub fn run_parts<X: Blockers, Y: Blockers>(
