@@ -1,10 +1,12 @@
 //! Planted faults of vectors, blockers and the planner alone: each is wrong in one thing.
 
+use crate::document;
+use crate::imago_parts::joined_at;
 use crate::side::{Blockers, Opening, Planner, Segment, Vectors};
 use std::ops::Range;
 
-/// The calls in which `WrongVectors` can be wrong.
-pub const VECTOR_CALLS: [&str; 10] = [
+/// What `WrongVectors` can be wrong in: a call; or, after its name, how it joins.
+pub const VECTOR_FAULTS: [&str; 26] = [
     "push",
     "insert",
     "append",
@@ -15,34 +17,90 @@ pub const VECTOR_CALLS: [&str; 10] = [
     "copy_from_slice",
     "fill",
     "is_aligned",
+    "push joins nothing",
+    "push joins across a gap",
+    "push joins an empty one",
+    "push joins all that touch",
+    "push counts before joining",
+    "insert joins nothing",
+    "insert joins across a gap",
+    "insert joins an empty one",
+    "insert joins on the left alone",
+    "insert joins on the right alone",
+    "insert joins all that touch",
+    "insert counts before joining",
+    "append joins nothing",
+    "append joins across a gap",
+    "append joins all that touch",
+    "append counts before joining",
 ];
 
-/// Vectors that are wrong in the call of that name.
+/// The list, where it has no more segments than a vector takes.
+fn counted(list: Vec<Segment>) -> Result<Vec<Segment>, u8> {
+    if list.len() <= document::MOST_SEGMENTS {
+        Ok(list)
+    } else {
+        Err(document::SEGMENT)
+    }
+}
+
+/// How many bytes lie between the end of the last segment and the start of the first.
+fn gap(before: &[Segment], after: &[Segment]) -> Option<u64> {
+    let (last, first) = (before.last()?, after.first()?);
+    first.start.checked_sub(last.start + last.length)
+}
+
+/// What a call gives that is right but for its joining, with `new` between two parts of the vector.
+fn joined_wrongly(how: &str, right: Result<Vec<Segment>, u8>, parts: [&[Segment]; 3]) -> Result<Vec<Segment>, u8> {
+    let [before, new, after] = parts;
+    let (apart, seam) = (parts.concat(), before.len());
+    match how {
+        "joins nothing" => right.and_then(|_| counted(apart)),
+        "joins across a gap" if gap(before, new) == Some(1) => right.map(|_| {
+            let mut list = apart;
+            list[seam].start -= 1;
+            joined_at(list, seam)
+        }),
+        "joins an empty one" if gap(before, new) == Some(0) && document::total(new) == 0 => {
+            Ok([before, after].concat())
+        }
+        "joins on the left alone" => right.and_then(|_| counted(joined_at(apart, seam))),
+        "joins on the right alone" => right.and_then(|_| counted(joined_at(apart, seam + 1))),
+        "joins all that touch" => right.map(|list| document::pushed(&list)),
+        "counts before joining" => counted(apart).and(right),
+        _ => right,
+    }
+}
+
+/// Vectors that are wrong in one of `VECTOR_FAULTS`.
 pub struct WrongVectors<V>(pub V, pub &'static str);
+
+impl<V> WrongVectors<V> {
+    /// How a call of that name joins, where that is what is wrong.
+    fn joining(&self, call: &str) -> &'static str {
+        self.1.strip_prefix(call).map_or("", str::trim_start)
+    }
+}
 
 impl<V: Vectors> Vectors for WrongVectors<V> {
     fn push(&mut self, v: &[Segment], s: Segment) -> Result<Vec<Segment>, u8> {
-        if self.1 == "push" {
-            self.0.insert(v, 0, s)
-        } else {
-            self.0.push(v, s)
-        }
+        let right = if self.1 == "push" { self.0.insert(v, 0, s) } else { self.0.push(v, s) };
+        joined_wrongly(self.joining("push"), right, [v, &[s], &[]])
     }
 
     fn insert(&mut self, v: &[Segment], index: usize, s: Segment) -> Result<Vec<Segment>, u8> {
-        if self.1 == "insert" {
-            self.0.push(v, s)
-        } else {
-            self.0.insert(v, index, s)
-        }
+        let right = if self.1 == "insert" { self.0.push(v, s) } else { self.0.insert(v, index, s) };
+        let (before, after) = v.split_at(index.min(v.len()));
+        joined_wrongly(self.joining("insert"), right, [before, &[s], after])
     }
 
     fn append(&mut self, v: &[Segment], other: &[Segment]) -> Result<Vec<Segment>, u8> {
-        match self.1 {
+        let right = match self.1 {
             "append" => Ok([v, other].concat()),
             "append before" => self.0.append(other, v),
             _ => self.0.append(v, other),
-        }
+        };
+        joined_wrongly(self.joining("append"), right, [v, other, &[]])
     }
 
     fn split_at(&mut self, v: &[Segment], mid: u64) -> (Vec<Segment>, Vec<Segment>) {

@@ -12,7 +12,7 @@ use oracle::imago_side::ImagoSide;
 use oracle::lists::{Worlds, MEMORY};
 use oracle::parts::Found;
 use oracle::plant::{Planted, FAULTS};
-use oracle::plant_parts::{OneChunkLess, WrongBlockers, WrongVectors, BLOCKER_FAULTS, VECTOR_CALLS};
+use oracle::plant_parts::{OneChunkLess, WrongBlockers, WrongVectors, BLOCKER_FAULTS, VECTOR_FAULTS};
 use oracle::random::Random;
 use oracle::runner::{run_lists, run_parts, vector_data, Run};
 use oracle::side::{Alignments, Blockers, Lent, Opening, Planner, Segment, Vectors, ROWS, SLOTS};
@@ -87,9 +87,9 @@ fn parts_agree() {
 #[test]
 fn every_fault_over_a_part_is_seen() {
     assert!(parts(DockBlockers::default, &mut vectors(), &mut OneChunkLess(DockPlanner)).is_some());
-    for call in VECTOR_CALLS {
-        let found = parts(DockBlockers::default, &mut WrongVectors(vectors(), call), &mut DockPlanner);
-        assert!(found.is_some(), "{call} is not seen");
+    for fault in VECTOR_FAULTS {
+        let found = parts(DockBlockers::default, &mut WrongVectors(vectors(), fault), &mut DockPlanner);
+        assert!(found.is_some(), "{fault} is not seen");
     }
     for fault in BLOCKER_FAULTS {
         let wrong = || WrongBlockers(DockBlockers::default(), fault);

@@ -7,7 +7,7 @@ use oracle::imago_side::ImagoSide;
 use oracle::lists::MEMORY;
 use oracle::parts::Found;
 use oracle::plant::{Fault, Planted, FAULTS};
-use oracle::plant_parts::{OneChunkLess, WrongBlockers, WrongVectors, BLOCKER_FAULTS, VECTOR_CALLS};
+use oracle::plant_parts::{OneChunkLess, WrongBlockers, WrongVectors, BLOCKER_FAULTS, VECTOR_FAULTS};
 use oracle::runner::{run_lists, run_parts, vector_data, Run};
 use oracle::side::{Blockers, Planner, Vectors};
 use oracle::store::Content;
@@ -95,9 +95,9 @@ fn faults_of_blockers_are_seen() {
 
 #[test]
 fn faults_of_vectors_and_planner_are_seen() {
-    for call in VECTOR_CALLS {
-        let vectors = &mut WrongVectors(DocumentVectors::new(&vector_data()), call);
-        assert!(parts(NotedBlockers::default, vectors, &mut DocumentPlanner).is_some(), "{call} is not seen");
+    for fault in VECTOR_FAULTS {
+        let vectors = &mut WrongVectors(DocumentVectors::new(&vector_data()), fault);
+        assert!(parts(NotedBlockers::default, vectors, &mut DocumentPlanner).is_some(), "{fault} is not seen");
     }
     let vectors = &mut DocumentVectors::new(&vector_data());
     assert!(parts(NotedBlockers::default, vectors, &mut OneChunkLess(DocumentPlanner)).is_some());
