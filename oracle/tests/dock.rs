@@ -117,15 +117,29 @@ fn extreme(random: &mut Random) -> Segment {
     Segment { start, length }
 }
 
+/// Such a one, or one that touches a segment of a vector or nearly does, empty or as long as has room or a byte longer.
+fn extreme_beside(random: &mut Random, v: &[Segment]) -> Segment {
+    let s = extreme(random);
+    if v.is_empty() || random.once_in(2) {
+        return s;
+    }
+    let other = random.pick(v);
+    let room = LONGEST_VECTOR - total(v);
+    let length = random.pick(&[s.length, 1, 1, room / 2, room, room + 1, 0]);
+    let (end, before) = (other.start + other.length, other.start.wrapping_sub(length));
+    Segment { start: random.pick(&[end, end, before, end + 1, end - 1]), length }
+}
+
 /// Where imago has no answer: totals about 1,048,576, segments about the data's end and about 2^64.
 #[test]
 fn vectors_agree_with_the_rules_at_their_limits() {
     let data = vec![0; LONG as usize];
     let (mut rules, mut dock) = (DocumentVectors::new(&data), DockVectors::new(&data));
     let mut random = Random::new(11, 1);
-    let mut v = Vec::new();
-    for _ in 0..20_000 {
-        let (s, index) = (extreme(&mut random), random.pick(&[0, 1, v.len(), v.len() + 1, 16, 17, usize::MAX]));
+    let (mut v, mut joined, mut joined_to_longest) = (Vec::new(), 0, 0);
+    for _ in 0..40_000 {
+        let s = extreme_beside(&mut random, &v);
+        let index = random.pick(&[0, 1, v.len() / 2, v.len(), v.len() + 1, 16, 17, usize::MAX]);
         let mid = random.pick(&[0, 1, s.length, total(&v).saturating_sub(1), total(&v), total(&v) + 1, u64::MAX]);
         let tail = rules.split_tail_at(&v, mid);
         let pushed = rules.push(&v, s);
@@ -135,8 +149,12 @@ fn vectors_agree_with_the_rules_at_their_limits() {
         assert_eq!(dock.split_at(&v, mid), rules.split_at(&v, mid), "{v:?} split_at {mid}");
         assert_eq!(dock.split_tail_at(&v, mid), tail, "{v:?} split_tail_at {mid}");
         assert_eq!(dock.fault(), None);
+        joined += u64::from(pushed.as_ref().is_ok_and(|after| after.len() == v.len()));
+        joined_to_longest +=
+            u64::from(pushed.as_ref().is_ok_and(|after| after.len() == v.len() && total(after) == LONGEST_VECTOR));
         v = pushed.unwrap_or(if random.once_in(8) { tail } else { v });
     }
+    assert!(joined > 1000 && joined_to_longest > 100, "{joined} pushes joined, {joined_to_longest} to the longest");
 }
 
 /// `is_aligned` wherever the data lies, and its refusals in document 01's order.
