@@ -1,11 +1,11 @@
 //! What a list reaches, counted under a name each: refusals, requests, fallbacks, waiting.
 
-use crate::document::Course;
+use crate::document::{self, Course};
 use crate::document_side::DocumentSide;
 use crate::event::Event;
 use crate::lists::World;
 use crate::session::{Answer, Observed, Session};
-use crate::side::{Begin, Blockers, Due, Job, Kind, Piece, Request, Side, SLOTS};
+use crate::side::{Begin, Blockers, Due, Job, Kind, Piece, Request, Segment, Side, SLOTS};
 use std::collections::BTreeMap;
 
 #[derive(Clone, Default)]
@@ -57,6 +57,11 @@ fn reads_name(course: &Course) -> Option<&'static str> {
     })
 }
 
+/// Whether an empty segment starts where the one before it ends.
+fn has_empty_touching(v: &[Segment]) -> bool {
+    v.windows(2).any(|two| two[1].length == 0 && two[0].start.checked_add(two[0].length) == Some(two[1].start))
+}
+
 fn code_name(code: u8) -> &'static str {
     match code {
         0 => "done",
@@ -73,8 +78,12 @@ impl Coverage {
         let mut session = Session::new(DocumentSide::new(&world.content()));
         for event in events {
             let before = session.side.requests();
-            let seen = session.perform(event);
-            coverage.event(event, &seen, &before, &session.side);
+            let performed = world.performed(event);
+            let seen = session.perform(&performed);
+            coverage.event(&performed, &seen, &before, &session.side);
+            if let (Event::Begin(written), Event::Begin(taken)) = (event, &performed) {
+                coverage.joining(written, taken, &seen.answer, &session.side);
+            }
         }
         coverage
     }
@@ -133,6 +142,31 @@ impl Coverage {
             Answer::Done => self.add(format!("{:?} done at begin", begin.job)),
             Answer::Slot(slot) => self.entered(*slot, side),
             _ => {}
+        }
+    }
+
+    /// What became of segments that touch: they are joined where a vector is pushed; a begin itself joins none.
+    fn joining(&mut self, written: &Begin, taken: &Begin, answer: &Answer, side: &DocumentSide) {
+        let (before, after) = (written.segments.len(), taken.segments.len());
+        let slot = match answer {
+            Answer::Slot(slot) => *slot,
+            Answer::Refused(document::SEGMENT) if after > document::MOST_SEGMENTS => {
+                return self.add("17 segments refused")
+            }
+            Answer::Refused(document::SEGMENT) if has_empty_touching(&taken.segments) => {
+                return self.add("an empty segment that touches, refused")
+            }
+            _ => return,
+        };
+        let course = if side.course(slot).is_some_and(|c| c.stage().bounced) { "padded" } else { "direct" };
+        if after < before {
+            self.add(format!("joined segments, {course}"));
+        }
+        if after < before && before > document::MOST_SEGMENTS {
+            self.add("17 segments, joined to 16 or fewer");
+        }
+        if document::pushed(&taken.segments).len() < after {
+            self.add(format!("segments that touch, {course}"));
         }
     }
 

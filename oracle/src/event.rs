@@ -65,6 +65,11 @@ impl Begin {
     pub fn range(job: Job, offset: u64, length: u64) -> Self {
         Begin { job, offset, length, segments: Vec::new() }
     }
+
+    /// The begin of a host that pushes these segments: those that touch are joined.
+    pub fn pushed(&self) -> Self {
+        Begin { segments: crate::document::pushed(&self.segments), ..self.clone() }
+    }
 }
 
 fn begin_line(b: &Begin, f: &mut Formatter<'_>) -> fmt::Result {

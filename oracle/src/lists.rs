@@ -70,6 +70,15 @@ impl World {
         self.data > document::LONGEST_VECTOR
     }
 
+    /// The event as a side performs it. `replay` builds vectors by pushes, which join; elsewhere a begin takes them as
+    /// they are.
+    pub fn performed(&self, event: &Event) -> Event {
+        match event {
+            Event::Begin(begin) if self.scripts => Event::Begin(begin.pushed()),
+            _ => event.clone(),
+        }
+    }
+
     /// What a list starts with: zeroes as in `replay`, otherwise bytes that differ from one offset to the next.
     pub fn content(&self) -> Content {
         let test = if self.scripts { VectorTest::Built } else { VectorTest::Begun };
@@ -132,11 +141,12 @@ impl Maker {
 
     /// The event goes into the list, unless imago and document 01 depart there.
     pub fn push(&mut self, event: Event) {
-        if !departures::is_comparable(&event, &self.flight) {
+        let performed = self.world.performed(&event);
+        if !departures::is_comparable(&performed, &self.flight) {
             return;
         }
-        self.seen = self.session.perform(&event);
-        self.flight.note(&event, &self.seen.answer);
+        self.seen = self.session.perform(&performed);
+        self.flight.note(&performed, &self.seen.answer);
         self.events.push(event);
     }
 
@@ -291,21 +301,46 @@ impl Maker {
         Begin::range(job, offset, length)
     }
 
-    /// Segments one after the other, with gaps, aligned or not.
+    /// Segments one after the other, aligned or not: all with gaps, some that touch, or most.
     fn segments(&mut self) -> Vec<Segment> {
         let l = self.flight.opening.align.length().clamp(1, self.world.data);
         let aligned = self.random.once_in(2);
         let count = if self.random.once_in(30) { 15 + self.random.below(3) } else { 1 + self.random.below(3) };
         let unit = if aligned { l } else { 1 };
-        let mut start = self.random.below(self.world.data) / unit * unit;
+        let start = self.random.below(self.world.data) / unit * unit;
         let longest = if count > 3 { unit * 8 } else { self.near(4096).max(unit) };
+        self.segments_from(start, count, unit, longest)
+    }
+
+    fn segments_from(&mut self, mut start: u64, count: u64, unit: u64, longest: u64) -> Vec<Segment> {
+        let gaps = self.random.pick(&[[1, 1, 2], [0, 1, 2], [0, 0, 1]]);
         let mut segments = Vec::new();
         for _ in 0..count {
             let length = self.random_length(longest).div_ceil(unit) * unit;
             segments.push(Segment { start, length });
-            start += length + unit * self.random.below(3);
+            start += length + unit * self.random.pick(&gaps);
         }
         segments
+    }
+
+    /// About as many segments as a vector takes, in the middle of the data, so that they lie in it.
+    fn many_segments(&mut self) -> Vec<Segment> {
+        let unit = self.random.pick(&[1, 1, 8, 16]);
+        let count = 15 + self.random.below(3);
+        self.segments_from(self.world.data / 2, count, unit, 2 * unit)
+    }
+
+    /// A segment is cut in two that touch, and now and then an empty one stands between them.
+    fn cut(&mut self, segments: &mut Vec<Segment>) {
+        let at = self.random.below(segments.len() as u64) as usize;
+        let whole = segments[at];
+        let head = 1 + self.random.below(whole.length.max(2) - 1);
+        let tail = Segment { start: whole.start + head, length: whole.length.max(2) - head };
+        segments[at].length = head;
+        segments.insert(at + 1, tail);
+        if self.random.once_in(8) {
+            segments.insert(at + 1, Segment { start: tail.start, length: 0 });
+        }
     }
 
     /// Two segments whose total is a multiple of L while their lengths are not: a write of them is padded, and may read nothing.
@@ -339,7 +374,7 @@ impl Maker {
     fn vector_job(&mut self) -> Begin {
         let job = self.random.pick(&[Job::Read, Job::Write, Job::Write]);
         let offset = self.offset();
-        let fits = |s: &Vec<Segment>, m: &Maker| document::vector(s, m.world.data) == 0;
+        let fits = |s: &Vec<Segment>, m: &Maker| document::vector(&document::pushed(s), m.world.data) == 0;
         let apart = |s: &Vec<Segment>, m: &Maker| !s.iter().any(|s| m.flight.uses(s));
         let uneven = self.random.once_in(5);
         let long = self.world.is_long() && self.random.once_in(3);
@@ -355,10 +390,22 @@ impl Maker {
             }
             segments = make(self);
         }
-        if self.random.once_in(60) {
-            segments.clear();
+        match self.random.below(60) {
+            0 => segments.clear(),
+            1 | 2 => segments = self.many_segments(),
+            3..=8 => self.cut(&mut segments),
+            _ => {}
         }
-        Begin::vector(job, offset, segments)
+        Begin::vector(job, offset, self.handed_in(segments))
+    }
+
+    /// The list as it is written into a script; elsewhere as it is, or as a host hands it in that pushes it.
+    fn handed_in(&mut self, segments: Vec<Segment>) -> Vec<Segment> {
+        if !self.world.scripts && self.random.once_in(2) {
+            document::pushed(&segments)
+        } else {
+            segments
+        }
     }
 
     fn begin(&mut self) {

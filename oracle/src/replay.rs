@@ -35,7 +35,8 @@ pub struct ImagoTrace {
     pub broken: Option<Difference>,
 }
 
-/// imago's trace of a list, up to where imago and document 01 depart.
+/// imago's trace of a list, up to where imago and document 01 depart. Its lines have the events as they are written;
+/// imago is handed vectors as `replay` builds them.
 pub fn imago_trace(events: &[Event], fault: Option<Fault>) -> ImagoTrace {
     let content = SCRIPTS.content();
     let side = ImagoSide::new(&content);
@@ -44,14 +45,15 @@ pub fn imago_trace(events: &[Event], fault: Option<Fault>) -> ImagoTrace {
     let mut flight = Flight::default();
     let mut traced = ImagoTrace { lines: Vec::with_capacity(events.len()), broken: None };
     for (at, event) in events.iter().enumerate() {
-        if !departures::is_comparable(event, &flight) {
+        let performed = SCRIPTS.performed(event);
+        if !departures::is_comparable(&performed, &flight) {
             break;
         }
-        let seen = session.perform(event);
-        if let Some(what) = plain.feed(event, &seen, &session.side) {
+        let seen = session.perform(&performed);
+        if let Some(what) = plain.feed(&performed, &seen, &session.side) {
             traced.broken.get_or_insert(Difference { at, what });
         }
-        flight.note(event, &seen.answer);
+        flight.note(&performed, &seen.answer);
         traced.lines.push(trace::event(event, &seen, &session.side));
     }
     traced
