@@ -36,9 +36,11 @@ pub enum Fault {
     OneRead,
     /// The end of a request from or into scratch is rounded to L, not its length.
     RoundedEnd,
+    /// A begin joins segments that touch. Scripts of `replay` have none left that do.
+    JoinedBegin,
 }
 
-pub const FAULTS: [(&str, Fault); 15] = [
+pub const FAULTS: [(&str, Fault); 16] = [
     ("long-request", Fault::LongRequest),
     ("shifted-piece", Fault::ShiftedPiece),
     ("other-answer", Fault::OtherAnswer),
@@ -54,6 +56,7 @@ pub const FAULTS: [(&str, Fault); 15] = [
     ("other-slot", Fault::OtherSlot),
     ("one-read", Fault::OneRead),
     ("rounded-end", Fault::RoundedEnd),
+    ("joined-begin", Fault::JoinedBegin),
 ];
 
 /// A side with a fault, or none.
@@ -136,7 +139,8 @@ impl<S: Side> Side for Planted<S> {
     }
 
     fn begin(&mut self, begin: &Begin) -> Begun {
-        match self.side.begin(begin) {
+        let joined = self.has(Fault::JoinedBegin).then(|| begin.pushed());
+        match self.side.begin(joined.as_ref().unwrap_or(begin)) {
             Begun::Refused(207) if self.has(Fault::OtherRefusal) => Begun::Refused(206),
             Begun::Slot(slot) => {
                 (self.middles[slot], self.discards[slot]) = (None, false);

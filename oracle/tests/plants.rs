@@ -30,10 +30,11 @@ fn every_fault_is_seen() {
     }
 }
 
-/// With the same fault on both sides only the plain byte store can see it. It knows neither where pieces lie nor who waits.
+/// With the same fault on both sides only the plain byte store can see it. It knows neither where pieces lie nor who
+/// waits.
 #[test]
 fn the_plain_byte_store_sees_faults() {
-    let unseen = [Fault::ShiftedPiece, Fault::LongWait];
+    let unseen = [Fault::ShiftedPiece, Fault::LongWait, Fault::JoinedBegin];
     for (name, fault) in FAULTS.into_iter().filter(|(_, fault)| !unseen.contains(fault)) {
         let planted = |content: &Content| Planted::new(DocumentSide::new(content), Some(fault));
         let (_, found) = run_lists(RUN, MEMORY, planted, planted);
