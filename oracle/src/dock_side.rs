@@ -2,10 +2,10 @@
 //!
 //! Beside what a run compares, the side watches what the boundary promises and no other side shows: a refused call leaves the dock's
 //! words; buffers of another length are refused with 205; a piece that a request lacks with 208; a call changes the scratch in its
-//! job's share alone.
+//! job's share alone; pushes of a begin's segments leave the joined list.
 
 use crate::dock_scratch::Scratch;
-use crate::dock_words::{row, Lengths, Reply, Words, NO_NUMBER};
+use crate::dock_words::{self, row, Lengths, Reply, Row, Words, NO_NUMBER};
 use crate::document;
 use crate::imago_side::CLOSED;
 use crate::memory::Data;
@@ -34,9 +34,14 @@ pub enum Slip {
     PieceTooMany,
     /// A tell changes the last byte of the next slot's share.
     NextShare,
+    /// Pushes leave segments that touch apart.
+    PushedApart,
+    /// A push of a segment that is empty is taken, and changes nothing.
+    EmptyPush,
 }
 
-pub const SLIPS: [Slip; 4] = [Slip::RefusalChanges, Slip::AnyLength, Slip::PieceTooMany, Slip::NextShare];
+pub const SLIPS: [Slip; 6] =
+    [Slip::RefusalChanges, Slip::AnyLength, Slip::PieceTooMany, Slip::NextShare, Slip::PushedApart, Slip::EmptyPush];
 
 pub struct DockSide {
     words: Words,
@@ -232,6 +237,30 @@ impl DockSide {
         }
     }
 
+    /// A push of the library's, and the slips of it.
+    fn push(&self, words: &mut Row, s: Segment) -> u8 {
+        if self.slip == Some(Slip::EmptyPush) && s.length == 0 {
+            return 0;
+        }
+        dock_words::vector_push(words, s, self.data.bytes().len())
+    }
+
+    /// Pushes of a begin's segments, one after the other, leave the words of the joined list; where that is no vector
+    /// over the data, one of them is refused.
+    fn check_pushes(&self, segments: &[Segment]) {
+        let joined = document::pushed(segments);
+        let mut words = [0; 34];
+        let refused = segments.iter().map(|s| self.push(&mut words, *s)).find(|number| *number != 0);
+        if self.slip == Some(Slip::PushedApart) && refused.is_none() {
+            words = row(segments, document::total(segments));
+        }
+        let fits = match document::vector(&joined, self.data.bytes().len() as u64) {
+            0 => refused.is_none() && words == row(&joined, document::total(&joined)),
+            refusal => refused == Some(refusal),
+        };
+        self.expect(fits, || format!("pushes of {segments:?}: refused {refused:?}, the words {words:?}"));
+    }
+
     /// The bytes that a job may change in its share before a request of it shows them: those of a write, padding included.
     fn note_use(&mut self, slot: usize, begin: &Begin) {
         let share = self.share(slot);
@@ -278,6 +307,7 @@ impl Side for DockSide {
 
     fn begin(&mut self, begin: &Begin) -> Begun {
         self.probe(Some(begin));
+        self.check_pushes(&begin.segments);
         let before = self.words.clone();
         let copy = self.scratch_mut().look();
         let reply = self.begin_with(begin, self.lengths());
