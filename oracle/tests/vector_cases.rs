@@ -1,4 +1,4 @@
-//! Lines that the program `vector_cases` of this repository prints, given by imago's vectors.
+//! Lines that the program `vector_cases` of this repository prints, given by imago's vectors after the same joining.
 
 use oracle::imago_parts::ImagoVectors;
 use oracle::side::{Segment, Vectors};
@@ -14,8 +14,9 @@ fn segments(list: &[(u64, u64)]) -> Vec<Segment> {
     list.iter().map(|(start, length)| Segment { start: *start, length: *length }).collect()
 }
 
-fn side_by_side(n: u64) -> Vec<Segment> {
-    (0..n).map(|start| Segment { start, length: 1 }).collect()
+/// One byte each, the last at 0: none touches the one after it.
+fn downward(n: u64) -> Vec<Segment> {
+    (0..n).rev().map(|start| Segment { start, length: 1 }).collect()
 }
 
 fn three() -> Vec<Segment> {
@@ -53,25 +54,84 @@ fn splits() {
     }
 }
 
+/// A push on a vector, under the program's label.
+fn check_push(side: &mut ImagoVectors, label: &str, v: &[Segment], (start, length): (u64, u64)) {
+    check(format!("push {label}: {}", changed(v, side.push(v, Segment { start, length }))));
+}
+
+fn check_insert(side: &mut ImagoVectors, label: &str, (v, index): (&[Segment], usize), (start, length): (u64, u64)) {
+    check(format!("insert {label}: {}", changed(v, side.insert(v, index, Segment { start, length }))));
+}
+
+fn check_append(side: &mut ImagoVectors, label: &str, v: &[Segment], other: &[Segment]) {
+    check(format!("append {label}: {}", changed(v, side.append(v, other))));
+}
+
 #[test]
-fn pushes_inserts_and_appends() {
+fn pushes() {
     let mut eight = ImagoVectors::new(&LETTERS[..8]);
     let v = segments(&[(0, 2)]);
-    for (label, start) in [("one short of the end of 8", 6), ("up to the end of 8", 7), ("behind the end of 8", 8)] {
-        check(format!("push {label}: {}", changed(&v, eight.push(&v, Segment { start, length: 1 }))));
-    }
+    check_push(&mut eight, "one short of the end of 8", &v, (6, 1));
+    check_push(&mut eight, "up to the end of 8", &v, (7, 1));
+    check_push(&mut eight, "behind the end of 8", &v, (8, 1));
     let mut side = ImagoVectors::new(&[0; 2_000_000]);
-    let two = segments(&[(10, 1), (20, 2)]);
+    let v = segments(&[(4, 2)]);
+    check_push(&mut side, "where the last ends", &v, (6, 3));
+    check_push(&mut side, "one behind the last", &v, (7, 3));
+    check_push(&mut side, "from inside the last", &v, (5, 3));
+    check_push(&mut side, "up to the last", &v, (0, 4));
+    check_push(&mut side, "an empty one where the last ends", &v, (6, 0));
+    let full = segments(&[(4, 1_048_575)]);
+    check_push(&mut side, "up to 1048576 bytes in one", &full, (1_048_579, 1));
+    check_push(&mut side, "past 1048576 bytes in one", &full, (1_048_579, 2));
+}
+
+#[test]
+fn counts() {
+    let mut side = ImagoVectors::new(&[0; 100]);
+    let fifteen = downward(15);
+    let sixteen = [&fifteen[..], &segments(&[(15, 1)])].concat();
+    check_push(&mut side, "the 16th", &fifteen, (15, 1));
+    check_push(&mut side, "the 17th", &sixteen, (17, 1));
+    check_push(&mut side, "to the 16th", &sixteen, (16, 1));
+    check_push(&mut side, "an empty one to the 16th", &sixteen, (16, 0));
+    check_insert(&mut side, "the 16th", (&fifteen, 0), (15, 1));
+    check_insert(&mut side, "the 17th", (&sixteen, 0), (16, 1));
+    let forty = (0..40).fold(Vec::new(), |v, start| side.push(&v, Segment { start, length: 1 }).expect("it joins"));
+    check(format!("40 pushes side by side: {}", text(&forty)));
+}
+
+#[test]
+fn inserts() {
+    let mut side = ImagoVectors::new(&[0; 100]);
+    let v = segments(&[(10, 1), (20, 2)]);
     for (label, index) in [("at 0", 0), ("at 1", 1), ("at the count", 2), ("past the count", 3)] {
-        let inserted = side.insert(&two, index, Segment { start: 30, length: 3 });
-        check(format!("insert {label}: {}", changed(&two, inserted)));
+        check_insert(&mut side, label, (&v, index), (30, 3));
     }
+    let v = segments(&[(10, 2), (16, 4)]);
+    check_insert(&mut side, "where the first ends", (&v, 1), (12, 1));
+    check_insert(&mut side, "up to the second", (&v, 1), (15, 1));
+    check_insert(&mut side, "between the two", (&v, 1), (12, 4));
+    check_insert(&mut side, "one short of the second", (&v, 1), (12, 3));
+    check_insert(&mut side, "up to the first", (&v, 0), (9, 1));
+    check_insert(&mut side, "where the last ends", (&v, 2), (20, 5));
+    check_insert(&mut side, "an empty one where the first ends", (&v, 1), (12, 0));
+    check_insert(&mut side, "before two that touch", (&segments(&[(10, 2), (12, 4)]), 0), (30, 1));
+}
+
+#[test]
+fn appends() {
+    let mut side = ImagoVectors::new(&[0; 2_000_000]);
     let half = segments(&[(0, 524_288)]);
-    check(format!("append nothing: {}", changed(&half, side.append(&half, &[]))));
-    check(format!("append up to 1048576 bytes: {}", changed(&half, side.append(&half, &half))));
-    let (eight, nine) = (side_by_side(8), side_by_side(9));
-    check(format!("append 8 to 8: {}", changed(&eight, side.append(&eight, &eight))));
-    check(format!("append 9 to 8: {}", changed(&eight, side.append(&eight, &nine))));
+    check_append(&mut side, "nothing", &half, &[]);
+    check_append(&mut side, "to nothing", &[], &half);
+    check_append(&mut side, "up to 1048576 bytes", &half, &half);
+    check_append(&mut side, "one byte more", &half, &segments(&[(0, 524_289)]));
+    let eight = downward(8);
+    check_append(&mut side, "8 to 8", &eight, &eight);
+    check_append(&mut side, "9 to 8", &eight, &downward(9));
+    let nine = [&segments(&[(1, 1)]), &eight[..]].concat();
+    check_append(&mut side, "9 to 8, the last of which it touches", &eight, &nine);
 }
 
 fn ascii(bytes: &[u8]) -> String {
@@ -105,6 +165,7 @@ fn owned_copies() {
 fn alignments() {
     let mut side = ImagoVectors::new(&[0; 8192]);
     let v = segments(&[(512, 1024)]);
+    let pushed = side.push(&segments(&[(0, 256)]), Segment { start: 256, length: 256 }).expect("it joins");
     let with = |more: (u64, u64)| segments(&[(512, 1024), more]);
     let cases = [
         ("M 512, R 512, address 4096", v.clone(), 512, 512),
@@ -114,6 +175,8 @@ fn alignments() {
         ("M 1, R 512, second one byte short", with((0, 511)), 1, 512),
         ("M 512, R 1, second one byte on", with((1, 512)), 512, 1),
         ("M 512, R 1, second aligned", with((2048, 512)), 512, 1),
+        ("M 1, R 512, two halves by hand", segments(&[(0, 256), (256, 256)]), 1, 512),
+        ("M 1, R 512, two halves pushed", pushed, 1, 512),
     ];
     for (label, v, mem, req) in cases {
         let answer = if side.is_aligned(&v, mem, req) { "aligned" } else { "unaligned" };
