@@ -4,6 +4,7 @@
 //! 5, 6, 7: 206 and 202 are answered from document 01's table (`document.rs`); imago is not asked.
 //! 8: scratch is never compared.
 //! 10: no vector is that long, so no list meets it.
+//! 12: `parts` joins imago's vector after each call, and `replay` hands imago what the pushes of a script leave.
 
 use crate::document::LONGEST_BOUNCE;
 use crate::event::Event;
