@@ -41,6 +41,8 @@ pub enum Event {
 
 /// The buffers of `replay`: data of 4096 bytes at address 0, scratch of 131,072 at 65,536.
 pub const REPLAY_DATA: u64 = 4096;
+/// The most segments that `replay` takes in one event.
+pub const REPLAY_SEGMENTS: usize = 17;
 pub const REPLAY_STORE: usize = 8192;
 const REPLAY_SCRATCH: u64 = 131_072;
 

@@ -2,7 +2,7 @@
 
 use crate::departures;
 use crate::document::{self, VectorTest};
-use crate::event::{Event, REPLAY_DATA, REPLAY_STORE};
+use crate::event::{Event, REPLAY_DATA, REPLAY_SEGMENTS, REPLAY_STORE};
 use crate::flight::Flight;
 use crate::imago_side::ImagoSide;
 use crate::random::Random;
@@ -399,9 +399,12 @@ impl Maker {
         Begin::vector(job, offset, self.handed_in(segments))
     }
 
-    /// The list as it is written into a script; elsewhere as it is, or as a host hands it in that pushes it.
-    fn handed_in(&mut self, segments: Vec<Segment>) -> Vec<Segment> {
-        if !self.world.scripts && self.random.once_in(2) {
+    /// As many of the list as a script can say; elsewhere the list as it is, or as a host hands it in that pushes it.
+    fn handed_in(&mut self, mut segments: Vec<Segment>) -> Vec<Segment> {
+        if self.world.scripts {
+            segments.truncate(REPLAY_SEGMENTS);
+            segments
+        } else if self.random.once_in(2) {
             document::pushed(&segments)
         } else {
             segments
