@@ -2,7 +2,7 @@
 
 use imago::io_buffers::IoVector;
 use imago::StorageExt;
-use oracle::document_parts::DocumentPlanner;
+use oracle::document_parts::{DocumentPlanner, DocumentVectors};
 use oracle::document_side::DocumentSide;
 use oracle::event::Event;
 use oracle::executor::Task;
@@ -12,7 +12,7 @@ use oracle::lists::SCRIPTS;
 use oracle::port::Port;
 use oracle::script::parse;
 use oracle::session::{Answer, Session};
-use oracle::side::{Lent, Opening, Planner, Side, ROWS};
+use oracle::side::{Lent, Opening, Planner, Segment, Side, Vectors, ROWS};
 use std::panic::catch_unwind;
 use std::sync::Arc;
 
@@ -99,4 +99,15 @@ fn number_9_the_share() {
     let content = SCRIPTS.content();
     assert_eq!(text(shown(DocumentSide::new(&content), &list)), " write 0+4096 from scratch 0+4096");
     assert_eq!(text(shown(ImagoSide::new(&content), &list)), " read 4096+512 into scratch 4096+512");
+}
+
+#[test]
+fn number_12_segments_that_touch() {
+    let bytes = [0u8; 2];
+    let mut v = IoVector::from(&bytes[..1]);
+    v.push(&bytes[1..]);
+    assert_eq!(v.buffer_count(), 2);
+    let first = Segment { start: 0, length: 1 };
+    let joined = DocumentVectors::new(&bytes).push(&[first], Segment { start: 1, length: 1 });
+    assert_eq!(joined, Ok(vec![Segment { start: 0, length: 2 }]));
 }
