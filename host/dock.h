@@ -287,8 +287,8 @@ static inline int dock_vector_joins(uint64_t start, uint64_t length, uint64_t ne
 }
 
 /* Appends a segment: `length` bytes of the data from `start` on. One that starts where the last one ends lengthens that
- * one. A 17th is not kept, but the vector is one with too many from then on, and begin refuses it (202). No push makes
- * a vector right that begin refuses. */
+ * one. A 17th is not kept, but the vector is one with too many from then on, and begin refuses it (202). What begin
+ * refuses with 202 it goes on refusing with 202, whatever is pushed. */
 static inline void dock_vector_push(struct dock_vector *vector, uint64_t start, uint64_t length)
 {
     uint64_t *words = vector->words;

@@ -329,6 +329,8 @@ static uint64_t left_apart;
 static inline void put_segment(struct dock_vector *vector, uint64_t start, uint64_t length)
 {
     uint64_t count = vector->words[0]++;
+    if (count >= DOCK_SEGMENTS)
+        return;
     vector->words[1] += length;
     vector->words[2 + 2 * count] = start;
     vector->words[3 + 2 * count] = length;

@@ -596,7 +596,7 @@ static void test_blockers(void)
     CHECK(is_due(later, DOCK_DISCARD, 512, 512));
 }
 
-/* ---- Refusals of begin ---- */
+/* ---- Vectors: what is joined, and what begin refuses with 202 ---- */
 
 /* A 17th is refused, and so is whatever is pushed after it; one that touches the 16th is none. */
 static void test_seventeen(void)
@@ -636,7 +636,7 @@ static void test_segments(void)
     REFUSED_VECTOR(DOCK_SEGMENT, DOCK_WRITE, 0, sum);
 }
 
-/* A vector that begin refuses stays one, though segments are pushed that start where its last one ends. */
+/* A vector that begin refuses with 202 stays one, though segments are pushed that start where its last one ends. */
 static void test_refused_for_good(void)
 {
     static const uint64_t wrong[][4] = {
@@ -647,9 +647,12 @@ static void test_refused_for_good(void)
         { 4, UINT64_MAX - 4, UINT64_MAX, 100 }, /* lengths whose sum is no number */
         { 0, DATA, DATA, 1 },                   /* one byte past the data */
     };
+    struct dock_vector none = { { 0, UINT64_MAX - 1 } }; /* a total of no segments, where a last one would lie */
     size_t i;
     int left;
     open_row(ROW, BOUNCE);
+    dock_vector_push(&none, UINT64_MAX - 1, 1);
+    REFUSED_VECTOR(DOCK_SEGMENT, DOCK_WRITE, 0, none);
     for (i = 0; i < sizeof wrong / sizeof *wrong; i++) {
         struct dock_vector vector = one_segment(wrong[i][0], wrong[i][1]);
         uint64_t end = wrong[i][2] + wrong[i][3];
@@ -732,9 +735,14 @@ static void test_as_they_are(void)
     CHECK(memcmp(lent.data, store + 512, 512) == 0);
     runs_over(&blocks, DOCK_WRITE, 2, lent.data + 1024, 512, __LINE__);
     CHECK(store_has(512, 1024, 1024));
+    fill();
+    runs_over(&blocks, DOCK_READ, 2, lent.data + 1024, 512, __LINE__);
+    CHECK(memcmp(lent.data + 1024, store + 512, 1024) == 0);
     dock_vector_push(&halves, 512, 512);
     CHECK(halves.words[0] == 2 && halves.words[1] == 1024 && halves.words[3] == 256 && halves.words[5] == 768);
 }
+
+/* ---- Other refusals of begin ---- */
 
 static void test_overlap(void)
 {

@@ -18,6 +18,9 @@ uint8_t dock_words_vector_push(uint64_t *vector, size_t start, size_t length, si
 
 enum size { DATA = 1310720, PUSHES = 32 };
 
+/* So many sequences reach all that is counted; fewer need not. */
+static const uint64_t usual = 20000;
+
 static uint8_t data[DATA];
 static uint8_t scratch[32];
 static struct dock_lent lent = { data, sizeof data, scratch, sizeof scratch };
@@ -184,7 +187,7 @@ static struct dock_vector any_words(uint64_t longest)
 
 /* ---- The comparison ---- */
 
-/* What begin gives for a vector: 0 where it takes it, or the refusal. Every segment of it is direct: alignments are 1. */
+/* What begin gives for a vector: 0 where it takes it, or the refusal. Alignments are 1, so every segment is direct. */
 static uint8_t begun(const struct dock_vector *vector)
 {
     struct dock dock = opened;
@@ -249,7 +252,7 @@ static void run_sequence(void)
 
 int main(int argc, char **argv)
 {
-    uint64_t sequences = argc > 1 ? strtoull(argv[1], NULL, 10) : 20000;
+    uint64_t sequences = argc > 1 ? strtoull(argv[1], NULL, 10) : usual;
     int i;
     seed = argc > 2 ? strtoull(argv[2], NULL, 10) : 1;
     check(dock_open_row(&opened, 0, 4, &lent) == 0, "opening is refused");
@@ -257,7 +260,7 @@ int main(int argc, char **argv)
         run_sequence();
     for (i = 0; i < REACHES; i++) {
         printf("  %-34s %8llu\n", names[i], (unsigned long long)reached[i]);
-        check(reached[i] > 0, "something was never reached");
+        check(reached[i] > 0 || sequences < usual, "something was never reached");
     }
     printf("%llu sequences of %d pushes; no difference\n", (unsigned long long)sequences, (int)PUSHES);
     return EXIT_SUCCESS;

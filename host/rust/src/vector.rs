@@ -10,8 +10,8 @@ pub const LONGEST_VECTOR: u64 = 1_048_576;
 /// The words of a vector: count, total, start and length of each segment.
 const WORDS: usize = 2 + 2 * SEGMENTS;
 
-/// Up to 16 segments of the data, used one after the other; those that touch as they are pushed are one. Begin tests it:
-/// [`crate::Refusal::Segment`] where it does not fit.
+/// Up to 16 segments of the data, used one after the other; those that touch as they are pushed are one. Begin tests
+/// it: [`crate::Refusal::Segment`] where it does not fit.
 #[derive(Clone, Copy, Debug, PartialEq, Eq)]
 pub struct Vector {
     words: [u64; WORDS],
@@ -31,7 +31,8 @@ impl Vector {
     }
 
     /// Appends a segment. One that starts where the last one ends lengthens that one. A 17th is not kept, but the
-    /// vector is one with too many from then on, and begin refuses it. No push makes a vector right that begin refuses.
+    /// vector is one with too many from then on. What begin refuses as [`crate::Refusal::Segment`] it goes on refusing
+    /// so, whatever is pushed.
     pub fn push(&mut self, start: usize, length: usize) {
         let (start, length) = (start as u64, length as u64);
         let count = self.words[0] as usize;
