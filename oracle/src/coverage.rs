@@ -1,4 +1,4 @@
-//! What a list reaches, counted under a name each: refusals, requests, fallbacks, waiting.
+//! What a list reaches, counted under a name each: refusals, requests, fallbacks, waiting, joining.
 
 use crate::document::{self, Course};
 use crate::document_side::DocumentSide;

@@ -96,7 +96,7 @@ impl<V: Vectors> Vectors for WrongVectors<V> {
 
     fn append(&mut self, v: &[Segment], other: &[Segment]) -> Result<Vec<Segment>, u8> {
         let right = match self.1 {
-            "append" => Ok([v, other].concat()),
+            "append" => Ok(joined_at([v, other].concat(), v.len())),
             "append before" => self.0.append(other, v),
             _ => self.0.append(v, other),
         };

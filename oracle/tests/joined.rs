@@ -63,13 +63,15 @@ fn check_begin(begin: &Begin, expected: &str) {
 #[test]
 fn a_begin_joins_nothing() {
     let halves = [(0, 256), (256, 256)].map(|(start, length)| Segment { start, length });
-    let begin = Begin::vector(Job::Write, 512, halves.to_vec());
-    check_begin(&begin, "write 512+512 from scratch 0+512");
-    check_begin(&begin.pushed(), "write 512+512 from data 0+512");
     let blocks = [(0, 512), (512, 512)].map(|(start, length)| Segment { start, length });
-    let begin = Begin::vector(Job::Write, 512, blocks.to_vec());
-    check_begin(&begin, "write 512+1024 from data 0+512 data 512+512");
-    check_begin(&begin.pushed(), "write 512+1024 from data 0+1024");
+    for (job, request, to) in [(Job::Write, "write", "from"), (Job::Read, "read", "into")] {
+        let begin = Begin::vector(job, 512, halves.to_vec());
+        check_begin(&begin, &format!("{request} 512+512 {to} scratch 0+512"));
+        check_begin(&begin.pushed(), &format!("{request} 512+512 {to} data 0+512"));
+        let begin = Begin::vector(job, 512, blocks.to_vec());
+        check_begin(&begin, &format!("{request} 512+1024 {to} data 0+512 data 512+512"));
+        check_begin(&begin.pushed(), &format!("{request} 512+1024 {to} data 0+1024"));
+    }
 }
 
 const LONG: u64 = LONGEST_VECTOR + 262_144;

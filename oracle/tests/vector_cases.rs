@@ -97,6 +97,8 @@ fn counts() {
     check_push(&mut side, "an empty one to the 16th", &sixteen, (16, 0));
     check_insert(&mut side, "the 16th", (&fifteen, 0), (15, 1));
     check_insert(&mut side, "the 17th", (&sixteen, 0), (16, 1));
+    check_insert(&mut side, "into 16, touching one", (&sixteen, 15), (1, 1));
+    check_insert(&mut side, "into 16, touching two", (&sixteen, 15), (1, 14));
     let forty = (0..40).fold(Vec::new(), |v, start| side.push(&v, Segment { start, length: 1 }).expect("it joins"));
     check(format!("40 pushes side by side: {}", text(&forty)));
 }
