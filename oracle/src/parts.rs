@@ -63,15 +63,20 @@ fn segment_behind(random: &mut Random, other: &Segment) -> Segment {
     Segment { start, length }
 }
 
+/// A segment that ends where another starts, or one before.
+fn segment_before(random: &mut Random, right: &Segment) -> Segment {
+    let length = random.below(64).min(right.start);
+    Segment { start: right.start - length - u64::from(right.start > length && random.once_in(8)), length }
+}
+
 /// A segment for the place before `index`: one that touches what stands before it, or after it, or both; or any.
 fn segment_between(random: &mut Random, v: &[Segment], index: usize) -> Segment {
     let neighbours = (index.checked_sub(1).and_then(|i| v.get(i)), v.get(index));
     match (random.below(4), neighbours) {
         (0, (Some(left), _)) => segment_behind(random, left),
-        (1, (_, Some(right))) => {
-            let length = random.below(64).min(right.start);
-            Segment { start: right.start - length - u64::from(right.start > length && random.once_in(8)), length }
-        }
+        (1, (_, Some(right))) => segment_before(random, right),
+        // at the end of a vector this joins nothing
+        (1, (Some(left), None)) => segment_before(random, left),
         (2, (Some(left), Some(right))) if end(left) <= right.start => {
             Segment { start: end(left), length: right.start - end(left) }
         }
