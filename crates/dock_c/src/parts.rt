@@ -22,7 +22,7 @@ ghost use Rattle.blockers.specs.Blockers.{enteredOf, leftOf, waitsOf, strength}
 ghost use Rattle.dock_words.specs.View.{flagOf, flagWord, vectorFrom, blockersOf};
 ghost use Rattle.dock_c.specs.Replies.{replyOf, alignmentPaper, EditsAs, SplitsAs, MovesAs, BlocksAs};
 
-// The vector with a segment more at its end.
+// The vector with a segment at its end; one that starts where the last ends makes that longer.
 #[no_mangle]
 pub extern "C" fn dock_words_vector_push(
     vector: &mut [u64; 34],
@@ -40,7 +40,7 @@ pub extern "C" fn dock_words_vector_push(
     outcome.number()
 }
 
-// The vector with a segment more before the one at `index`.
+// The vector with a segment before the one at `index`, joined to either neighbour that it touches.
 #[no_mangle]
 pub extern "C" fn dock_words_vector_insert(
     vector: &mut [u64; 34],
@@ -76,7 +76,7 @@ pub extern "C" fn dock_words_vector_split_tail_at(
     outcome.number()
 }
 
-// The vector with the segments of `other` at its end.
+// The vector with the segments of `other` at its end, the first of them as in a push.
 #[no_mangle]
 pub extern "C" fn dock_words_vector_append(
     vector: &mut [u64; 34],
