@@ -76,6 +76,8 @@ pub fn count_limits() {
     insert(b"insert the 17th", w, 0, 16, 1);
     push(b"push to the 16th", w, 16, 1, 100);
     push(b"push an empty one to the 16th", w, 16, 0, 100);
+    insert(b"insert into 16, touching one", w, 15, 1, 1);
+    insert(b"insert into 16, touching two", w, 15, 1, 14);
 }
 
 pub fn total_limits() {
@@ -115,6 +117,10 @@ pub fn joins() {
         2000000,
     );
     push(b"push past 1048576 bytes in one", full, 1048579, 2, 2000000);
+}
+
+// At the last numbers.
+pub fn high_joins() {
     let high = IoVector::new()
         .push(
             Segment {

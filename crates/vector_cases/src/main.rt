@@ -12,6 +12,7 @@ fn main() {
     edits::total_limits();
     edits::inserts();
     edits::joins();
+    edits::high_joins();
     edits::insert_joins();
     edits::appends();
     edits::values();
