@@ -1,4 +1,4 @@
--- What the functions that build a vector ask of it.
+-- What the functions that build a vector ask of it, and what those that glue give.
 use mathlib.Core.Path.{_≡_}
 use mathlib.Core.Bool.{Bool, true, false}
 use mathlib.Core.List.{List, [], _∷_}

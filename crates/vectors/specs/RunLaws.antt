@@ -5,12 +5,12 @@ use mathlib.Core.Bool.{Bool, true, false, _&&_, not}
 use mathlib.Core.List.{List, [], _∷_, _++_, append-assoc}
 use mathlib.Core.Logic.{_⊎_, ⊎-elim}
 use Prim.Native.Nat.{ℕ, zero, suc, _+_, _-_, _≤_, _<_}
-use native.Mathlib.Decide.{ℕ-discrete}
+use native.Mathlib.Decide.{decLt, ℕ-discrete}
 use native.Mathlib.Omega.{arith}
 use lib.Dec.{ltb, leb}
-use lib.ListN.{length, take, drop, length-append}
-use lib.Seq.{append-snoc}
-use borrow.Author.Tests.{eq-eqb, ne-eqb, lt-ltb, le-leb, ltb-true, not-true}
+use lib.ListN.{length, take, drop, length-append, getD, List·getD-append}
+use lib.Seq.{append-snoc, getD-append-add}
+use borrow.Author.Tests.{eq-eqb, ne-eqb, lt-ltb, le-leb, ltb-true, not-true, le-ltb}
 use Rattle.arithmetic.specs.SettingsLaws.{and-left, and-right, both}
 use Rattle.vectors.specs.declared.vector.Segment.{Segment}
 use Rattle.vectors.specs.declared.vector.IoVector.{IoVector}
@@ -19,6 +19,7 @@ use Rattle.vectors.specs.Vectors.{segment, segmentsOf, sizeOf, liesIn, a
 use Rattle.vectors.specs.Vectors.{glued, refusedVector, changedTo, pushOf, insertedAt, insertOf, appendOf, headOf, tailOf, splitOf}
 use Rattle.vectors.specs.Vectors.{splitTailOf}
 use Rattle.vectors.specs.Runs.{notEmpty, touchesFirst, noneTouch, upFrom, positions, runFrom, runs, MaximalRuns, runsOrRefused}
+use Rattle.vectors.specs.Places.{placeOf}
 use Rattle.vectors.specs.SegmentLaws.{valid, segments-of, all-cut}
 use Rattle.vectors.specs.SplitLaws.{cases}
 use Rattle.vectors.specs.SeamLaws.{Touching, same-end, seam-cases, glued-lies, glued-none-touch}
@@ -30,6 +31,12 @@ up-length : (s n : ℕ) → length (upFrom s n) ≡ n
 unfolding upFrom
 up-length s zero = refl
 up-length s (suc n) = ap suc (up-length (s + 1) n)
+
+up-at : (s n i : ℕ) → i < n → getD (upFrom s n) i 0 ≡ s + i
+unfolding upFrom
+up-at s zero i h = absurd (omega arith)
+up-at s (suc n) zero h = let e : s ≡ s + 0 = omega arith in e
+up-at s (suc n) (suc i) h = let e : s + 1 + i ≡ s + suc i = omega arith in up-at (s + 1) n i (omega arith) ∙ e
 
 up-append : (s m n : ℕ) → upFrom s m ++ upFrom (s + m) n ≡ upFrom s (m + n)
 unfolding upFrom
@@ -52,6 +59,22 @@ positions-append [] qs = refl
 positions-append (p ∷ ps) qs =
     ap (λ (l : List ℕ). upFrom (p .start) (p .length) ++ l) (positions-append ps qs)
     ∙ sym (append-assoc (upFrom (p .start) (p .length)) (positions ps) (positions qs))
+
+-- position i is where byte i of the segments stands
+pub positions-at : (ps : List Segment) (i : ℕ) → i < sizeOf ps → getD (positions ps) i 0 ≡ placeOf ps i
+unfolding positions placeOf sizeOf
+positions-at [] i h = absurd (omega arith)
+positions-at (p ∷ ps) i h =
+    let a = upFrom (p .start) (p .length) in
+    let n : length a ≡ p .length = up-length (p .start) (p .length) in
+    elim (decLt i (p .length)) [
+      | yes l ↦ rw (lt-ltb i (p .length) l) (List·getD-append a (positions ps) 0 i (omega (arith, n)) ∙ up-at (p .start) (p .length) i l)
+      | no l ↦
+          let g : p .length ≤ i = omega arith in
+          let k : i ≡ length a + (i - p .length) = omega (arith, n) in
+          rw (le-ltb i (p .length) g) (ap (λ (j : ℕ). getD (a ++ positions ps) j 0) k ∙ getD-append-add a (positions ps) (i - p .length) 0
+          ∙ positions-at ps (i - p .length) (omega arith))
+    ]
 
 seam-positions : (p : Segment) (qs : List Segment) → positions (seam p qs) ≡ upFrom (p .start) (p .length) ++ positions qs
 unfolding positions seam
@@ -219,7 +242,7 @@ module _ (n : ℕ) where
   -- segments of the data in which no two neighbours touch
   pub record Separate (ps : List Segment) : Type 0 where
     pub lie : allSegments (liesIn n) ps ≡ true
-    pub apart : noneTouch ps ≡ true
+    pub none-touch : noneTouch ps ≡ true
 
   -- the parts of such a list
   pub cut-separate : (ps : List Segment) → Separate ps → (i : ℕ) → Separate (take i ps) × Separate (drop i ps)
@@ -227,19 +250,22 @@ module _ (n : ℕ) where
       let l : (allSegments (liesIn n) (take i ps) && allSegments (liesIn n) (drop i ps)) ≡ true = all-cut (liesIn n) i ps ∙ a .lie in
       let t = allSegments (liesIn n) (take i ps) in
       let d = allSegments (liesIn n) (drop i ps) in
-      let c = none-touch-cut i ps (a .apart) in
-      (record { lie = and-left t d l; apart = c .0 }, record { lie = and-right t d l; apart = c .1 })
+      let c = none-touch-cut i ps (a .none-touch) in
+      (record { lie = and-left t d l; none-touch = c .0 }, record { lie = and-right t d l; none-touch = c .1 })
 
   -- glued they are the maximal runs of the positions of the two, in order
   module _ (ps qs : List Segment) (a : Separate ps) (b : Separate qs) where
     pub glued-separate : Separate (glued ps qs)
-    glued-separate = record { lie = glued-lies qs n (b .lie) ps (a .lie); apart = glued-none-touch qs ps (a .apart) (b .apart) }
+    glued-separate = record {
+      lie = glued-lies qs n (b .lie) ps (a .lie);
+      none-touch = glued-none-touch qs ps (a .none-touch) (b .none-touch);
+    }
 
     pub glued-runs : glued ps qs ≡ runs (positions (ps ++ qs))
     glued-runs = runs-only (positions (ps ++ qs)) (glued ps qs) (record {
       same = glued-positions ps qs;
       filled = lies-filled (glued ps qs) (glued-separate .lie);
-      longest = glued-separate .apart;
+      longest = glued-separate .none-touch;
     })
 
   -- a call on a valid vector whose segments would be ps
@@ -247,17 +273,17 @@ module _ (n : ℕ) where
   unfolding changedTo runsOrRefused segmentsFit
   changed-runs v ps e a =
       let r : runs (positions ps) ≡ ps =
-      sym (runs-only (positions ps) ps (record { same = refl; filled = lies-filled ps (a .lie); longest = a .apart })) in
+      sym (runs-only (positions ps) ps (record { same = refl; filled = lies-filled ps (a .lie); longest = a .none-touch })) in
       rw (e, a .lie, r, positions-length ps)
 
   module _ (v : IoVector) (e : isValid n v ≡ true) (t : noneTouch (segmentsOf v) ≡ true) where
     own : Separate (segmentsOf v)
-    own = record { lie = valid n v e .fit .lie; apart = t }
+    own = record { lie = valid n v e .fit .lie; none-touch = t }
 
     module _ (p : Segment) (f : liesIn n p ≡ true) where
       one : Separate (p ∷ [])
       unfolding allSegments noneTouch touchesFirst
-      one = record { lie = both _ _ f refl; apart = refl }
+      one = record { lie = both _ _ f refl; none-touch = refl }
 
       -- push gives the maximal runs of the positions, or 202 for more than 16 runs or more than 1,048,576 positions
       pub push-runs : pushOf n v p ≡ runsOrRefused v (positions (segmentsOf v ++ (p ∷ [])))
@@ -289,7 +315,7 @@ module _ (n : ℕ) where
     append-runs w f u =
         let ps = segmentsOf v in
         let qs = segmentsOf w in
-        rw f (changed-runs v (glued ps qs) e (glued-separate ps qs own (record { lie = valid n w f .fit .lie; apart = u }))
+        rw f (changed-runs v (glued ps qs) e (glued-separate ps qs own (record { lie = valid n w f .fit .lie; none-touch = u }))
         ∙ ap (runsOrRefused v) (glued-positions ps qs))
 
 -- ---- no two neighbours of a vector touch

@@ -1,4 +1,4 @@
--- What pieces that touch are joined to: the maximal runs of the positions in the data.
+-- What segments that touch are joined to: the maximal runs of the positions in the data.
 use mathlib.Core.Path.{_≡_}
 use mathlib.Core.Bool.{Bool, true, false, _&&_, not}
 use mathlib.Core.List.{List, [], _∷_, _++_}
@@ -35,7 +35,7 @@ unfoldable pub positions : List Segment → List ℕ
 positions [] = []
 positions (p ∷ ps) = upFrom (p .start) (p .length) ++ positions ps
 
--- x at the front of a list's runs: in the first of them, if that starts behind x
+-- x at the front of a list's runs: in the first of them, if that starts at x + 1
 unfoldable pub runFrom : ℕ → List Segment → List Segment
 runFrom x [] = segment x 1 ∷ []
 runFrom x (q ∷ qs) = pick (eqb (x + 1) (q .start)) (segment x (q .length + 1) ∷ qs) (segment x 1 ∷ (q ∷ qs))

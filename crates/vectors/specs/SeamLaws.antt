@@ -1,4 +1,5 @@
--- Laws of segments glued at a seam: lengths, sizes, bytes, what fits, and that no two neighbours touch where none did. Assumes nothing.
+-- Laws of segments glued at a seam, and of inserts: lengths, sizes, bytes, what lies in the data, what is aligned, and that no two
+-- neighbours touch where none did. Assumes nothing.
 use mathlib.Core.Path.{_≡_, refl, sym, ap, _∙_}
 use mathlib.Core.Bool.{Bool, true, false, _&&_, not, false≢true}
 use mathlib.Core.List.{List, [], _∷_, _++_, append-assoc, append-nil}
@@ -10,12 +11,15 @@ use lib.ListN.{length, take, drop, getD, set}
 use borrow.Author.Tests.{eqb-true, eq-eqb}
 use Rattle.arithmetic.specs.Rounding.{isMultiple}
 use Rattle.arithmetic.specs.RoundingLaws.{multiple-add}
+use Rattle.arithmetic.specs.Settings.{lengthAlign}
 use Rattle.arithmetic.specs.SettingsLaws.{and-left, and-right, both}
+use Rattle.arithmetic.specs.declared.settings.Alignments.{Alignments}
 use Rattle.vectors.specs.declared.vector.Segment.{Segment}
-use Rattle.vectors.specs.Vectors.{segment, none, sizeOf, liesIn, allSegments, touches, seam, glued, insertedAt, bytesOf, allAligned}
+use Rattle.vectors.specs.Vectors.{segment, none, sizeOf, liesIn, allSegments, touches, seam, glued, insertedAt, bytesOf}
+use Rattle.vectors.specs.Vectors.{allAligned, isAlignedOf}
 use Rattle.vectors.specs.Joining.{lastTouches}
 use Rattle.vectors.specs.Runs.{touchesFirst, noneTouch}
-use Rattle.vectors.specs.SegmentLaws.{lies, lies-true, size-cut}
+use Rattle.vectors.specs.SegmentLaws.{lies, lies-true, size-cut, all-append}
 use Rattle.vectors.specs.SplitLaws.{parts}
 
 -- ---- one segment before a list: it is one with the first, which it touches, or stands before it
@@ -29,15 +33,15 @@ pub record Touching (p q : Segment) (qs : List Segment) : Type 0 where
   pub ends : p .start + p .length ≡ q .start
   pub is : seam p (q ∷ qs) ≡ joint p q ∷ qs
 
-pub record Apart (p q : Segment) (qs : List Segment) : Type 0 where
+pub record NotTouching (p q : Segment) (qs : List Segment) : Type 0 where
   pub not-touching : touches p q ≡ false
   pub is : seam p (q ∷ qs) ≡ p ∷ (q ∷ qs)
 
-pub seam-cases : (p q : Segment) (qs : List Segment) → Touching p q qs ⊎ Apart p q qs
+pub seam-cases : (p q : Segment) (qs : List Segment) → Touching p q qs ⊎ NotTouching p q qs
 unfolding seam touches
 seam-cases p q qs = go (touches p q) refl
   where
-    go : (t : Bool) → touches p q ≡ t → Touching p q qs ⊎ Apart p q qs
+    go : (t : Bool) → touches p q ≡ t → Touching p q qs ⊎ NotTouching p q qs
     go true e = inl (record { touching = e; ends = eqb-true _ _ e; is = rw e })
     go false e = inr (record { not-touching = e; is = rw e })
 
@@ -214,7 +218,6 @@ module _ (i : ℕ) (ps : List Segment) (p : Segment) where
 
 -- ---- alignment
 
--- two aligned lists are aligned when glued: joining makes none unaligned
 module _ (address m l : ℕ) where
   seam-aligned : (p : Segment) (qs : List Segment) → allAligned address m l (p ∷ qs) ≡ true → allAligned address m l (seam p qs) ≡ true
   unfolding allAligned allSegments seam isMultiple
@@ -234,7 +237,7 @@ module _ (address m l : ℕ) where
           rw (t .is) (both _ _ (both _ _ (and-left (isMultiple (address + p .start) m) (isMultiple (p .length) l) a) (eq-eqb _ _ n))
           (and-right y (allAligned address m l qs) b))
 
-  pub glued-aligned : (ps qs : List Segment) → allAligned address m l ps ≡ true → allAligned address m l qs ≡ true
+  glued-aligned : (ps qs : List Segment) → allAligned address m l ps ≡ true → allAligned address m l qs ≡ true
       → allAligned address m l (glued ps qs) ≡ true
   unfolding allAligned allSegments glued
   glued-aligned [] qs e f = f
@@ -244,3 +247,45 @@ module _ (address m l : ℕ) where
       let x = isMultiple (address + p .start) m && isMultiple (p .length) l in
       both _ _ (and-left x (allAligned address m l (r ∷ ps)) e)
       (glued-aligned (r ∷ ps) qs (and-right x (allAligned address m l (r ∷ ps)) e) f)
+
+  -- the parts of an aligned list
+  aligned-parts : (ps qs : List Segment) → allAligned address m l (ps ++ qs) ≡ true
+      → (allAligned address m l ps ≡ true) × (allAligned address m l qs ≡ true)
+  unfolding allAligned
+  aligned-parts ps qs e =
+      let f : (allAligned address m l ps && allAligned address m l qs) ≡ true =
+      sym (all-append (λ (p : Segment). isMultiple (address + p .start) m && isMultiple (p .length) l) ps qs) ∙ e in
+      let x = allAligned address m l ps in
+      let y = allAligned address m l qs in
+      (and-left x y f, and-right x y f)
+
+  two-aligned : (ps qs : List Segment) → allAligned address m l (ps ++ qs) ≡ true → allAligned address m l (glued ps qs) ≡ true
+  two-aligned ps qs e = let b = aligned-parts ps qs e in glued-aligned ps qs (b .0) (b .1)
+
+  three-aligned : (i : ℕ) (ps : List Segment) (p : Segment) → allAligned address m l (take i ps ++ (p ∷ drop i ps)) ≡ true
+      → allAligned address m l (insertedAt i ps p) ≡ true
+  unfolding insertedAt
+  three-aligned i ps p e =
+      let b = aligned-parts (take i ps) (p ∷ drop i ps) e in
+      let c = aligned-parts (p ∷ []) (drop i ps) (b .1) in
+      glued-aligned (glued (take i ps) (p ∷ [])) (drop i ps) (glued-aligned (take i ps) (p ∷ []) (b .0) (c .0)) (c .1)
+
+-- segments that are aligned in order are aligned when joined: joining makes no vector unaligned
+module _ (a : Alignments) (address : ℕ) where
+  still-aligned : (ps qs : List Segment)
+      → (allAligned address (a .mem) (lengthAlign a) ps ≡ true → allAligned address (a .mem) (lengthAlign a) qs ≡ true)
+      → isAlignedOf a address ps ≡ true → isAlignedOf a address qs ≡ true
+  unfolding isAlignedOf
+  still-aligned ps qs f e = go (eqb (a .mem) 1 && eqb (a .req) 1) refl
+    where
+      go : (t : Bool) → (eqb (a .mem) 1 && eqb (a .req) 1) ≡ t → isAlignedOf a address qs ≡ true
+      go true g = rw g
+      go false g = rw g (f (rw g at e))
+
+  pub glued-stays-aligned : (ps qs : List Segment) → isAlignedOf a address (ps ++ qs) ≡ true → isAlignedOf a address (glued ps qs) ≡ true
+  glued-stays-aligned ps qs = still-aligned (ps ++ qs) (glued ps qs) (two-aligned address (a .mem) (lengthAlign a) ps qs)
+
+  pub inserted-stays-aligned : (i : ℕ) (ps : List Segment) (p : Segment) → isAlignedOf a address (take i ps ++ (p ∷ drop i ps)) ≡ true
+      → isAlignedOf a address (insertedAt i ps p) ≡ true
+  inserted-stays-aligned i ps p =
+      still-aligned (take i ps ++ (p ∷ drop i ps)) (insertedAt i ps p) (three-aligned address (a .mem) (lengthAlign a) i ps p)

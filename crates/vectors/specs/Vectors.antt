@@ -60,7 +60,7 @@ vectorOf ps = record { segments = ps ++ replicate (16 - length ps) none; count =
 unfoldable pub isValid : ℕ → IoVector → Bool
 isValid n v = leb (v .count) 16 && (segmentsFit n (segmentsOf v) && eqb (v .total) (sizeOf (segmentsOf v)))
 
--- ---- push, insert, append: pieces that touch become one (document 02, N1)
+-- ---- push, insert, append: segments that touch become one (document 02, N1)
 
 -- q "starts where" p "ends"
 unfoldable pub touches : Segment → Segment → Bool
@@ -80,11 +80,13 @@ glued (p ∷ (r ∷ ps)) qs = p ∷ glued (r ∷ ps) qs
 abbrev pub refusedVector : IoVector → Changed
 refusedVector v = record { vector = v; outcome = Refused BadSegment }
 
--- v with the segments ps in the place of its own, where both fit
+-- v with the segments ps in the place of its own, where both fit: "The 17th-piece refusal counts pieces after joining", as ps is the
+-- joined list
 unfoldable pub changedTo : ℕ → IoVector → List Segment → Changed
 changedTo n v ps = pick (isValid n v && segmentsFit n ps) (record { vector = vectorOf ps; outcome = Done }) (refusedVector v)
 
--- "A push .. whose first new piece starts where the last one ends shall lengthen that last piece"; an empty piece is 202 wherever it starts
+-- "A push or append whose first new piece starts where the last one ends shall lengthen that last piece." An empty segment is 202
+-- wherever it starts.
 unfoldable pub pushOf : ℕ → IoVector → Segment → Changed
 pushOf n v p = pick (liesIn n p) (changedTo n v (glued (segmentsOf v) (p ∷ []))) (refusedVector v)
 
@@ -96,6 +98,7 @@ insertedAt i ps p = glued (glued (take i ps) (p ∷ [])) (drop i ps)
 unfoldable pub insertOf : ℕ → IoVector → ℕ → Segment → Changed
 insertOf n v i p = pick (leb i (v .count) && liesIn n p) (changedTo n v (insertedAt i (segmentsOf v) p)) (refusedVector v)
 
+-- as push does, the first of w's segments; the others stay behind it
 unfoldable pub appendOf : ℕ → IoVector → IoVector → Changed
 appendOf n v w = pick (isValid n w) (changedTo n v (glued (segmentsOf v) (segmentsOf w))) (refusedVector v)
 
