@@ -101,15 +101,19 @@ module _ (v₀ w : IoVector) (s n : ℕ) (v : IoVector) (i : ℕ) (g : Joining v
 
 -- ---- what a caller of `join` and `add` shows, over the vector of a list
 
+-- the segments of a vector that is that of a list
+pub its : {u : IoVector} {xs : List Segment} → u ≡ vectorOf xs → segmentsOf u ≡ xs
+its {u} {xs} e = rw e (segments-of xs)
+
 pub grown : {u r : IoVector} (xs ys : List Segment) → u ≡ vectorOf xs → r ≡ vectorOf (segmentsOf u ++ ys) → r ≡ vectorOf (xs ++ ys)
-grown {u} {r} xs ys e f = let s : segmentsOf u ≡ xs = rw e (segments-of xs) in rw s at f
+grown xs ys e f = rw (its e) at f
 
 module _ (u : IoVector) (ps : List Segment) (e : u ≡ vectorOf ps) where
   pub count-of : u .count ≡ length ps
   unfolding vectorOf
   count-of = rw e
 
-  total-of : u .total ≡ sizeOf ps
+  pub total-of : u .total ≡ sizeOf ps
   unfolding vectorOf
   total-of = rw e
 

@@ -16,31 +16,27 @@ use Rattle.vectors.specs.declared.vector.Glued.{Glued}
 use Rattle.vectors.specs.Vectors.{segmentsOf, sizeOf, liesIn, allSegments, segmentsFit, vectorOf, isValid, glued, refusedVector}
 use Rattle.vectors.specs.Vectors.{changedTo, pushOf, insertedAt, insertOf, appendOf}
 use Rattle.vectors.specs.Joining.{Joins, Gluing, GluesAll, gluedOf}
-use Rattle.vectors.specs.SegmentLaws.{size-cut, all-cut, segments-of, Valid, valid, valid-true}
+use Rattle.vectors.specs.SegmentLaws.{size-cut, all-cut, Valid, valid, valid-true}
 use Rattle.vectors.specs.SeamLaws.{glued-size, glued-lies, glued-longer, glued-nothing}
 use Rattle.vectors.proofs.Pass.{in-use}
-use Rattle.vectors.proofs.Building.{joins-of, gluing-of}
+use Rattle.vectors.proofs.Building.{its, joins-of, gluing-of}
 use Rattle.vectors.proofs.Gluing.{glued-is, glued-not}
 
 -- ---- what a call returns whose segments would be js, of a valid vector
 
 module _ (n : ℕ) (v : IoVector) (js : List Segment) where
-  pub too-many : 16 < length js → refusedVector v ≡ changedTo n v js
+  too-many : 16 < length js → refusedVector v ≡ changedTo n v js
   unfolding changedTo segmentsFit
   too-many h = rw (lt-leb (length js) 16 h, and-false)
 
-  pub too-long : 1048576 < sizeOf js → refusedVector v ≡ changedTo n v js
+  too-long : 1048576 < sizeOf js → refusedVector v ≡ changedTo n v js
   unfolding changedTo segmentsFit
   too-long h = rw (lt-leb (sizeOf js) 1048576 h, and-false (allSegments (liesIn n) js), and-false, and-false)
 
-  pub changed : (u : IoVector) → isValid n v ≡ true → allSegments (liesIn n) js ≡ true → length js ≤ 16 → sizeOf js ≤ 1048576 → u ≡ vectorOf js
+  changed : (u : IoVector) → isValid n v ≡ true → allSegments (liesIn n) js ≡ true → length js ≤ 16 → sizeOf js ≤ 1048576 → u ≡ vectorOf js
       → record { vector = u; outcome = Done } ≡ changedTo n v js
   unfolding changedTo segmentsFit
   changed u e a h k f = rw (e, a, le-leb (length js) 16 h, le-leb (sizeOf js) 1048576 k, f)
-
--- the segments of a vector that is that of a list
-its : {u : IoVector} {xs : List Segment} → u ≡ vectorOf xs → segmentsOf u ≡ xs
-its {u} {xs} e = rw e (segments-of xs)
 
 -- what was glued behind the vector of xs
 module _ (u : IoVector) (xs qs : List Segment) (e : u ≡ vectorOf xs) (r : Glued) (g : r ≡ gluedOf u qs) where

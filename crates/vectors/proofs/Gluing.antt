@@ -17,7 +17,7 @@ use Rattle.vectors.specs.Joining.{Room, Joins, lastTouches, Gluing, Leng
 use Rattle.vectors.specs.SegmentLaws.{size-cut, size-at}
 use Rattle.vectors.specs.SeamLaws.{joint, glued-size, last-is, glued-last, glued-length, glued-apart, glued-nothing, glued-more}
 use Rattle.vectors.proofs.Pass.{nth, in-use, same, first}
-use Rattle.vectors.proofs.Building.{count-of, joins-of, grown}
+use Rattle.vectors.proofs.Building.{count-of, total-of, joins-of, grown}
 
 -- ---- whether a segment touches the next, by the difference of their starts
 
@@ -36,12 +36,10 @@ touches-is p q h = elim (ℕ-discrete (p .start + p .length) (q .start)) [
 
 -- the two numbers of a vector that is that of its segments
 pub plain-count : {v : IoVector} {n : ℕ} → Gluing v n → length (segmentsOf v) ≡ v .count
-unfolding vectorOf
-plain-count g = sym (ap (λ (w : IoVector). w .count) (g .plain))
+plain-count {v} g = sym (count-of v (segmentsOf v) (g .plain))
 
-pub plain-total : {v : IoVector} {n : ℕ} → Gluing v n → sizeOf (segmentsOf v) ≡ v .total
-unfolding vectorOf
-plain-total g = sym (ap (λ (w : IoVector). w .total) (g .plain))
+plain-total : {v : IoVector} {n : ℕ} → Gluing v n → sizeOf (segmentsOf v) ≡ v .total
+plain-total {v} g = sym (total-of v (segmentsOf v) (g .plain))
 
 -- a vector of no segments touches nothing
 pub none-last : (v : IoVector) (q : Segment) → v .count ≡ 0 → false ≡ lastTouches (segmentsOf v) q
@@ -54,8 +52,8 @@ last-of v q w h k =
     let l = in-use v w h in
     ap (λ (p : Segment). touches p q) (sym (same v w (v .count - 1) (omega arith))) ∙ sym (last-is q (segmentsOf v) (v .count - 1) (omega arith))
 
--- an unused vector has no last segment
-pub touching-some : (v : IoVector) (q : Segment) → lastTouches (segmentsOf v) q ≡ true → 0 < v .count
+-- a vector of no segments has no last one
+touching-some : (v : IoVector) (q : Segment) → lastTouches (segmentsOf v) q ≡ true → 0 < v .count
 unfolding lastTouches
 touching-some v q e = elim (decLt 0 (v .count)) [
   | yes h ↦ h
@@ -126,7 +124,7 @@ module _ (v : IoVector) (qs : List Segment) where
     | no h ↦ absurd (false≢true (ap (λ (g : Glued). g .fits) (glue-over (omega arith) ∙ sym e) ∙ f))
   ]
 
-  pub glued-same : (r : Glued) → r ≡ gluedOf v qs → r .fits ≡ false → r .vector ≡ v
+  glued-same : (r : Glued) → r ≡ gluedOf v qs → r .fits ≡ false → r .vector ≡ v
   glued-same r e f = elim (decLe (length (glued (segmentsOf v) qs)) 16) [
     | yes h ↦ absurd (false≢true (sym f ∙ ap (λ (g : Glued). g .fits) (e ∙ sym (glue-fits (vectorOf (glued (segmentsOf v) qs)) h refl))))
     | no h ↦ ap (λ (g : Glued). g .vector) (e ∙ sym (glue-over (omega arith)))

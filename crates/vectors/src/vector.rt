@@ -158,7 +158,7 @@ impl IoVector {
         self
     }
 
-    // With n segments of `other`, from `start` on, at the end.
+    // With n segments of `other`, from `start` on, at the end, as they are: nothing is looked at where the two meet.
     pub(crate) fn join(self, other: IoVector, start: usize, n: usize) -> IoVector
         requires { ⌜ Joins self other start n ⌝ }
         ensures { λ r. ⌜ r ≡ vectorOf (segmentsOf self ++ take n (drop start (segmentsOf other))) ⌝ }
