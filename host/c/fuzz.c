@@ -6,7 +6,7 @@
  * depends on seed and number alone: a failure names both.
  */
 #define _DEFAULT_SOURCE
-#include "../dock.h"
+#include "draw.h"
 
 #include <signal.h>
 #include <stdio.h>
@@ -20,20 +20,6 @@
 
 static uint64_t seed = 1;
 static uint64_t episode;
-static uint64_t random_state;
-
-static uint64_t rnd(void)
-{
-    uint64_t x = random_state += UINT64_C(0x9e3779b97f4a7c15);
-    x = (x ^ (x >> 30)) * UINT64_C(0xbf58476d1ce4e5b9);
-    x = (x ^ (x >> 27)) * UINT64_C(0x94d049bb133111eb);
-    return x ^ (x >> 31);
-}
-
-static uint64_t below(uint64_t n)
-{
-    return rnd() % n;
-}
 
 static int one_in(uint64_t n)
 {
@@ -246,17 +232,6 @@ static void put_bytes(uint8_t *bytes, size_t length)
     size_t i;
     for (i = 0; i < length; i++)
         bytes[i] = (uint8_t)rnd();
-}
-
-/* A segment as words of no push's making; a 17th has no room there. */
-static void put_segment(struct dock_vector *vector, uint64_t start, uint64_t length)
-{
-    uint64_t count = vector->words[0]++;
-    if (count >= DOCK_SEGMENTS)
-        return;
-    vector->words[1] += length;
-    vector->words[2 + 2 * count] = start;
-    vector->words[3 + 2 * count] = length;
 }
 
 /* A vector of some segments of the data, some of which touch, right or nearly so, or any words. */

@@ -5,7 +5,7 @@
 #ifndef RULES_H
 #define RULES_H
 
-#include "../dock.h"
+#include "draw.h"
 
 #include <stdio.h>
 #include <stdlib.h>
@@ -16,20 +16,6 @@ enum size { STORE = 262144, DATA = 16384, PAGE = 4096, LONGEST = 24576, MOST_BOU
 /* A list depends on seed and number alone. */
 static uint64_t seed = 1;
 static uint64_t list;
-static uint64_t random_state;
-
-static inline uint64_t rnd(void)
-{
-    uint64_t x = random_state += UINT64_C(0x9e3779b97f4a7c15);
-    x = (x ^ (x >> 30)) * UINT64_C(0xbf58476d1ce4e5b9);
-    x = (x ^ (x >> 27)) * UINT64_C(0x94d049bb133111eb);
-    return x ^ (x >> 31);
-}
-
-static inline uint64_t below(uint64_t n)
-{
-    return rnd() % n;
-}
 
 static inline void check(int holds, const char *what)
 {
@@ -324,17 +310,6 @@ static inline int is_aligned(const struct dock_vector *vector)
 
 static uint64_t joined;
 static uint64_t left_apart;
-
-/* A segment as words of the host's own: one that touches the last stays apart. */
-static inline void put_segment(struct dock_vector *vector, uint64_t start, uint64_t length)
-{
-    uint64_t count = vector->words[0]++;
-    if (count >= DOCK_SEGMENTS)
-        return;
-    vector->words[1] += length;
-    vector->words[2 + 2 * count] = start;
-    vector->words[3 + 2 * count] = length;
-}
 
 /* Up to three segments, often aligned, of which some start where the last one ends. Half of the vectors are pushed, and
  * these then join; begin takes the others as they are. */

@@ -5,7 +5,7 @@
  * begin takes them. From the first that it refuses on, begin refuses the header's vector with 202, whatever is pushed
  * later. Some vectors start as words that no push made, right or not.
  */
-#include "../dock.h"
+#include "draw.h"
 
 #include <stdio.h>
 #include <stdlib.h>
@@ -26,24 +26,10 @@ static uint8_t scratch[32];
 static struct dock_lent lent = { data, sizeof data, scratch, sizeof scratch };
 static struct dock opened;
 
-/* ---- Random numbers; a sequence depends on seed and number alone ---- */
+/* ---- A sequence depends on seed and number alone ---- */
 
 static uint64_t seed = 1;
 static uint64_t sequence;
-static uint64_t random_state;
-
-static uint64_t rnd(void)
-{
-    uint64_t x = random_state += UINT64_C(0x9e3779b97f4a7c15);
-    x = (x ^ (x >> 30)) * UINT64_C(0xbf58476d1ce4e5b9);
-    x = (x ^ (x >> 27)) * UINT64_C(0x94d049bb133111eb);
-    return x ^ (x >> 31);
-}
-
-static uint64_t below(uint64_t n)
-{
-    return rnd() % n;
-}
 
 static void check(int holds, const char *what)
 {
