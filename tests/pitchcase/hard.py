@@ -16,6 +16,8 @@ import sys
 import time
 
 PROGRAM, FOLDER, FAULTS = sys.argv[1], sys.argv[2], sys.argv[3]
+# The signals that pitchcase notes.
+SIGNALS = (signal.SIGINT, signal.SIGTERM, signal.SIGHUP)
 os.chdir(FOLDER)
 count = 0
 
@@ -340,7 +342,7 @@ def interrupted():
     """On SIGINT, SIGTERM and SIGHUP nothing new is begun, what is out is finished, and the lines done and not done are listed."""
     rng = random.Random(3)
     jobs = 1500
-    for sign, out in itertools.product((signal.SIGINT, signal.SIGTERM, signal.SIGHUP), (1, 8)):
+    for sign, out in itertools.product(SIGNALS, (1, 8)):
         before = random_bytes(rng, 65536)
         edits = scattered_edits(rng, 65536, jobs)
         write("image", before)
@@ -376,6 +378,21 @@ def interrupted_twice():
     process.send_signal(signal.SIGINT)
     said = process.stderr.read()
     check(process.wait() == 130 and b"nothing was begun" in said and read("image") == IMAGE, "SIGINT while a script is typed:", said)
+
+
+def ignored():
+    """What was ignored when it was started, as SIGHUP is under nohup and SIGINT in the background of a script, stays ignored."""
+    for sign in SIGNALS:
+        write("image", IMAGE)
+        heeded = signal.signal(sign, signal.SIG_IGN)
+        process = subprocess.Popen([PROGRAM, "edit", "image", "0", "--hex", "ff"], stdout=subprocess.DEVNULL, stderr=subprocess.PIPE,
+                                   env=dict(os.environ, LD_PRELOAD=FAULTS, FAULT_DELAY_US="100000"))
+        signal.signal(sign, heeded)
+        wait_until(lambda: process.poll() is not None or lock_of("image") == "held to change", "no lock to change")
+        check(process.poll() is None, "it ended before", sign)
+        process.send_signal(sign)
+        said = process.communicate(timeout=30)[1]
+        check(process.returncode == 0 and read("image") == b"\xff" + IMAGE[1:], sign, "was ignored:", process.returncode, said)
 
 
 def long_zeroing():
@@ -747,6 +764,7 @@ TESTS = (
     ("kill -9 in the middle of a fleet", killed, False),
     ("interrupted fleets", interrupted, True),
     ("interrupted twice", interrupted_twice, True),
+    ("signals that are ignored", ignored, True),
     ("an interrupted zeroing", long_zeroing, True),
     ("short and interrupted transfers", short_and_interrupted, True),
     ("failing requests", failures, True),
@@ -763,7 +781,15 @@ TESTS = (
 )
 
 
+def heed_signals():
+    """Programs started from here ignore none of them, however the tests were started themselves."""
+    for sign in SIGNALS:
+        if signal.getsignal(sign) == signal.SIG_IGN:
+            signal.signal(sign, signal.SIG_DFL)
+
+
 def main():
+    heed_signals()
     for name, test, needs_faults in TESTS:
         if needs_faults and not FAULTS:
             continue
