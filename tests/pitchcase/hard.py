@@ -382,17 +382,18 @@ def interrupted_twice():
 
 def ignored():
     """What was ignored when it was started, as SIGHUP is under nohup and SIGINT in the background of a script, stays ignored."""
+    write("image", IMAGE)
+    heeded = [signal.signal(sign, signal.SIG_IGN) for sign in SIGNALS]
+    process = subprocess.Popen([PROGRAM, "edit", "image", "0", "--hex", "ff"], stdout=subprocess.DEVNULL, stderr=subprocess.PIPE,
+                               env=dict(os.environ, LD_PRELOAD=FAULTS, FAULT_DELAY_US="1000000"))
+    for sign, handler in zip(SIGNALS, heeded):
+        signal.signal(sign, handler)
+    wait_until(lambda: process.poll() is not None or lock_of("image") == "held to change", "no lock to change")
+    check(process.poll() is None, "it ended before a signal was sent")
     for sign in SIGNALS:
-        write("image", IMAGE)
-        heeded = signal.signal(sign, signal.SIG_IGN)
-        process = subprocess.Popen([PROGRAM, "edit", "image", "0", "--hex", "ff"], stdout=subprocess.DEVNULL, stderr=subprocess.PIPE,
-                                   env=dict(os.environ, LD_PRELOAD=FAULTS, FAULT_DELAY_US="100000"))
-        signal.signal(sign, heeded)
-        wait_until(lambda: process.poll() is not None or lock_of("image") == "held to change", "no lock to change")
-        check(process.poll() is None, "it ended before", sign)
         process.send_signal(sign)
-        said = process.communicate(timeout=30)[1]
-        check(process.returncode == 0 and read("image") == b"\xff" + IMAGE[1:], sign, "was ignored:", process.returncode, said)
+    said = process.communicate(timeout=30)[1]
+    check(process.returncode == 0 and read("image") == b"\xff" + IMAGE[1:], "signals that were ignored ended it:", process.returncode, said)
 
 
 def long_zeroing():
