@@ -158,7 +158,8 @@ impl IoVector {
         self
     }
 
-    // With n segments of `other`, from `start` on, at the end, as they are: nothing is looked at where the two meet.
+    // With n segments of `other`, from `start` on, at the end, as they are: nothing is looked at where the two meet. Each is
+    // put in place, as `add` does it: by `add` the whole vector would be copied for each.
     pub(crate) fn join(self, other: IoVector, start: usize, n: usize) -> IoVector
         requires { ⌜ Joins self other start n ⌝ }
         ensures { λ r. ⌜ r ≡ vectorOf (segmentsOf self ++ take n (drop start (segmentsOf other))) ⌝ }
@@ -167,7 +168,10 @@ impl IoVector {
         let mut i = 0usize;
         while i < n {
             let p = other.segments[start + i];
-            v = v.add(p);
+            let end = v.count;
+            v.segments[end] = p;
+            v.count = end + 1;
+            v.total += p.length as u64;
             i += 1;
         }
         v

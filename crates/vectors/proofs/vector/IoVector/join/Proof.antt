@@ -5,7 +5,7 @@ use mathlib.Core.Path.{_≡_}
 use Prim.Native.Nat.{_-_}
 use lib.ListN.{length}
 use Rattle.arithmetic.specs.Loops.{array-long}
-use Rattle.vectors.proofs.Building.{Joining, join-start, join-end, join-room, join-next, reads}
+use Rattle.vectors.proofs.Building.{with-room, Joining, join-start, join-end, join-room, join-next, reads}
 use Rattle.vectors.proofs.vector.IoVector.join.Statement.{statement}
 use Rattle.vectors.proofs.vector.IoVector.join.Tie as tie
 
@@ -27,17 +27,26 @@ mul-p c = omega (arith, reads _ _ _ _ _ _ (c .before .loop .inv) (c .loop-test .
 element-copy-out-p : tie.Need-element-copy-out-p Inv-loop μ-loop
 element-copy-out-p c = reads _ _ _ _ _ _ (c .before .loop .inv) (c .loop-test .taken)
 
-add-requires : tie.Need-add-requires Inv-loop μ-loop
-add-requires c κs = join-room _ _ _ _ _ _ (c .before .before .loop .inv) (c .before .loop-test .taken)
+mul-p-2 : tie.Need-mul-p-2 Inv-loop μ-loop
+mul-p-2 c = omega (arith, join-room _ _ _ _ _ _ (c .before .before .loop .inv) (c .before .loop-test .taken) .few)
+
+element-set-from-p : tie.Need-element-set-from-p Inv-loop μ-loop
+element-set-from-p c = join-room _ _ _ _ _ _ (c .before .before .loop .inv) (c .before .loop-test .taken) .few
+
+add-v : tie.Need-add-v Inv-loop μ-loop
+add-v c = omega (arith, join-room _ _ _ _ _ _ (c .before .before .loop .inv) (c .before .loop-test .taken) .few)
+
+add-v-2 : tie.Need-add-v-2 Inv-loop μ-loop
+add-v-2 c = omega (arith, join-room _ _ _ _ _ _ (c .before .before .loop .inv) (c .before .loop-test .taken) .small)
 
 add-i : tie.Need-add-i Inv-loop μ-loop
-add-i c = omega (arith, c .before .before .before .loop .inv .asked .few, c .before .before .loop-test .taken)
+add-i c = omega (arith, c .before .before .loop .inv .asked .few, c .before .loop-test .taken)
 
 loop-less : tie.Need-loop-less Inv-loop μ-loop
-loop-less c = omega arith
+loop-less c = omega (arith, c .before .loop-test .taken)
 
 loop-again : tie.Need-loop-again Inv-loop μ-loop
-loop-again c = join-next _ _ _ _ _ _ (c .before .before .before .loop .inv) (c .before .before .loop-test .taken) (c .add .result) (c .add .ensures)
+loop-again c = let g = c .before .before .loop .inv in let h = c .before .loop-test .taken in join-next _ _ _ _ _ _ g h _ (with-room _ _ (join-room _ _ _ _ _ _ g h))
 
 returns : tie.Need-returns Inv-loop μ-loop
 returns c = join-end _ _ _ _ _ _ (c .before .loop .inv) (c .loop-test .left)
@@ -52,7 +61,10 @@ join-spec =
     add-p
     mul-p
     element-copy-out-p
-    add-requires
+    mul-p-2
+    element-set-from-p
+    add-v
+    add-v-2
     add-i
     loop-less
     loop-again
