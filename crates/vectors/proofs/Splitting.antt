@@ -4,7 +4,7 @@ use mathlib.Core.Bool.{true, false}
 use mathlib.Core.List.{List, [], _∷_, _++_}
 use Prim.Native.Nat.{ℕ, _+_, _-_, _≤_, _<_}
 use native.Mathlib.Omega.{arith}
-use lib.ListN.{length, take, drop, getD, length-drop}
+use lib.ListN.{length, take, drop, getD, set, length-drop}
 use lib.Seq.{take-all, length-take-le}
 use borrow.Author.Tests.{lt-ltb, le-ltb, eq-eqb, ne-eqb}
 use Rattle.arithmetic.specs.declared.refusals.Refusal.the-variants.{Segment as BadSegment}
@@ -142,26 +142,30 @@ module _ (v : IoVector) (c : SplitPosition) (wide : length (v .segments) ≡ 16)
     unfolding headAt
     head-inner u e = rw (ne-eqb (c .inside) 0 z, read) e
 
-    pub tail-ends : (p .start + c .inside < 18446744073709551616) × (c .inside ≤ p .length) × (c .index + 1 ≤ v .count)
-    tail-ends = omega (arith, g .ends z, g .part z)
+    -- the segments from the position on, before the first is cut
+    from : take (v .count - c .index) (drop (c .index) ps) ≡ p ∷ drop (c .index + 1) ps
+    from = all-of ∙ first v wide (c .index) used
 
-    abbrev q : Segment
-    q = segment (p .start + c .inside) (p .length - c .inside)
+    module _ (u : IoVector) (e : u ≡ vectorOf (take (v .count - c .index) (drop (c .index) ps))) where
+      whole : u ≡ vectorOf (p ∷ drop (c .index + 1) ps)
+      whole = e ∙ ap vectorOf from
 
-    pub tail-room : (u : IoVector) → u ≡ vectorOf [] → Room u q
-    unfolding sizeOf
-    tail-room u e = room-of u [] e q (omega arith) (omega (arith, size, g .small))
+      abbrev f : Segment
+      f = getD (u .segments) 0 none
 
-    rest-of : take (v .count - (c .index + 1)) (drop (c .index + 1) ps) ≡ drop (c .index + 1) ps
-    rest-of = take-all (v .count - (c .index + 1)) (drop (c .index + 1) ps) (simp length-drop (omega (arith, long)))
+      pub tail-ends : (f .start + c .inside < 18446744073709551616) × (c .inside ≤ f .length) × (c .inside ≤ u .total)
+      unfolding vectorOf sizeOf
+      tail-ends = rw whole (omega (arith, g .ends z, g .part z))
 
-    pub tail-rest : (u : IoVector) → u ≡ vectorOf (q ∷ []) → Joins u v (c .index + 1) (v .count - (c .index + 1))
-    unfolding sizeOf
-    tail-rest u e = joins-of u (q ∷ []) e v (c .index + 1) (v .count - (c .index + 1)) (omega (arith, g .few, tail-ends)) (omega (arith, tail-ends)) (g .few) (rw rest-of (omega (arith, size, g .small)))
-
-    pub tail-inner : (u : IoVector) → u ≡ vectorOf (q ∷ take (v .count - (c .index + 1)) (drop (c .index + 1) ps)) → u ≡ vectorOf (tailAt ps c)
-    unfolding tailAt
-    tail-inner u e = rw (ne-eqb (c .inside) 0 z, read) (rw rest-of at e)
+      pub tail-inner : record {
+        segments = set (u .segments) 0 (segment (f .start + c .inside) (f .length - c .inside));
+        count = u .count;
+        total = u .total - c .inside;
+      } ≡ vectorOf (tailAt ps c)
+      unfolding tailAt vectorOf sizeOf
+      tail-inner =
+          let n : p .length + sizeOf (drop (c .index + 1) ps) - c .inside ≡ p .length - c .inside + sizeOf (drop (c .index + 1) ps) = omega (arith, g .part z) in
+          rw (ne-eqb (c .inside) 0 z, read, whole, n)
 
 -- ---- what the splits return
 

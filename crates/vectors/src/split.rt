@@ -109,17 +109,17 @@ impl IoVector {
         requires { ⌜ Cut self position ⌝ }
         ensures { λ r. ⌜ r ≡ vectorOf (tailAt (segmentsOf self) position) ⌝ }
     {
-        let n = self.count;
         let index = position.index;
         let inside = position.inside;
+        let mut tail = IoVector::new().join(self, index, self.count - index);
         if inside == 0 {
-            return IoVector::new().join(self, index, n - index);
+            return tail;
         }
-        let p = self.segments[index];
-        let first = IoVector::new().add(Segment {
-            start: p.start + inside,
-            length: p.length - inside,
-        });
-        first.join(self, index + 1, n - (index + 1))
+        let first = tail.segments[0];
+        let start = first.start + inside;
+        let length = first.length - inside;
+        tail.segments[0] = Segment { start, length };
+        tail.total -= inside as u64;
+        tail
     }
 }
