@@ -6,6 +6,8 @@ use Prim.Native.Nat.{ℕ}
 use lib.ListN.{length, getD}
 use Rattle.arithmetic.specs.Rounding.{pick}
 use Rattle.arithmetic.specs.Refusals.{numberOf, outcomeNumber, whenDone, isDone}
+use Rattle.arithmetic.specs.declared.refusals.Outcome.{Outcome}
+use Rattle.arithmetic.specs.declared.refusals.Outcome.the-variants.{Done, Refused}
 use Rattle.arithmetic.specs.declared.settings.Settings.{Settings}
 use Rattle.arithmetic.specs.declared.settings.Buffers.{Buffers}
 use Rattle.arithmetic.specs.declared.planner.Count.{Count}
@@ -15,6 +17,7 @@ use Rattle.arithmetic.specs.declared.planner.Planned.the-variants.{Chunk, Refus
 use Rattle.vectors.specs.Vectors.{outcomeOf}
 use Rattle.vectors.specs.declared.vector.Changed.{Changed as Edited}
 use Rattle.vectors.specs.declared.vector.Halves.{Halves}
+use Rattle.vectors.specs.declared.vector.Tail.{Tail}
 use Rattle.vectors.specs.declared.vector.Alignment.{Alignment}
 use Rattle.vectors.specs.declared.vector.Alignment.the-variants.{Aligned, Unaligned, Refused as NotAsked}
 use Rattle.blockers.specs.declared.Changed.{Changed}
@@ -74,6 +77,11 @@ alignmentPaper Aligned = valued (1 ∷ [])
 alignmentPaper Unaligned = valued (0 ∷ [])
 alignmentPaper (NotAsked r) = numbered (numberOf r)
 
+-- the splits (document 02, N2): 0, and "the number of pieces looked at" beside it
+abbrev pub splitPaper : Outcome → ℕ → Paper
+splitPaper Done n = record { number = Of 0; values = n ∷ [] }
+splitPaper (Refused r) n = numbered (numberOf r)
+
 -- collect: the number that `collectedPaper` gives
 abbrev pub collectedNumber : Collected → ℕ
 collectedNumber c = numberWord (collectedPaper c .number)
@@ -90,13 +98,17 @@ abbrev pub CollectsAs : Collects → ℕ → Dock → Type 0
 CollectsAs c r d = (r ≡ collectedNumber (c .answer)) × (d ≡ c .dock)
 
 -- the same of a call on a vector, in every word: an edit, of which a refusal leaves the vector, and so the words (law vector-same of
--- dock_words); a split, whose tail a refusal leaves; bytes that are moved where a test holds
+-- dock_words); a split, whose tail a refusal leaves, and one for the tail alone; bytes that are moved where a test holds
 abbrev pub EditsAs : Edited → ℕ → List ℕ → Type 0
 EditsAs c r words = (r ≡ outcomeNumber (c .outcome)) × (words ≡ vectorWords (c .vector))
 
-abbrev pub SplitsAs : Halves → List ℕ → ℕ → List ℕ → List ℕ → Type 0
+abbrev pub SplitsAs : Halves → List ℕ → Reply → List ℕ → List ℕ → Type 0
 SplitsAs h old r head tail =
-    (r ≡ outcomeNumber (h .outcome)) × (head ≡ vectorWords (h .head)) × (tail ≡ whenDone (h .outcome) (vectorWords (h .tail)) (λ z. old))
+    (r ≡ replyOf (splitPaper (h .outcome) (h .looked))) × (head ≡ vectorWords (h .head))
+    × (tail ≡ whenDone (h .outcome) (vectorWords (h .tail)) (λ z. old))
+
+abbrev pub SplitsTailAs : Tail → Reply → List ℕ → Type 0
+SplitsTailAs t r words = (r ≡ replyOf (splitPaper (t .outcome) (t .looked))) × (words ≡ vectorWords (t .vector))
 
 abbrev pub MovesAs : Bool → List ℕ → List ℕ → ℕ → List ℕ → Type 0
 MovesAs t moved old r bytes = (r ≡ outcomeNumber (outcomeOf t)) × (bytes ≡ pick t moved old)

@@ -1,6 +1,7 @@
 // Vectors and blockers alone, for a host that builds its vectors by calls, and for comparing them with imago's.
 use crate::replies::Reply;
 use crate::replies::alignment_reply;
+use crate::replies::split_reply;
 use arithmetic::offsets::Range;
 use arithmetic::offsets::StoreOffset;
 use arithmetic::refusals::Outcome;
@@ -20,7 +21,7 @@ ghost use Rattle.vectors.specs.Vectors.{segment, pushOf, insertOf, appendOf, sp
 ghost use Rattle.vectors.specs.Vectors.{isValid, fillOf, alignmentOf};
 ghost use Rattle.blockers.specs.Blockers.{enteredOf, leftOf, waitsOf, strength};
 ghost use Rattle.dock_words.specs.View.{flagOf, flagWord, vectorFrom, blockersOf};
-ghost use Rattle.dock_c.specs.Replies.{replyOf, alignmentPaper, EditsAs, SplitsAs, MovesAs, BlocksAs};
+ghost use Rattle.dock_c.specs.Replies.{replyOf, alignmentPaper, EditsAs, SplitsAs, SplitsTailAs, MovesAs, BlocksAs};
 
 // The vector with a segment at its end; one that starts where the last ends makes that longer.
 #[no_mangle]
@@ -59,21 +60,21 @@ pub extern "C" fn dock_words_vector_insert(
     outcome.number()
 }
 
-// The bytes of the vector from `mid` on.
+// The bytes of the vector from `mid` on, and how many segments were looked at to find where.
 #[no_mangle]
 pub extern "C" fn dock_words_vector_split_tail_at(
     vector: &mut [u64; 34],
     mid: u64,
     data_len: usize,
-) -> u8
-    ensures { λ r. ⌜ EditsAs (splitTailOf data_len (vectorFrom (now (vector .entry))) mid)
+) -> Reply
+    ensures { λ r. ⌜ SplitsTailAs (splitTailOf data_len (vectorFrom (now (vector .entry))) mid)
         r (now (vector .exit)) ⌝ }
 {
     let v = vector_of(vector);
-    let changed = v.split_tail_at(mid, data_len);
-    let outcome = changed.outcome;
-    put_vector_of(vector, changed.vector);
-    outcome.number()
+    let tail = v.split_tail_at(mid, data_len);
+    let outcome = tail.outcome;
+    put_vector_of(vector, tail.vector);
+    split_reply(outcome, tail.looked)
 }
 
 // The vector with the segments of `other` at its end, the first of them as in a push.
@@ -94,14 +95,14 @@ pub extern "C" fn dock_words_vector_append(
     outcome.number()
 }
 
-// The first `mid` bytes of the vector, and the rest in `tail`, which a refusal leaves.
+// The first `mid` bytes of the vector, and the rest in `tail`, which a refusal leaves; and how many segments were looked at.
 #[no_mangle]
 pub extern "C" fn dock_words_vector_split_at(
     vector: &mut [u64; 34],
     tail: &mut [u64; 34],
     mid: u64,
     data_len: usize,
-) -> u8
+) -> Reply
     ensures { λ r. ⌜ SplitsAs (splitOf data_len (vectorFrom (now (vector .entry))) mid) (now (tail .entry))
         r (now (vector .exit)) (now (tail .exit)) ⌝ }
 {
@@ -110,10 +111,10 @@ pub extern "C" fn dock_words_vector_split_at(
     let outcome = halves.outcome;
     put_vector_of(vector, halves.head);
     let Outcome::Done = outcome else {
-        return outcome.number();
+        return split_reply(outcome, halves.looked);
     };
     put_vector_of(tail, halves.tail);
-    outcome.number()
+    split_reply(outcome, halves.looked)
 }
 
 // `slice` becomes the vector's bytes.

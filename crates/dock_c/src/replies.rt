@@ -1,6 +1,7 @@
 // What crosses the boundary: document 01's number and values of an answer, in one struct of words.
 use arithmetic::planner::Count;
 use arithmetic::planner::Planned;
+use arithmetic::refusals::Outcome;
 use dock::begin::Begun;
 use dock::next::Due;
 use dock::next::Piece;
@@ -11,7 +12,8 @@ use stages::state::size;
 use vectors::vector::Alignment;
 ghost use mathlib.Core.Path.{_≡_};
 ghost use Rattle.dock.specs.Numbers.{kindNumber, begunPaper, duePaper, piecePaper};
-ghost use Rattle.dock_c.specs.Replies.{replyOf, numbers, countPaper, plannedPaper, alignmentPaper, collectedNumber};
+ghost use Rattle.dock_c.specs.Replies.{replyOf, numbers, countPaper, plannedPaper, alignmentPaper, splitPaper};
+ghost use Rattle.dock_c.specs.Replies.{collectedNumber};
 
 // The number that stands for none: an answer that has values alone.
 const NO_NUMBER: u64 = 256;
@@ -139,6 +141,23 @@ pub(crate) fn alignment_reply(a: Alignment) -> Reply
         Alignment::Aligned => reply_values(1, 1, 0, 0, 0),
         Alignment::Unaligned => reply_values(1, 0, 0, 0, 0),
         Alignment::Refused(r) => reply_number(r.number() as u64),
+    }
+}
+
+// A split that was carried out answers 0, and how many segments it looked at.
+pub(crate) fn split_reply(o: Outcome, looked: usize) -> Reply
+    ensures { λ r. ⌜ r ≡ replyOf (splitPaper o looked) ⌝ }
+{
+    match o {
+        Outcome::Done => Reply {
+            number: 0,
+            count: 1,
+            first: looked as u64,
+            second: 0,
+            third: 0,
+            fourth: 0,
+        },
+        Outcome::Refused(r) => reply_number(r.number() as u64),
     }
 }
 

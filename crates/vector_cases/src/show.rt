@@ -6,6 +6,7 @@ use vectors::vector::Changed;
 use vectors::vector::Halves;
 use vectors::vector::IoVector;
 use vectors::vector::Segment;
+use vectors::vector::Tail;
 
 pub fn text(bytes: &[u8]) {
     io::write_all(STDOUT_FILENO, bytes);
@@ -86,7 +87,23 @@ pub fn halves(mid: u64, h: Halves) {
     text(b" | ");
     let tail = h.tail;
     vector(tail);
-    text(b"\n");
+    looked(h.looked);
+}
+
+pub fn tail(t: Tail) {
+    text(b": ");
+    let o = t.outcome;
+    outcome(o);
+    text(b", ");
+    let v = t.vector;
+    vector(v);
+    looked(t.looked);
+}
+
+fn looked(n: usize) {
+    text(b", ");
+    number(n as u64);
+    text(b" looked at\n");
 }
 
 pub fn yes_no(label: &[u8], b: bool) {

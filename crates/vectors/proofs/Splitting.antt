@@ -1,73 +1,25 @@
--- The walk to a split's position, and the two vectors around it. Assumes nothing.
-use mathlib.Core.Path.{_≡_, sym, ap, _∙_, subst}
+-- The two vectors around a split's position. Assumes nothing.
+use mathlib.Core.Path.{_≡_, ap, _∙_, subst}
 use mathlib.Core.Bool.{true, false}
 use mathlib.Core.List.{List, [], _∷_, _++_}
 use Prim.Native.Nat.{ℕ, _+_, _-_, _≤_, _<_}
 use native.Mathlib.Omega.{arith}
 use lib.ListN.{length, take, drop, getD, set, length-drop}
 use lib.Seq.{take-all, length-take-le}
-use borrow.Author.Tests.{lt-ltb, le-ltb, eq-eqb, ne-eqb}
+use borrow.Author.Tests.{eq-eqb, ne-eqb}
 use Rattle.arithmetic.specs.declared.refusals.Refusal.the-variants.{Segment as BadSegment}
 use Rattle.arithmetic.specs.declared.refusals.Outcome.the-variants.{Done, Refused}
 use Rattle.vectors.specs.declared.vector.Segment.{Segment}
 use Rattle.vectors.specs.declared.vector.IoVector.{IoVector}
 use Rattle.vectors.specs.declared.vector.SplitPosition.{SplitPosition}
 use Rattle.vectors.specs.declared.vector.Split.{Split}
-use Rattle.vectors.specs.Vectors.{segment, none, segmentsOf, sizeOf, liesIn, vectorOf, isValid, refusedVector, splitOf, splitTailOf}
+use Rattle.vectors.specs.Vectors.{segment, none, segmentsOf, sizeOf, liesIn, vectorOf, isValid, splitOf, splitTailOf}
 use Rattle.vectors.specs.Joining.{Room, Joins}
-use Rattle.vectors.specs.Positions.{position, behind, positionOf, splitAt, headAt, tailAt, Cut}
+use Rattle.vectors.specs.Positions.{positionOf, splitAt, headAt, tailAt, Cut}
 use Rattle.vectors.specs.SegmentLaws.{size-cut, size-at, all-at, lies, Valid, valid}
 use Rattle.vectors.specs.SplitLaws.{Located, located}
-use Rattle.vectors.proofs.Pass.{nth, in-use, first, same, none-left}
+use Rattle.vectors.proofs.Pass.{nth, in-use, same, first}
 use Rattle.vectors.proofs.Building.{room-of, joins-of}
-
--- ---- the walk: the position sought is the one sought from segment i on, `rest` bytes in
-
-pub record Walk (v : IoVector) (mid i rest : ℕ) : Type 0 where
-  pub wide : length (v .segments) ≡ 16
-  pub few : v .count ≤ 16
-  pub reach : i ≤ v .count
-  pub is : positionOf (segmentsOf v) mid ≡ behind i (positionOf (drop i (segmentsOf v)) rest)
-
--- head and tail meet there
-abbrev both : SplitPosition → Split
-both c = record { head = c; tail = c }
-
-pub walk-start : (v : IoVector) (mid : ℕ) → length (v .segments) ≡ 16 → v .count ≤ 16 → Walk v mid 0 mid
-walk-start v mid w h =
-    let q = positionOf (segmentsOf v) mid in
-    let z : q .index ≡ q .index + 0 = omega arith in
-    record { wide = w; few = h; reach = omega arith; is = ap (λ (j : ℕ). position j (q .inside)) z }
-
-module _ (v : IoVector) (mid i rest : ℕ) (g : Walk v mid i rest) where
-  pub walk-end : v .count ≤ i → both (position (v .count) 0) ≡ splitAt (segmentsOf v) mid
-  unfolding positionOf
-  walk-end h =
-      let e = none-left v (g .wide) i (omega (arith, in-use v (g .wide) (g .few))) in
-      let k : 0 + i ≡ v .count = omega (arith, g .reach) in
-      ap both (sym (g .is ∙ (rw e (ap (λ (j : ℕ). position j 0) k))))
-
-  module _ (h : i < v .count) where
-    within : i < length (segmentsOf v)
-    within = omega (arith, in-use v (g .wide) (g .few))
-
-    pub walk-here : rest < nth v i .length → both (position i rest) ≡ splitAt (segmentsOf v) mid
-    unfolding positionOf
-    walk-here l =
-        let k : 0 + i ≡ i = omega arith in
-        ap both (sym (g .is ∙ (rw (first v (g .wide) i within, lt-ltb rest (nth v i .length) l) (ap (λ (j : ℕ). position j rest) k))))
-
-    pub walk-next : nth v i .length ≤ rest → Walk v mid (i + 1) (rest - nth v i .length)
-    unfolding positionOf
-    walk-next l =
-        let q = positionOf (drop (i + 1) (segmentsOf v)) (rest - nth v i .length) in
-        let k : q .index + 1 + i ≡ q .index + (i + 1) = omega arith in
-        record {
-          wide = g .wide;
-          few = g .few;
-          reach = omega arith;
-          is = g .is ∙ (rw (first v (g .wide) i within, le-ltb rest (nth v i .length) l) (ap (λ (j : ℕ). position j (q .inside)) k));
-        }
 
 -- the position of a split of a valid vector
 pub cut-of : (n : ℕ) (v : IoVector) (mid : ℕ) (c : SplitPosition) → length (v .segments) ≡ 16 → n < 18446744073709551616 → Valid n v → c ≡ positionOf (segmentsOf v) mid → Cut v c
@@ -169,24 +121,25 @@ module _ (v : IoVector) (c : SplitPosition) (wide : length (v .segments) ≡ 16)
 
 -- ---- what the splits return
 
-pub split-refused : (n : ℕ) (v u : IoVector) (mid : ℕ) → isValid n v ≡ false → u ≡ vectorOf [] → record { head = v; tail = u; outcome = Refused BadSegment } ≡ splitOf n v mid
+pub split-refused : (n : ℕ) (v u : IoVector) (mid : ℕ) → isValid n v ≡ false → u ≡ vectorOf [] → record { head = v; tail = u; looked = 0; outcome = Refused BadSegment } ≡ splitOf n v mid
 unfolding splitOf
 split-refused n v u mid e f = rw (e, f)
 
-pub split-done : (n : ℕ) (v : IoVector) (mid : ℕ) (c d : SplitPosition) (h t : IoVector) → isValid n v ≡ true → c ≡ positionOf (segmentsOf v) mid → d ≡ positionOf (segmentsOf v) mid
-    → h ≡ vectorOf (headAt (segmentsOf v) c) → t ≡ vectorOf (tailAt (segmentsOf v) d) → record { head = h; tail = t; outcome = Done } ≡ splitOf n v mid
+pub split-done : (n : ℕ) (v : IoVector) (mid : ℕ) (s : Split) (h t : IoVector) → isValid n v ≡ true → s ≡ splitAt (segmentsOf v) mid
+    → h ≡ vectorOf (headAt (segmentsOf v) (s .head)) → t ≡ vectorOf (tailAt (segmentsOf v) (s .tail))
+    → record { head = h; tail = t; looked = s .looked; outcome = Done } ≡ splitOf n v mid
 unfolding splitOf
-split-done n v mid c d h t e p r f g =
+split-done n v mid s h t e p f g =
     let q = located n (segmentsOf v) mid (valid n v e .fit .lie) in
-    rw (e, f, g, p, r, q .head, q .tail)
+    rw (e, f, g, p, q .head, q .tail)
 
-pub tail-refused : (n : ℕ) (v : IoVector) (mid : ℕ) → isValid n v ≡ false → refusedVector v ≡ splitTailOf n v mid
+pub tail-refused : (n : ℕ) (v : IoVector) (mid : ℕ) → isValid n v ≡ false → record { vector = v; looked = 0; outcome = Refused BadSegment } ≡ splitTailOf n v mid
 unfolding splitTailOf
 tail-refused n v mid e = rw e
 
-pub tail-done : (n : ℕ) (v : IoVector) (mid : ℕ) (c : SplitPosition) (t : IoVector) → isValid n v ≡ true → c ≡ positionOf (segmentsOf v) mid
-    → t ≡ vectorOf (tailAt (segmentsOf v) c) → record { vector = t; outcome = Done } ≡ splitTailOf n v mid
+pub tail-done : (n : ℕ) (v : IoVector) (mid : ℕ) (s : Split) (t : IoVector) → isValid n v ≡ true → s ≡ splitAt (segmentsOf v) mid
+    → t ≡ vectorOf (tailAt (segmentsOf v) (s .tail)) → record { vector = t; looked = s .looked; outcome = Done } ≡ splitTailOf n v mid
 unfolding splitTailOf
-tail-done n v mid c t e p g =
+tail-done n v mid s t e p g =
     let q = located n (segmentsOf v) mid (valid n v e .fit .lie) in
     rw (e, g, p, q .tail)

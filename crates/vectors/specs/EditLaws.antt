@@ -70,6 +70,7 @@ module _ (n : ℕ) (v : IoVector) (mid : ℕ) (e : isValid n v ≡ true) where
         (tail-fits n (segmentsOf v) mid (fit-true n (segmentsOf v) (valid n v e .fit))),
   )
 
-  pub tail-only : splitTailOf n v mid .vector ≡ splitOf n v mid .tail
+  -- a split for the tail alone gives the other's tail and number
+  pub tail-only : splitTailOf n v mid ≡ record { vector = splitOf n v mid .tail; looked = splitOf n v mid .looked; outcome = Done }
   unfolding splitOf splitTailOf
   tail-only = rw e

@@ -1,5 +1,6 @@
 -- Where a split falls in a list of segments, and the two parts around it.
 use mathlib.Core.Path.{_≡_}
+use mathlib.Core.Bool.{true}
 use mathlib.Core.List.{List, [], _∷_, _++_}
 use Prim.Native.Nat.{ℕ, _+_, _-_, _≤_, _<_}
 use lib.Dec.{ltb, eqb}
@@ -9,7 +10,7 @@ use Rattle.vectors.specs.declared.vector.Segment.{Segment}
 use Rattle.vectors.specs.declared.vector.IoVector.{IoVector}
 use Rattle.vectors.specs.declared.vector.SplitPosition.{SplitPosition}
 use Rattle.vectors.specs.declared.vector.Split.{Split}
-use Rattle.vectors.specs.Vectors.{segment, none, segmentsOf, sizeOf}
+use Rattle.vectors.specs.Vectors.{segment, none, segmentsOf, sizeOf, isValid, lookedAt}
 
 abbrev pub position : ℕ → ℕ → SplitPosition
 position i m = record { index = i; inside = m }
@@ -23,9 +24,13 @@ unfoldable pub positionOf : List Segment → ℕ → SplitPosition
 positionOf [] mid = position 0 0
 positionOf (p ∷ ps) mid = pick (ltb mid (p .length)) (position 0 mid) (behind 1 (positionOf ps (mid - p .length)))
 
--- where a split at byte mid falls: the tail starts where the head ends
+-- a split at a position, after a look at n segments: the tail starts where the head ends
+abbrev pub meeting : SplitPosition → ℕ → Split
+meeting c n = record { head = c; tail = c; looked = n }
+
+-- where a split at byte mid falls
 abbrev pub splitAt : List Segment → ℕ → Split
-splitAt ps mid = record { head = positionOf ps mid; tail = positionOf ps mid }
+splitAt ps mid = meeting (positionOf ps mid) (lookedAt ps mid)
 
 -- the segments before a position
 unfoldable pub headAt : List Segment → SplitPosition → List Segment
@@ -37,6 +42,11 @@ unfoldable pub tailAt : List Segment → SplitPosition → List Segment
 tailAt ps c =
     pick (eqb (c .inside) 0) (drop (c .index) ps)
     (segment (getD ps (c .index) none .start + c .inside) (getD ps (c .index) none .length - c .inside) ∷ drop (c .index + 1) ps)
+
+-- a vector over data of some length
+pub record IsVector (v : IoVector) : Type 0 where
+  pub over : ℕ
+  pub is : isValid over v ≡ true
 
 -- a position that is a split of the vector
 pub record Cut (v : IoVector) (c : SplitPosition) : Type 0 where

@@ -4,22 +4,24 @@ use mathlib.Core.Path.{_≡_, refl, sym, ap, _∙_}
 use mathlib.Core.Bool.{Bool, true, false}
 use mathlib.Core.List.{List, [], _∷_, _++_, append-assoc, append-nil}
 use mathlib.Core.Logic.{_⊎_, inl, inr, ⊎-elim}
-use Prim.Native.Nat.{ℕ, suc, _+_, _-_, _≤_, _<_, min}
+use Prim.Native.Nat.{ℕ, zero, suc, _+_, _-_, _*_, _≤_, _<_, min}
 use native.Mathlib.Decide.{decLt}
+use native.Mathlib.Nat.{not-suc-le-zero, le-of-suc-le-suc}
 use native.Mathlib.Numerals.{add-one}
 use native.Mathlib.Omega.{arith}
 use lib.Dec.{eqb}
-use lib.ListN.{length, take, drop, getD}
-use lib.Seq.{take-add, drop-drop}
+use lib.ListN.{length, take, drop, getD, length-append, length-drop}
+use lib.Seq.{take-add, drop-drop, length-take-le}
 use borrow.Author.Tests.{lt-ltb, le-ltb, eq-eqb, ne-eqb}
 use Rattle.arithmetic.specs.Rounding.{pick}
 use Rattle.arithmetic.specs.SettingsLaws.{and-left, and-right, both}
 use Rattle.vectors.specs.declared.vector.Segment.{Segment}
 use Rattle.vectors.specs.declared.vector.SplitPosition.{SplitPosition}
-use Rattle.vectors.specs.Vectors.{segment, none, sizeOf, liesIn, allSegments, segmentsFit, headOf, tailOf, bytesOf}
+use Rattle.vectors.specs.Vectors.{segment, none, sizeOf, liesIn, allSegments, segmentsFit, headOf, tailOf, isPastHalf, lookedAt}
+use Rattle.vectors.specs.Vectors.{bytesOf}
 use Rattle.vectors.specs.Positions.{position, behind, positionOf, headAt, tailAt}
 use Rattle.vectors.specs.Places.{placeOf}
-use Rattle.vectors.specs.SegmentLaws.{Lies, lies, lies-true, fit, fit-true}
+use Rattle.vectors.specs.SegmentLaws.{size-cut, Lies, lies, lies-true, fit, fit-true}
 
 -- ---- the three cases of a split at a list's first segment
 
@@ -243,6 +245,37 @@ place-right (p ∷ ps) qs i =
 
 -- ---- the position of a split
 
+-- byte mid lies in the segment at i where the segments before it hold at most mid bytes, and with it more
+pub position-at : (ps : List Segment) (i mid : ℕ) → i < length ps → sizeOf (take i ps) ≤ mid → mid < sizeOf (take (i + 1) ps) →
+    positionOf ps mid ≡ position i (mid - sizeOf (take i ps))
+unfolding positionOf sizeOf
+position-at [] i mid h a b = absurd (not-suc-le-zero h)
+position-at (p ∷ ps) zero mid h a b =
+    let l : mid < p .length = omega arith in
+    rw (lt-ltb mid (p .length) l) (ap (λ (m : ℕ). position 0 m) (omega arith))
+position-at (p ∷ ps) (suc i) mid h a b =
+    let l : p .length ≤ mid = omega arith in
+    let d : mid < p .length + sizeOf (take (suc i) ps) = rw add-one at b in
+    let c : mid - p .length < sizeOf (take (i + 1) ps) = rw add-one (omega arith) in
+    let e = position-at ps i (mid - p .length) (le-of-suc-le-suc h) (omega arith) c in
+    rw (le-ltb mid (p .length) l, e, add-one) (ap (λ (m : ℕ). position (suc i) m) (omega arith))
+
+-- and so it does where the segments behind it hold less than the bytes from mid on, and with it as many: a walk from the last segment
+-- finds the position that one from the first finds
+pub position-from-end : (ps : List Segment) (i mid : ℕ) → i < length ps → mid + sizeOf (drop (i + 1) ps) < sizeOf ps →
+    sizeOf ps ≤ mid + sizeOf (drop i ps) → positionOf ps mid ≡ position i (mid + sizeOf (drop i ps) - sizeOf ps)
+position-from-end ps i mid h a b =
+    let e : mid - sizeOf (take i ps) ≡ mid + sizeOf (drop i ps) - sizeOf ps = omega (arith, size-cut i ps) in
+    position-at ps i mid h (omega (arith, size-cut i ps)) (omega (arith, size-cut (i + 1) ps)) ∙ ap (λ (m : ℕ). position i m) e
+
+-- at the total or past it the position is behind the last segment
+pub position-past : (ps : List Segment) (mid : ℕ) → sizeOf ps ≤ mid → positionOf ps mid ≡ position (length ps) 0
+unfolding positionOf sizeOf
+position-past [] mid h = refl
+position-past (p ∷ ps) mid h =
+    let l : p .length ≤ mid = omega arith in
+    rw (le-ltb mid (p .length) l, position-past ps (mid - p .length) (omega arith)) (ap (λ (i : ℕ). position i 0) (omega arith))
+
 picked : (t : Bool) (p : Segment) (a b : List Segment) → pick t (p ∷ a) (p ∷ b) ≡ p ∷ pick t a b
 picked true p a b = refl
 picked false p a b = refl
@@ -299,3 +332,69 @@ located n (p ∷ ps) mid e =
           reach = rw q (omega (arith, i .reach));
           part = rw (q, add-one) (λ z. (omega (arith, i .part z .0), i .part z .1));
         }
+
+-- ---- the segments looked at
+
+head-at-0 : (ps : List Segment) → headOf ps 0 ≡ []
+unfolding headOf
+head-at-0 [] = refl
+head-at-0 (p ∷ ps) = refl
+
+-- the head has those before the position, and one more where that lies inside one; the tail has all the others, and that one too
+module _ (n : ℕ) (ps : List Segment) (mid : ℕ) (e : allSegments (liesIn n) ps ≡ true) where
+  abbrev c : SplitPosition
+  c = positionOf ps mid
+
+  front : length (take (c .index) ps) ≡ c .index
+  front = length-take-le (c .index) ps (located n ps mid e .reach)
+
+  pub head-count : length (headOf ps mid) ≡ pick (eqb (c .inside) 0) (c .index) (c .index + 1)
+  unfolding headAt
+  head-count =
+      ap length (sym (located n ps mid e .head)) ∙ (elim (decLt 0 (c .inside)) [
+        | yes l ↦
+            let z : c .inside ≡ 0 → ⊥ = omega arith in
+            rw (ne-eqb (c .inside) 0 z) (length-append (take (c .index) ps) _ ∙ ap (λ (k : ℕ). k + 1) front)
+        | no l ↦ let z : c .inside ≡ 0 = omega arith in rw (eq-eqb (c .inside) 0 z) front
+      ])
+
+  pub tail-count : length (tailOf ps mid) ≡ length ps - c .index
+  unfolding tailAt
+  tail-count =
+      ap length (sym (located n ps mid e .tail)) ∙ (elim (decLt 0 (c .inside)) [
+        | yes l ↦
+            let z : c .inside ≡ 0 → ⊥ = omega arith in
+            rw (ne-eqb (c .inside) 0 z) (omega (arith, length-drop (c .index + 1) ps, located n ps mid e .part z .0))
+        | no l ↦ let z : c .inside ≡ 0 = omega arith in rw (eq-eqb (c .inside) 0 z) (length-drop (c .index) ps)
+      ])
+
+  -- of a split at or past the total none
+  pub looked-past : sizeOf ps ≤ mid → lookedAt ps mid ≡ 0
+  unfolding lookedAt isPastHalf headOf
+  looked-past h = elim (decLt (sizeOf ps) (2 * mid)) [
+    | yes l ↦
+        let q = ap (λ (p : SplitPosition). p .index) (position-past ps mid h) in
+        rw (lt-ltb (sizeOf ps) (2 * mid) l) (omega (arith, tail-count, q))
+    | no l ↦
+        let z : mid ≡ 0 = omega arith in
+        let k : 2 * mid ≤ sizeOf ps = omega arith in
+        rw (le-ltb (sizeOf ps) (2 * mid) k) (ap length (ap (headOf ps) z ∙ head-at-0 ps))
+  ]
+
+-- of one at 0 none
+pub looked-at-0 : (ps : List Segment) → lookedAt ps 0 ≡ 0
+unfolding lookedAt isPastHalf
+looked-at-0 ps = let k : 2 * 0 ≤ sizeOf ps = omega arith in rw (le-ltb (sizeOf ps) (2 * 0) k) (ap length (head-at-0 ps))
+
+-- ---- computed: three segments of 3, 4 and 7 bytes, of which half is 7. Up to it the head's two are looked at, past it the tail's one.
+
+abbrev uneven : List Segment
+uneven = segment 2 3 ∷ (segment 8 4 ∷ (segment 19 7 ∷ []))
+
+pub looked-at-half : lookedAt uneven 7 ≡ 2
+unfolding lookedAt isPastHalf headOf tailOf sizeOf
+looked-at-half = refl
+
+pub looked-past-half : lookedAt uneven 8 ≡ 1
+unfolding lookedAt isPastHalf headOf tailOf sizeOf
+looked-past-half = refl

@@ -2,7 +2,7 @@
 -- A vector that a call returns is `vectorOf` its list of segments: what stands past the count is zero.
 use mathlib.Core.Bool.{Bool, true, false, _&&_, _||_}
 use mathlib.Core.List.{List, [], _∷_, _++_}
-use Prim.Native.Nat.{ℕ, _+_, _-_, max, min}
+use Prim.Native.Nat.{ℕ, _+_, _-_, _*_, max, min}
 use lib.Dec.{ltb, leb, eqb}
 use lib.ListN.{length, take, drop, replicate}
 use Rattle.arithmetic.specs.Rounding.{pick, fits, isMultiple}
@@ -16,6 +16,7 @@ use Rattle.vectors.specs.declared.vector.Segment.{Segment}
 use Rattle.vectors.specs.declared.vector.IoVector.{IoVector}
 use Rattle.vectors.specs.declared.vector.Changed.{Changed}
 use Rattle.vectors.specs.declared.vector.Halves.{Halves}
+use Rattle.vectors.specs.declared.vector.Tail.{Tail}
 use Rattle.vectors.specs.declared.vector.Alignment.{Alignment}
 use Rattle.vectors.specs.declared.vector.Alignment.the-variants.{Aligned, Unaligned, Refused as NotAsked}
 
@@ -115,16 +116,32 @@ tailOf [] mid = []
 tailOf (p ∷ ps) mid =
     pick (eqb mid 0) (p ∷ ps) (pick (ltb mid (p .length)) (segment (p .start + mid) (p .length - mid) ∷ ps) (tailOf ps (mid - p .length)))
 
--- "A split at or past the total gives the whole and an empty tail. A split at 0 of a vector with pieces gives an empty head."
+-- "Past half the total" (document 02, N2)
+unfoldable pub isPastHalf : List Segment → ℕ → Bool
+isPastHalf ps mid = ltb (sizeOf ps) (2 * mid)
+
+-- "the number of pieces looked at: past half as many as the tail has, otherwise as many as the head has"
+unfoldable pub lookedAt : List Segment → ℕ → ℕ
+lookedAt ps mid = pick (isPastHalf ps mid) (length (tailOf ps mid)) (length (headOf ps mid))
+
+-- "A split at or past the total gives the whole and an empty tail. A split at 0 of a vector with pieces gives an empty head." A refused
+-- split looks at no segment.
 unfoldable pub splitOf : ℕ → IoVector → ℕ → Halves
 splitOf n v mid =
     pick (isValid n v)
-    (record { head = vectorOf (headOf (segmentsOf v) mid); tail = vectorOf (tailOf (segmentsOf v) mid); outcome = Done })
-    (record { head = v; tail = vectorOf []; outcome = Refused BadSegment })
+    (record {
+      head = vectorOf (headOf (segmentsOf v) mid);
+      tail = vectorOf (tailOf (segmentsOf v) mid);
+      looked = lookedAt (segmentsOf v) mid;
+      outcome = Done;
+    })
+    (record { head = v; tail = vectorOf []; looked = 0; outcome = Refused BadSegment })
 
-unfoldable pub splitTailOf : ℕ → IoVector → ℕ → Changed
+unfoldable pub splitTailOf : ℕ → IoVector → ℕ → Tail
 splitTailOf n v mid =
-    pick (isValid n v) (record { vector = vectorOf (tailOf (segmentsOf v) mid); outcome = Done }) (refusedVector v)
+    pick (isValid n v)
+    (record { vector = vectorOf (tailOf (segmentsOf v) mid); looked = lookedAt (segmentsOf v) mid; outcome = Done })
+    (record { vector = v; looked = 0; outcome = Refused BadSegment })
 
 -- ---- bytes: "each area is filled or used up before the next" (POSIX readv, writev)
 

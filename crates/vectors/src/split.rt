@@ -1,19 +1,30 @@
 // Splits of a vector at a byte.
-use crate::vector::Changed;
 use crate::vector::Halves;
 use crate::vector::IoVector;
 use crate::vector::Segment;
 use crate::vector::Split;
 use crate::vector::SplitPosition;
+use crate::vector::Tail;
 use arithmetic::refusals::Outcome;
 use arithmetic::refusals::Refusal;
 ghost use mathlib.Core.Path.{_≡_};
-ghost use Prim.Native.Nat.{_≤_};
 ghost use Rattle.vectors.specs.Vectors.{vectorOf, segmentsOf, splitOf, splitTailOf};
-ghost use Rattle.vectors.specs.Positions.{Cut, splitAt, headAt, tailAt};
+ghost use Rattle.vectors.specs.Positions.{position, meeting, splitAt, IsVector, headAt, tailAt, Cut};
+
+// Head and tail meet `inside` bytes into segment `index`.
+fn meet(index: usize, inside: usize, looked: usize) -> Split
+    ensures { λ r. ⌜ r ≡ meeting (position index inside) looked ⌝ }
+{
+    let place = SplitPosition { index, inside };
+    Split {
+        head: place,
+        tail: place,
+        looked,
+    }
+}
 
 impl IoVector {
-    // The first `mid` bytes, and the rest.
+    // The first `mid` bytes, and the rest; and how many segments were looked at to find where.
     pub fn split_at(self, mid: u64, data_len: usize) -> Halves
         ensures { λ r. ⌜ r ≡ splitOf data_len self mid ⌝ }
     {
@@ -21,6 +32,7 @@ impl IoVector {
             return Halves {
                 head: self,
                 tail: IoVector::new(),
+                looked: 0,
                 outcome: Outcome::Refused(Refusal::Segment),
             };
         }
@@ -28,59 +40,66 @@ impl IoVector {
         Halves {
             head: self.head_to(split.head),
             tail: self.tail_from(split.tail),
+            looked: split.looked,
             outcome: Outcome::Done,
         }
     }
 
     // The bytes from `mid` on.
-    pub fn split_tail_at(self, mid: u64, data_len: usize) -> Changed
+    pub fn split_tail_at(self, mid: u64, data_len: usize) -> Tail
         ensures { λ r. ⌜ r ≡ splitTailOf data_len self mid ⌝ }
     {
         if !self.is_valid(data_len) {
-            return self.refuse();
+            return Tail {
+                vector: self,
+                looked: 0,
+                outcome: Outcome::Refused(Refusal::Segment),
+            };
         }
         let split = self.do_split_at(mid);
-        Changed {
+        Tail {
             vector: self.tail_from(split.tail),
+            looked: split.looked,
             outcome: Outcome::Done,
         }
     }
 
-    // Where the head of the first `mid` bytes ends and the tail starts; at or past the total, behind the last segment.
+    // Where the head of the first `mid` bytes ends and the tail starts; at or past the total, behind the last segment. Past
+    // half the total the walk goes from the last segment; tested by the difference, as twice `mid` may pass 2^64 - 1.
     fn do_split_at(self, mid: u64) -> Split
-        requires { ⌜ self .count ≤ 16 ⌝ }
+        requires { ⌜ IsVector self ⌝ }
         ensures { λ r. ⌜ r ≡ splitAt (segmentsOf self) mid ⌝ }
     {
         let n = self.count;
+        if self.total <= mid {
+            return meet(n, 0, 0);
+        }
+        if self.total - mid < mid {
+            // `rest` bytes of the tail lie before segment i
+            let mut i = n;
+            let mut rest = self.total - mid;
+            let split = loop {
+                i -= 1;
+                let length = self.segments[i].length as u64;
+                if rest <= length {
+                    break meet(i, (length - rest) as usize, n - i);
+                }
+                rest -= length;
+            };
+            return split;
+        }
+        // `rest` bytes of the head lie from segment i on; where none do, it is not looked at
         let mut i = 0usize;
         let mut rest = mid;
         let split = loop {
-            if n <= i {
-                break Split {
-                    head: SplitPosition {
-                        index: n,
-                        inside: 0,
-                    },
-                    tail: SplitPosition {
-                        index: n,
-                        inside: 0,
-                    },
-                };
+            if rest == 0 {
+                break meet(i, 0, i);
             }
-            let p = self.segments[i];
-            if rest < p.length as u64 {
-                break Split {
-                    head: SplitPosition {
-                        index: i,
-                        inside: rest as usize,
-                    },
-                    tail: SplitPosition {
-                        index: i,
-                        inside: rest as usize,
-                    },
-                };
+            let length = self.segments[i].length as u64;
+            if rest < length {
+                break meet(i, rest as usize, i + 1);
             }
-            rest -= p.length as u64;
+            rest -= length;
             i += 1;
         };
         split

@@ -34,10 +34,19 @@ pub struct Glued {
     pub fits: bool,
 }
 
-// The two parts of a split; of a refused one the vector as it was, and an empty one.
+// The two parts of a split, and how many segments the walk to it looked at; of a refused one the vector as it was, an empty
+// one, and 0.
 pub struct Halves {
     pub head: IoVector,
     pub tail: IoVector,
+    pub looked: usize,
+    pub outcome: Outcome,
+}
+
+// The tail of a split alone; of a refused one the vector as it was.
+pub struct Tail {
+    pub vector: IoVector,
+    pub looked: usize,
     pub outcome: Outcome,
 }
 
@@ -47,10 +56,11 @@ pub struct SplitPosition {
     pub inside: usize,
 }
 
-// Where a split falls: where the head ends, and where the tail starts.
+// Where a split falls: where the head ends, and where the tail starts; and how many segments the walk looked at.
 pub struct Split {
     pub head: SplitPosition,
     pub tail: SplitPosition,
+    pub looked: usize,
 }
 
 // Whether a vector's segments lie as direct requests need them.

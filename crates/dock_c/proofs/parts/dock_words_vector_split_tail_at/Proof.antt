@@ -1,9 +1,9 @@
--- `dock_c::parts::dock_words_vector_split_tail_at` meets its contract: what the call on the vector gives, written back. Assumes nothing.
+-- `dock_c::parts::dock_words_vector_split_tail_at` meets its contract: the tail, written to the vector's words, and the number looked at; a refusal leaves them. Assumes nothing.
 use mathlib.Core.Path.{ap, _∙_}
-use Rattle.arithmetic.specs.Refusals.{outcomeNumber}
 use Rattle.vectors.specs.declared.vector.IoVector.{IoVector}
-use Rattle.vectors.specs.declared.vector.Changed.{Changed}
+use Rattle.vectors.specs.declared.vector.Tail.{Tail}
 use Rattle.vectors.specs.Vectors.{splitTailOf}
+use Rattle.dock_c.specs.Replies.{replyOf, splitPaper}
 use borrow.Author.Needs.{needs}
 use Rattle.dock_c.proofs.parts.dock_words_vector_split_tail_at.Statement.{statement}
 use Rattle.dock_c.proofs.parts.dock_words_vector_split_tail_at.Tie as tie
@@ -18,11 +18,11 @@ split-tail-at-requires c κs = search needs
 put-vector-of-requires : tie.Need-put-vector-of-requires
 put-vector-of-requires c κs = search needs
 
-number-requires : tie.Need-number-requires
-number-requires c κs = search needs
+split-reply-requires : tie.Need-split-reply-requires
+split-reply-requires c κs = search needs
 
 returns : tie.Need-returns
-returns c = let a = c .before .before .before .before .before .before .args in let e = c .before .before .before .split-tail-at .ensures ∙ ap (λ (v : IoVector). splitTailOf (a .data-len) v (a .mid)) (c .before .before .before .before .vector-of .ensures) in (c .number .ensures ∙ ap (λ (z : Changed). outcomeNumber (z .outcome)) e, c .before .put-vector-of .ensures ∙ ap (λ (z : Changed). vectorWords (z .vector)) e)
+returns c = let a = c .before .before .before .before .before .before .args in let e = c .before .before .before .split-tail-at .ensures ∙ ap (λ (v : IoVector). splitTailOf (a .data-len) v (a .mid)) (c .before .before .before .before .vector-of .ensures) in (c .split-reply .ensures ∙ ap (λ (z : Tail). replyOf (splitPaper (z .outcome) (z .looked))) e, c .before .put-vector-of .ensures ∙ ap (λ (z : Tail). vectorWords (z .vector)) e)
 
 pub dock-words-vector-split-tail-at-spec : {M : Type 1} → statement M
 dock-words-vector-split-tail-at-spec =
@@ -31,5 +31,5 @@ dock-words-vector-split-tail-at-spec =
     vector-of-requires
     split-tail-at-requires
     put-vector-of-requires
-    number-requires
+    split-reply-requires
     returns)

@@ -42,7 +42,7 @@ returns : tie.Need-returns
 returns c = split-refused _ _ _ _ (sym (c .before .before .is-valid .ensures) ∙ not-true _ (c .before .if1 .taken)) (c .new .ensures)
 
 do-split-at-requires : tie.Need-do-split-at-requires
-do-split-at-requires c κs = valid _ _ (valid-of c) .few
+do-split-at-requires c κs = record { over = _; is = valid-of c }
 
 head-to-requires : tie.Need-head-to-requires
 head-to-requires c κs = cut c _ (head-is c)
@@ -51,7 +51,7 @@ tail-from-requires : tie.Need-tail-from-requires
 tail-from-requires c κs = cut (c .before) _ (tail-is (c .before))
 
 returns-2 : tie.Need-returns-2
-returns-2 c = split-done _ _ (c .before .before .before .before .before .args .mid) _ _ _ _ (valid-of (c .before .before .before)) (head-is (c .before .before)) (tail-is (c .before .before)) (c .before .head-to .ensures) (c .tail-from .ensures)
+returns-2 c = split-done _ _ (c .before .before .before .before .before .args .mid) _ _ _ (valid-of (c .before .before .before)) (c .before .before .do-split-at .ensures) (c .before .head-to .ensures) (c .tail-from .ensures)
 
 pub split-at-spec : {M : Type 1} → statement M
 split-at-spec =

@@ -24,27 +24,23 @@ tail-is c = ap (λ (s : Split). s .tail) (c .do-split-at .ensures)
 is-valid-requires : tie.Need-is-valid-requires
 is-valid-requires c κs = search needs
 
-refuse-requires : tie.Need-refuse-requires
-refuse-requires c κs = search needs
-
 returns : tie.Need-returns
-returns c = c .refuse .ensures ∙ tail-refused _ _ (c .before .before .before .args .mid) (sym (c .before .before .is-valid .ensures) ∙ not-true _ (c .before .if1 .taken))
+returns c = tail-refused _ _ (c .before .before .args .mid) (sym (c .before .is-valid .ensures) ∙ not-true _ (c .if1 .taken))
 
 do-split-at-requires : tie.Need-do-split-at-requires
-do-split-at-requires c κs = valid _ _ (valid-of c) .few
+do-split-at-requires c κs = record { over = _; is = valid-of c }
 
 tail-from-requires : tie.Need-tail-from-requires
 tail-from-requires c κs = let w : length (c .before .before .before .args .self .segments) ≡ 16 = search (needs, array-long) in cut-of _ _ _ _ w (search needs) (valid _ _ (valid-of (c .before))) (tail-is c)
 
 returns-2 : tie.Need-returns-2
-returns-2 c = tail-done _ _ (c .before .before .before .before .args .mid) _ _ (valid-of (c .before .before)) (tail-is (c .before)) (c .tail-from .ensures)
+returns-2 c = tail-done _ _ (c .before .before .before .before .args .mid) _ _ (valid-of (c .before .before)) (c .before .do-split-at .ensures) (c .tail-from .ensures)
 
 pub split-tail-at-spec : {M : Type 1} → statement M
 split-tail-at-spec =
     tie.close
     (tie.spec
     is-valid-requires
-    refuse-requires
     returns
     do-split-at-requires
     tail-from-requires
