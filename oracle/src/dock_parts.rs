@@ -4,10 +4,10 @@
 //! words of a vector are those of its segments and no others; what blockers must refuse is refused with 208.
 
 use crate::dock_side::values;
-use crate::dock_words::{self, row, BlockerRow, Row, BLOCKERS};
+use crate::dock_words::{self, row, BlockerRow, Reply, Row, BLOCKERS};
 use crate::document;
 use crate::memory::Data;
-use crate::side::{Blockers, Segment, Vectors, SLOTS};
+use crate::side::{Blockers, Halves, Segment, Tail, Vectors, SLOTS};
 use std::cell::RefCell;
 use std::ops::Range;
 
@@ -99,6 +99,19 @@ impl DockVectors {
         Err(number)
     }
 
+    /// The vector after a split of it, which has no reason to refuse a right one, and how many segments were looked at.
+    fn split(&self, name: &str, v: &[Segment], call: impl FnOnce(&mut Row, usize) -> Reply) -> (Vec<Segment>, u64) {
+        let mut looked = 0;
+        let after = self.changed(name, v, |row, length| {
+            let reply = call(row, length);
+            looked = reply.value[0];
+            let done = Reply { number: 0, count: 1, value: [looked, 0, 0, 0] };
+            self.watch.expect(reply == done, || format!("{v:?} {name} gives {reply:?}"));
+            reply.number as u8
+        });
+        (after.unwrap_or_default(), looked)
+    }
+
     /// A call that has no reason to refuse a right vector.
     fn accepted(&self, name: &str, v: &[Segment], number: u8) {
         self.watch.expect(number == 0, || format!("{v:?} {name} is refused with {number}"));
@@ -119,17 +132,17 @@ impl Vectors for DockVectors {
     }
 
     /// Whatever words the tail has before, it is the tail afterwards.
-    fn split_at(&mut self, v: &[Segment], mid: u64) -> (Vec<Segment>, Vec<Segment>) {
+    fn split_at(&mut self, v: &[Segment], mid: u64) -> Halves {
         let mut tail = [u64::MAX; 34];
-        let head = self.changed("split_at", v, |row, length| dock_words::vector_split_at(row, &mut tail, mid, length));
-        self.accepted("split_at", v, head.as_ref().err().copied().unwrap_or(0));
-        (head.unwrap_or_default(), self.given(&format!("{v:?} split_at {mid}, the tail,"), &tail))
+        let call = |row: &mut Row, length| dock_words::vector_split_at(row, &mut tail, mid, length);
+        let (head, looked) = self.split("split_at", v, call);
+        Halves { head, tail: self.given(&format!("{v:?} split_at {mid}, the tail,"), &tail), looked }
     }
 
-    fn split_tail_at(&mut self, v: &[Segment], mid: u64) -> Vec<Segment> {
-        let tail = self.changed("split_tail_at", v, |row, length| dock_words::vector_split_tail_at(row, mid, length));
-        self.accepted("split_tail_at", v, tail.as_ref().err().copied().unwrap_or(0));
-        tail.unwrap_or_default()
+    fn split_tail_at(&mut self, v: &[Segment], mid: u64) -> Tail {
+        let call = |row: &mut Row, length| dock_words::vector_split_tail_at(row, mid, length);
+        let (segments, looked) = self.split("split_tail_at", v, call);
+        Tail { segments, looked }
     }
 
     fn copy_into_slice(&mut self, v: &[Segment], slice: &mut [u8]) -> u8 {

@@ -162,8 +162,8 @@ extern "C" {
     fn dock_words_vector_push(vector: Alter, start: usize, length: usize, data_len: usize) -> u8;
     fn dock_words_vector_insert(vector: Alter, index: usize, start: usize, length: usize, data_len: usize) -> u8;
     fn dock_words_vector_append(vector: Alter, other: Read, data_len: usize) -> u8;
-    fn dock_words_vector_split_at(vector: Alter, tail: Alter, mid: u64, data_len: usize) -> u8;
-    fn dock_words_vector_split_tail_at(vector: Alter, mid: u64, data_len: usize) -> u8;
+    fn dock_words_vector_split_at(vector: Alter, tail: Alter, mid: u64, data_len: usize) -> Reply;
+    fn dock_words_vector_split_tail_at(vector: Alter, mid: u64, data_len: usize) -> Reply;
     fn dock_words_vector_copy_into_slice(
         vector: Read,
         data: *const u8,
@@ -310,12 +310,12 @@ pub fn vector_append(v: &mut Row, other: &Row, data_len: usize) -> u8 {
     unsafe { dock_words_vector_append(v.as_mut_ptr(), other.as_ptr(), data_len) }
 }
 
-/// The vector becomes the head.
-pub fn vector_split_at(v: &mut Row, tail: &mut Row, mid: u64, data_len: usize) -> u8 {
+/// The vector becomes the head. The reply has how many segments were looked at beside its number, 0.
+pub fn vector_split_at(v: &mut Row, tail: &mut Row, mid: u64, data_len: usize) -> Reply {
     unsafe { dock_words_vector_split_at(v.as_mut_ptr(), tail.as_mut_ptr(), mid, data_len) }
 }
 
-pub fn vector_split_tail_at(v: &mut Row, mid: u64, data_len: usize) -> u8 {
+pub fn vector_split_tail_at(v: &mut Row, mid: u64, data_len: usize) -> Reply {
     unsafe { dock_words_vector_split_tail_at(v.as_mut_ptr(), mid, data_len) }
 }
 

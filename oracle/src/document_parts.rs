@@ -4,7 +4,7 @@
 //! the runs between cuts, and a call takes away the cut at a seam where one byte follows the other in the data.
 
 use crate::document;
-use crate::side::{Alignments, Opening, Planner, Segment, Vectors};
+use crate::side::{Alignments, Halves, Opening, Planner, Segment, Tail, Vectors};
 
 pub struct DocumentVectors {
     data: Vec<u8>,
@@ -68,6 +68,30 @@ fn between(v: &[Segment], from: u64, to: u64) -> Vec<Segment> {
     parts
 }
 
+/// How many segments a walk over so many bytes looks at: none once there are no bytes left.
+fn walked<'a>(segments: impl Iterator<Item = &'a Segment>, bytes: u64) -> u64 {
+    let mut left = bytes;
+    let mut count = 0;
+    for s in segments {
+        if left == 0 {
+            break;
+        }
+        left = left.saturating_sub(s.length);
+        count += 1;
+    }
+    count
+}
+
+/// "Past half the total, walk from the last piece instead."
+fn looked(v: &[Segment], mid: u64) -> u64 {
+    let total = document::total(v);
+    if 2 * u128::from(mid) > u128::from(total) {
+        walked(v.iter().rev(), total.saturating_sub(mid))
+    } else {
+        walked(v.iter(), mid)
+    }
+}
+
 /// The positions in the data of a vector's bytes, in order.
 fn positions(v: &[Segment]) -> impl Iterator<Item = usize> + '_ {
     v.iter().flat_map(|s| s.start as usize..(s.start + s.length) as usize)
@@ -86,12 +110,12 @@ impl Vectors for DocumentVectors {
         self.with(v, v.len(), other)
     }
 
-    fn split_at(&mut self, v: &[Segment], mid: u64) -> (Vec<Segment>, Vec<Segment>) {
-        (between(v, 0, mid), between(v, mid, u64::MAX))
+    fn split_at(&mut self, v: &[Segment], mid: u64) -> Halves {
+        Halves { head: between(v, 0, mid), tail: between(v, mid, u64::MAX), looked: looked(v, mid) }
     }
 
-    fn split_tail_at(&mut self, v: &[Segment], mid: u64) -> Vec<Segment> {
-        between(v, mid, u64::MAX)
+    fn split_tail_at(&mut self, v: &[Segment], mid: u64) -> Tail {
+        Tail { segments: between(v, mid, u64::MAX), looked: looked(v, mid) }
     }
 
     fn copy_into_slice(&mut self, v: &[Segment], slice: &mut [u8]) -> u8 {

@@ -4,7 +4,7 @@ use crate::document;
 use crate::executor::Task;
 use crate::memory::Data;
 use crate::port::Port;
-use crate::side::{Blockers, Opening, Planner, Segment, Vectors, SLOTS};
+use crate::side::{Blockers, Halves, Opening, Planner, Segment, Tail, Vectors, SLOTS};
 use imago::io_buffers::{IoVector, IoVectorMut};
 use imago::storage::drivers::CommonStorageHelper;
 use imago::Storage;
@@ -91,6 +91,14 @@ impl ImagoVectors {
         Segment { start, length: slice.len() as u64 }
     }
 
+    /// How many segments a split looks at: document 02's number, from imago's own parts, as imago counts nothing.
+    fn looked(&self, v: &[Segment], mid: u64) -> u64 {
+        let whole = self.data.vector(v);
+        let is_past_half = 2 * u128::from(mid) > u128::from(whole.len());
+        let (head, tail) = whole.split_at(mid);
+        (if is_past_half { tail } else { head }).buffer_count() as u64
+    }
+
     /// The vector after a call that takes new segments, joined at the seams of that call, which are named from the last
     /// to the first. imago itself joins nothing and refuses nothing: the refusals are those of documents 01 and 02.
     fn changed(
@@ -147,13 +155,15 @@ impl Vectors for ImagoVectors {
         })
     }
 
-    fn split_at(&mut self, v: &[Segment], mid: u64) -> (Vec<Segment>, Vec<Segment>) {
+    fn split_at(&mut self, v: &[Segment], mid: u64) -> Halves {
+        let looked = self.looked(v, mid);
         let (head, tail) = self.data.vector(v).split_at(mid);
-        (self.segments(head), self.segments(tail))
+        Halves { head: self.segments(head), tail: self.segments(tail), looked }
     }
 
-    fn split_tail_at(&mut self, v: &[Segment], mid: u64) -> Vec<Segment> {
-        self.segments(self.data.vector(v).split_tail_at(mid))
+    fn split_tail_at(&mut self, v: &[Segment], mid: u64) -> Tail {
+        let looked = self.looked(v, mid);
+        Tail { segments: self.segments(self.data.vector(v).split_tail_at(mid)), looked }
     }
 
     fn copy_into_slice(&mut self, v: &[Segment], slice: &mut [u8]) -> u8 {

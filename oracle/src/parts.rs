@@ -132,12 +132,19 @@ fn vector_edits(random: &mut Random, v: &[Segment], left: &mut impl Vectors, rig
         .or_else(|| unlike(&format!("{v:?} insert {index} {s:?}"), left.insert(v, index, s), right.insert(v, index, s)))
 }
 
+/// Anywhere, at either end or past it, at half or about it, or between two segments.
+fn split_point(random: &mut Random, v: &[Segment]) -> u64 {
+    let total = document::total(v);
+    let anywhere = random.below(total + 3);
+    let clean = document::total(&v[..random.below(v.len() as u64 + 1) as usize]);
+    random.pick(&[anywhere, 0, total, u64::MAX, total / 2, total / 2 + 1, clean, clean])
+}
+
 /// The splits, and the parts of one appended to each other again.
 fn vector_splits(random: &mut Random, v: &[Segment], left: &mut impl Vectors, right: &mut impl Vectors) -> Found {
-    let mid = random.below(document::total(v) + 3);
-    let mid = random.pick(&[mid, 0, document::total(v), v.first().map_or(0, |s| s.length)]);
+    let mid = split_point(random, v);
     let parts = left.split_at(v, mid);
-    let (head, tail) = (&parts.0, &parts.1);
+    let (head, tail) = (&parts.head, &parts.tail);
     unlike(&format!("{v:?} split_at {mid}"), parts.clone(), right.split_at(v, mid))
         .or_else(|| {
             unlike(&format!("{v:?} split_tail_at {mid}"), left.split_tail_at(v, mid), right.split_tail_at(v, mid))

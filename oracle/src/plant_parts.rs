@@ -2,11 +2,11 @@
 
 use crate::document;
 use crate::imago_parts::joined_at;
-use crate::side::{Blockers, Opening, Planner, Segment, Vectors};
+use crate::side::{Blockers, Halves, Opening, Planner, Segment, Tail, Vectors};
 use std::ops::Range;
 
-/// What `WrongVectors` can be wrong in: a call; or, after its name, how it joins.
-pub const VECTOR_FAULTS: [&str; 26] = [
+/// What `WrongVectors` can be wrong in: a call; or, after its name, how it joins or looks for the split.
+pub const VECTOR_FAULTS: [&str; 34] = [
     "push",
     "insert",
     "append",
@@ -33,6 +33,14 @@ pub const VECTOR_FAULTS: [&str; 26] = [
     "append joins across a gap",
     "append joins all that touch",
     "append counts before joining",
+    "split_at looks from half on",
+    "split_at looks from the first",
+    "split_at looks past a clean cut",
+    "split_at looks at one more",
+    "split_tail_at looks from half on",
+    "split_tail_at looks from the first",
+    "split_tail_at looks past a clean cut",
+    "split_tail_at looks at one more",
 ];
 
 /// The list, where it has no more segments than a vector takes.
@@ -72,12 +80,28 @@ fn joined_wrongly(how: &str, right: Result<Vec<Segment>, u8>, parts: [&[Segment]
     }
 }
 
+/// How many segments a split looks at that is right but for that.
+fn looked_wrongly(how: &str, right: &Halves, v: &[Segment], mid: u64) -> u64 {
+    let total = document::total(v);
+    let (head, tail) = (right.head.len() as u64, right.tail.len() as u64);
+    let is_inside = 0 < mid && mid < total;
+    // a clean cut: the parts have no segment more than the whole
+    let is_clean = head + tail == v.len() as u64;
+    match how {
+        "looks from half on" if 2 * mid == total => tail,
+        "looks from the first" => head,
+        "looks past a clean cut" if is_inside && is_clean => right.looked + 1,
+        "looks at one more" if is_inside => right.looked + 1,
+        _ => right.looked,
+    }
+}
+
 /// Vectors that are wrong in one of `VECTOR_FAULTS`.
 pub struct WrongVectors<V>(pub V, pub &'static str);
 
 impl<V> WrongVectors<V> {
-    /// How a call of that name joins, where that is what is wrong.
-    fn joining(&self, call: &str) -> &'static str {
+    /// How a call of that name does it, where that is what is wrong.
+    fn how(&self, call: &str) -> &'static str {
         self.1.strip_prefix(call).map_or("", str::trim_start)
     }
 }
@@ -85,13 +109,13 @@ impl<V> WrongVectors<V> {
 impl<V: Vectors> Vectors for WrongVectors<V> {
     fn push(&mut self, v: &[Segment], s: Segment) -> Result<Vec<Segment>, u8> {
         let right = if self.1 == "push" { self.0.insert(v, 0, s) } else { self.0.push(v, s) };
-        joined_wrongly(self.joining("push"), right, [v, &[s], &[]])
+        joined_wrongly(self.how("push"), right, [v, &[s], &[]])
     }
 
     fn insert(&mut self, v: &[Segment], index: usize, s: Segment) -> Result<Vec<Segment>, u8> {
         let right = if self.1 == "insert" { self.0.push(v, s) } else { self.0.insert(v, index, s) };
         let (before, after) = v.split_at(index.min(v.len()));
-        joined_wrongly(self.joining("insert"), right, [before, &[s], after])
+        joined_wrongly(self.how("insert"), right, [before, &[s], after])
     }
 
     fn append(&mut self, v: &[Segment], other: &[Segment]) -> Result<Vec<Segment>, u8> {
@@ -100,23 +124,20 @@ impl<V: Vectors> Vectors for WrongVectors<V> {
             "append before" => self.0.append(other, v),
             _ => self.0.append(v, other),
         };
-        joined_wrongly(self.joining("append"), right, [v, other, &[]])
+        joined_wrongly(self.how("append"), right, [v, other, &[]])
     }
 
-    fn split_at(&mut self, v: &[Segment], mid: u64) -> (Vec<Segment>, Vec<Segment>) {
-        if self.1 == "split_at" {
-            self.0.split_at(v, mid + 1)
-        } else {
-            self.0.split_at(v, mid)
-        }
+    fn split_at(&mut self, v: &[Segment], mid: u64) -> Halves {
+        let right = self.0.split_at(v, if self.1 == "split_at" { mid + 1 } else { mid });
+        let looked = looked_wrongly(self.how("split_at"), &right, v, mid);
+        Halves { looked, ..right }
     }
 
-    fn split_tail_at(&mut self, v: &[Segment], mid: u64) -> Vec<Segment> {
-        if self.1 == "split_tail_at" {
-            self.0.split_at(v, mid).0
-        } else {
-            self.0.split_tail_at(v, mid)
-        }
+    fn split_tail_at(&mut self, v: &[Segment], mid: u64) -> Tail {
+        let parts = self.0.split_at(v, mid);
+        let looked = looked_wrongly(self.how("split_tail_at"), &parts, v, mid);
+        let tail = self.0.split_tail_at(v, mid);
+        Tail { segments: if self.1 == "split_tail_at" { parts.head } else { tail.segments }, looked }
     }
 
     fn copy_into_slice(&mut self, v: &[Segment], slice: &mut [u8]) -> u8 {

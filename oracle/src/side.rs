@@ -167,13 +167,28 @@ pub trait Blockers {
     }
 }
 
+/// The two parts of a split, and how many segments the walk to it looks at (document 02, N2).
+#[derive(Clone, Debug, PartialEq, Eq)]
+pub struct Halves {
+    pub head: Vec<Segment>,
+    pub tail: Vec<Segment>,
+    pub looked: u64,
+}
+
+/// The tail alone.
+#[derive(Clone, Debug, PartialEq, Eq)]
+pub struct Tail {
+    pub segments: Vec<Segment>,
+    pub looked: u64,
+}
+
 /// The calls on a vector of segments of the data; the number of a refusal where there is one.
 pub trait Vectors {
     fn push(&mut self, v: &[Segment], s: Segment) -> Result<Vec<Segment>, u8>;
     fn insert(&mut self, v: &[Segment], index: usize, s: Segment) -> Result<Vec<Segment>, u8>;
     fn append(&mut self, v: &[Segment], other: &[Segment]) -> Result<Vec<Segment>, u8>;
-    fn split_at(&mut self, v: &[Segment], mid: u64) -> (Vec<Segment>, Vec<Segment>);
-    fn split_tail_at(&mut self, v: &[Segment], mid: u64) -> Vec<Segment>;
+    fn split_at(&mut self, v: &[Segment], mid: u64) -> Halves;
+    fn split_tail_at(&mut self, v: &[Segment], mid: u64) -> Tail;
     fn copy_into_slice(&mut self, v: &[Segment], slice: &mut [u8]) -> u8;
     fn copy_from_slice(&mut self, v: &[Segment], slice: &[u8]) -> u8;
     fn fill(&mut self, v: &[Segment], value: u8);

@@ -140,21 +140,26 @@ fn vectors_agree_with_the_rules_at_their_limits() {
     for _ in 0..40_000 {
         let s = extreme_beside(&mut random, &v);
         let index = random.pick(&[0, 1, v.len() / 2, v.len(), v.len() + 1, 16, 17, usize::MAX]);
-        let mid = random.pick(&[0, 1, s.length, total(&v).saturating_sub(1), total(&v), total(&v) + 1, u64::MAX]);
+        let (end, half) = (total(&v), total(&v) / 2);
+        let mid = random.pick(&[0, 1, s.length, half, half + 1, end.saturating_sub(1), end, end + 1, u64::MAX]);
         let tail = rules.split_tail_at(&v, mid);
         let pushed = rules.push(&v, s);
         assert_eq!(dock.push(&v, s), pushed, "{v:?} push {s:?}");
         assert_eq!(dock.insert(&v, index, s), rules.insert(&v, index, s), "{v:?} insert {index} {s:?}");
-        assert_eq!(dock.append(&v, &tail), rules.append(&v, &tail), "{v:?} append {tail:?}");
+        assert_eq!(dock.append(&v, &tail.segments), rules.append(&v, &tail.segments), "{v:?} append {tail:?}");
         assert_eq!(dock.split_at(&v, mid), rules.split_at(&v, mid), "{v:?} split_at {mid}");
         assert_eq!(dock.split_tail_at(&v, mid), tail, "{v:?} split_tail_at {mid}");
         assert_eq!(dock.fault(), None);
         joined += u64::from(pushed.as_ref().is_ok_and(|after| after.len() == v.len()));
         joined_to_longest +=
             u64::from(pushed.as_ref().is_ok_and(|after| after.len() == v.len() && total(after) == LONGEST_VECTOR));
-        v = pushed.unwrap_or(if random.once_in(8) { tail } else { v });
+        v = pushed.unwrap_or(if random.once_in(8) { tail.segments } else { v });
     }
     assert!(joined > 1000 && joined_to_longest > 100, "{joined} pushes joined, {joined_to_longest} to the longest");
+}
+
+fn refused(number: u8) -> Reply {
+    Reply { number: number.into(), count: 0, value: [0; 4] }
 }
 
 /// `is_aligned` wherever the data lies, and its refusals in document 01's order.
@@ -162,7 +167,6 @@ fn vectors_agree_with_the_rules_at_their_limits() {
 fn is_aligned_agrees_with_the_rules() {
     let mut random = Random::new(11, 2);
     let answers = |aligned: bool| Reply { number: NO_NUMBER, count: 1, value: [u64::from(aligned), 0, 0, 0] };
-    let refused = |number: u8| Reply { number: number.into(), count: 0, value: [0; 4] };
     for _ in 0..20_000 {
         let (mem, req) = (random.pick(&[1, 2, 512, 65_536]), random.pick(&[1, 2, 512, 65_536]));
         let align = random.pick(&[[mem, req, 1, 1], [mem, req, 1, 1], [mem, req, 512, 3], [mem, 131_072, 1, 1]]);
@@ -216,18 +220,18 @@ fn words_that_are_no_vector_are_refused() {
         let wrong = no_vector(&mut random);
         let (mut v, mut tail, mut kept) = (wrong, [5; 34], right);
         let (mut data, mut slice) = ([7; 8], [9; 2]);
+        let splits = [vector_split_at(&mut v, &mut tail, 1, 8), vector_split_tail_at(&mut v, 1, 8)];
         let answers = [
             vector_push(&mut v, one, 8),
             vector_insert(&mut v, 0, one, 8),
             vector_append(&mut v, &right, 8),
             vector_append(&mut kept, &wrong, 8),
-            vector_split_at(&mut v, &mut tail, 1, 8),
-            vector_split_tail_at(&mut v, 1, 8),
             vector_copy_into_slice(&wrong, &data, &mut slice),
             vector_copy_from_slice(&wrong, &mut data, &slice),
             vector_fill(&wrong, &mut data, 1),
         ];
-        assert_eq!(answers, [SEGMENT; 9], "{wrong:?}");
+        assert_eq!(answers, [SEGMENT; 7], "{wrong:?}");
+        assert_eq!(splits, [refused(SEGMENT); 2], "{wrong:?}");
         assert_eq!((v, tail, kept, data, slice), (wrong, [5; 34], right, [7; 8], [9; 2]), "{wrong:?}");
     }
 }

@@ -1,7 +1,7 @@
 //! Lines that the program `vector_cases` of this repository prints, given by imago's vectors after the same joining.
 
 use oracle::imago_parts::ImagoVectors;
-use oracle::side::{Segment, Vectors};
+use oracle::side::{Halves, Segment, Vectors};
 
 const PRINTED: &str = include_str!("../../crates/vector_cases/stdout");
 const LETTERS: &[u8] = b"abcdefghijklmnopqrstuvwxyz";
@@ -38,19 +38,25 @@ fn changed(v: &[Segment], result: Result<Vec<Segment>, u8>) -> String {
     }
 }
 
+fn halves(mid: u64, h: Halves) -> String {
+    format!("split at {mid}: done, {} | {}, {} looked at", text(&h.head), text(&h.tail), h.looked)
+}
+
 #[test]
 fn splits() {
     let mut side = ImagoVectors::new(LETTERS);
     for mid in [0, 1, 2, 3, 4, 6, 7, 8, 11, 12, 13, u64::MAX] {
-        let (head, tail) = side.split_at(&three(), mid);
-        check(format!("split at {mid}: done, {} | {}", text(&head), text(&tail)));
+        check(halves(mid, side.split_at(&three(), mid)));
     }
     for mid in [0, 1] {
-        let (head, tail) = side.split_at(&[], mid);
-        check(format!("split at {mid}: done, {} | {}", text(&head), text(&tail)));
+        check(halves(mid, side.split_at(&[], mid)));
     }
-    for mid in [0, 3, 4, 12, 13] {
-        check(format!("tail from {mid}: done, {}", text(&side.split_tail_at(&three(), mid))));
+    for mid in [6, 7, 8] {
+        check(halves(mid, side.split_at(&segments(&[(2, 3), (8, 4), (19, 7)]), mid)));
+    }
+    for mid in [0, 3, 4, 7, 12, 13] {
+        let tail = side.split_tail_at(&three(), mid);
+        check(format!("tail from {mid}: done, {}, {} looked at", text(&tail.segments), tail.looked));
     }
 }
 
