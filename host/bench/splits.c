@@ -1,5 +1,5 @@
-/* Cuts of a vector of 16 segments by two libraries in turn: see the script splits. The one of before has every name with
- * before_ in front, and its splits return a byte. */
+/* Cuts of a vector of 16 segments by two libraries in turn: see the script splits. The one of before has before_ in
+ * front of every name, and its splits return a byte. */
 #include "../dock.h"
 
 #include <stdio.h>
@@ -131,8 +131,8 @@ int main(void)
         }
         time_pair(alone, mid, a);
         time_pair(both, mid, b);
-        printf("| %d | %d | %.1f | %.1f | %.2f | %.1f | %.1f | %.2f |\n", tails[i], (int)looked, a[0], a[1], a[1] / a[0],
-               b[0], b[1], b[1] / b[0]);
+        printf("| %d | %d | %.1f | %.1f | %.2f |", tails[i], (int)looked, a[0], a[1], a[1] / a[0]);
+        printf(" %.1f | %.1f | %.2f |\n", b[0], b[1], b[1] / b[0]);
     }
     return EXIT_SUCCESS;
 }
