@@ -88,11 +88,14 @@ module _ (v : IoVector) (mid i rest : ℕ) (g : Forth v mid i rest) where
         absurd (omega (arith, g .sum, g .before-end, before v (g .wide) s i, ap (λ (k : ℕ). sizeOf (drop k (segmentsOf v))) e, rest-none v (g .wide) s))
   ]
 
+  -- one segment more before
+  more : sizeOf (take (i + 1) (segmentsOf v)) ≡ sizeOf (take i (segmentsOf v)) + nth v i .length
+  more = omega (arith, before v (g .wide) s i, before v (g .wide) s (i + 1), step v (g .wide) s i (forth-few .0) .0)
+
   found : rest < nth v i .length → positionOf (segmentsOf v) mid ≡ position i rest
   found l =
       let e : mid - sizeOf (take i (segmentsOf v)) ≡ rest = omega (arith, g .sum) in
-      let b : mid < sizeOf (take (i + 1) (segmentsOf v)) =
-      omega (arith, g .sum, before v (g .wide) s i, before v (g .wide) s (i + 1), step v (g .wide) s i (forth-few .0) .0) in
+      let b : mid < sizeOf (take (i + 1) (segmentsOf v)) = omega (arith, g .sum, more) in
       position-at (segmentsOf v) i mid (omega (arith, long v (g .wide) s, forth-few .0)) (omega (arith, g .sum)) b ∙ ap (λ (m : ℕ). position i m) e
 
   pub forth-clean : rest ≡ 0 → meeting (position i 0) i ≡ splitAt (segmentsOf v) mid
@@ -110,7 +113,7 @@ module _ (v : IoVector) (mid i rest : ℕ) (g : Forth v mid i rest) where
     before-end = g .before-end;
     half = g .half;
     reach = omega (arith, forth-few .0);
-    sum = omega (arith, g .sum, before v (g .wide) s i, before v (g .wide) s (i + 1), step v (g .wide) s i (forth-few .0) .0);
+    sum = omega (arith, g .sum, more);
   }
 
 -- ---- past half, from the last segment: `rest` bytes and those from i on are the tail
