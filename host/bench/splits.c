@@ -57,6 +57,12 @@ static double now_ns(void)
     return (double)time.tv_sec * 1e9 + (double)time.tv_nsec;
 }
 
+static void stop(const char *what)
+{
+    fprintf(stderr, "splits: %s\n", what);
+    exit(EXIT_FAILURE);
+}
+
 static double calls_take(cut *f, uint64_t mid, uint64_t calls)
 {
     double start = now_ns();
@@ -64,10 +70,8 @@ static double calls_take(cut *f, uint64_t mid, uint64_t calls)
     uint64_t i;
     for (i = 0; i < calls; i++)
         refused |= f(mid);
-    if (refused != 0) {
-        puts("splits: a split is refused");
-        exit(EXIT_FAILURE);
-    }
+    if (refused != 0)
+        stop("a split is refused");
     return now_ns() - start;
 }
 
@@ -125,14 +129,14 @@ int main(void)
         uint64_t looked = dock_words_vector_split_tail_at(v.words, mid, DATA).value[0];
         double a[2];
         double b[2];
-        if (!is_same(both, mid) || !is_same(alone, mid)) {
-            puts("splits: the two give other parts");
-            return EXIT_FAILURE;
-        }
+        if (!is_same(both, mid) || !is_same(alone, mid))
+            stop("the two libraries give other parts");
         time_pair(alone, mid, a);
         time_pair(both, mid, b);
         printf("| %d | %d | %.1f | %.1f | %.2f |", tails[i], (int)looked, a[0], a[1], a[1] / a[0]);
         printf(" %.1f | %.1f | %.2f |\n", b[0], b[1], b[1] / b[0]);
+        if (fflush(stdout) != 0)
+            stop("the table cannot be written");
     }
     return EXIT_SUCCESS;
 }
