@@ -1,6 +1,7 @@
 -- What the contracts of arithmetic cite, in the order of document 01, and the laws on it.
 pub mod Refusals
 pub mod Loops
+pub mod Rows
 pub mod Rounding
 pub mod Offsets
 pub mod Powers

@@ -26,7 +26,7 @@ use Rattle.stages.specs.declared.state.Course.{Course}
 use Rattle.stages.specs.declared.state.Course.the-variants.{Last, Middle, Head, Chunks}
 use Rattle.stages.specs.declared.state.State.{State}
 use Rattle.dock.specs.Dock.{noState, noVector}
-use Rattle.dock_words.specs.Rows.{rows, row, put, rows-get, rows-put, row-word, row-length, row-set, part-put}
+use Rattle.arithmetic.specs.Rows.{rows, row, put, rows-get, rows-put, row-word, row-length, row-set, part-put}
 use Rattle.dock_words.specs.View.{flagOf, flagWord, phaseOf, phaseTag, jobOf, jobTag, courseOf, courseTag, kindOf, kindTag, stageOf}
 use Rattle.dock_words.specs.View.{stateFrom, stateWords, blockerOf, blockerWords, segmentOf, segmentWords, vectorFrom, vectorWords}
 use Rattle.dock_words.specs.View.{blockersOf, statesOf, vectorsOf}

@@ -1,5 +1,4 @@
 -- What lent words mean, and that what is put is what is got.
-pub mod Rows
 pub mod View
 pub mod Laws
 pub mod CallWords

@@ -27,7 +27,7 @@ use Rattle.stages.specs.declared.state.Course.the-variants.{Last, Middle, Head,
 use Rattle.stages.specs.declared.state.Stage.{Stage}
 use Rattle.stages.specs.declared.state.State.{State}
 use Rattle.dock.specs.declared.dock.Dock.{Dock}
-use Rattle.dock_words.specs.Rows.{rows}
+use Rattle.arithmetic.specs.Rows.{rows}
 
 -- ---- one word
 

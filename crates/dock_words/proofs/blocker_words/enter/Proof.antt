@@ -2,7 +2,7 @@
 use mathlib.Core.Path.{refl, sym, ap, _∙_}
 use Rattle.blockers.specs.Blockers.{present}
 use Rattle.blockers.specs.Laws.{enter-done, enter-past, enter-taken}
-use Rattle.dock_words.specs.Rows.{part-length}
+use Rattle.arithmetic.specs.Rows.{part-length}
 use Rattle.dock_words.specs.View.{blockersOf}
 use Rattle.dock_words.specs.Laws.{kind-word, blocker-part}
 use Rattle.dock_words.specs.CallWordsLaws.{same-words, done-words}

@@ -7,7 +7,7 @@ use mathlib.Core.List.{List, map}
 use lib.ListN.{length, set, length-map, length-set}
 use Rattle.blockers.specs.Blockers.{blockerAt, nowhere, forgetting}
 use Rattle.blockers.specs.declared.Blockers.{Blockers}
-use Rattle.dock_words.specs.Rows.{rows-length}
+use Rattle.arithmetic.specs.Rows.{rows-length}
 use Rattle.dock_words.specs.View.{blockerOf, blockersOf}
 use Rattle.dock_words.specs.Laws.{note-cleared}
 use Rattle.arithmetic.specs.Loops.{Mapped, mapped-none, mapped-more, like-all}

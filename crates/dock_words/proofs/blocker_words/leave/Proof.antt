@@ -3,7 +3,7 @@ use borrow.Author.Tests.{not-true, not-false}
 use mathlib.Core.Path.{refl, sym, ap, _∙_}
 use Rattle.blockers.specs.Blockers.{present}
 use Rattle.blockers.specs.Laws.{leave-done, leave-past, leave-none}
-use Rattle.dock_words.specs.Rows.{part-length}
+use Rattle.arithmetic.specs.Rows.{part-length}
 use Rattle.dock_words.specs.View.{blockersOf}
 use Rattle.dock_words.specs.Laws.{kind-word, blocker-part}
 use Rattle.dock_words.specs.CallWordsLaws.{same-words, done-words}

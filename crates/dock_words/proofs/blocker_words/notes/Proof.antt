@@ -7,7 +7,7 @@ use lib.ListN.{length, length-map}
 use Rattle.arithmetic.specs.declared.offsets.Range.{Range}
 use Rattle.blockers.specs.Blockers.{notes, notesOf}
 use Rattle.blockers.specs.declared.Kind.{Kind}
-use Rattle.dock_words.specs.Rows.{rows-length, row-part, part-length}
+use Rattle.arithmetic.specs.Rows.{rows-length, row-part, part-length}
 use Rattle.dock_words.specs.View.{blockerOf, blockersOf}
 use Rattle.dock_words.specs.Laws.{note-at}
 use Rattle.arithmetic.specs.Loops.{Like, like-more, like-all}

@@ -10,7 +10,7 @@ use lib.ListN.{getD}
 use Rattle.arithmetic.specs.Loops.{any-here, any-none}
 use Rattle.blockers.specs.Blockers.{waitsOf, present, isEntered, blockerAt, hasNoted}
 use Rattle.blockers.specs.Laws.{past-free}
-use Rattle.dock_words.specs.Rows.{rows-length}
+use Rattle.arithmetic.specs.Rows.{rows-length}
 use Rattle.dock_words.specs.View.{flagOf, kindOf, blockerOf, blockersOf}
 use Rattle.dock_words.specs.Laws.{kind-word, note-word}
 use Rattle.dock_words.proofs.blocker_words.waits.Statement.{statement}

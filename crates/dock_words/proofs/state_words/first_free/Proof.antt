@@ -9,7 +9,7 @@ use mathlib.Core.Path.{_≡_, ap, sym, _∙_}
 use mathlib.Core.Bool.{Bool}
 use Rattle.stages.specs.Stages.{isFree}
 use Rattle.dock.specs.Dock.{noState}
-use Rattle.dock_words.specs.Rows.{rows-length}
+use Rattle.arithmetic.specs.Rows.{rows-length}
 use Rattle.dock_words.specs.View.{phaseOf, stateFrom, statesOf}
 use Rattle.dock_words.specs.Laws.{phase-word}
 use Rattle.dock.specs.SlotLaws.{NoneFree, lowest-here, lowest-none}

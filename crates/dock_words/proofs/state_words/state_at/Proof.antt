@@ -1,6 +1,6 @@
 -- `dock_words::state_words::state_at` meets its contract: the slot's row, decoded, is its state. Assumes nothing.
 use mathlib.Core.Path.{sym, ap, _∙_}
-use Rattle.dock_words.specs.Rows.{row-part}
+use Rattle.arithmetic.specs.Rows.{row-part}
 use Rattle.dock_words.specs.View.{stateFrom}
 use Rattle.dock_words.specs.Laws.{state-row}
 use borrow.Author.Needs.{needs}

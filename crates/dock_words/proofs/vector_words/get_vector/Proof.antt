@@ -5,7 +5,7 @@ use mathlib.Core.List.{List}
 use mathlib.Core.Path.{_≡_, refl, sym}
 use lib.ListN.{length, drop}
 use Rattle.vectors.specs.Vectors.{none}
-use Rattle.dock_words.specs.Rows.{rows-length}
+use Rattle.arithmetic.specs.Rows.{rows-length}
 use Rattle.dock_words.specs.View.{vectorFrom, segmentOf}
 use Rattle.dock_words.specs.Laws.{segment-words}
 use Rattle.arithmetic.specs.Loops.{Like, like-more, like-all}
