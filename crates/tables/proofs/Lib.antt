@@ -1,0 +1,2 @@
+-- What the proofs of loading cite.
+pub mod Loading

@@ -1,0 +1,6 @@
+-- What the contracts of tables cite, and the laws on it.
+pub mod Tables
+pub mod TablesLaws
+pub mod Writing
+pub mod Words
+pub mod WordsLaws
