@@ -9,7 +9,6 @@ use arithmetic::settings::Buffers;
 use arithmetic::settings::Profile;
 use arithmetic::settings::Settings;
 use arithmetic::settings::check_opening;
-use arithmetic::settings::drive_profile;
 use blockers::Blockers;
 use stages::state::Course;
 use stages::state::Job;
@@ -18,7 +17,7 @@ use stages::state::Stage;
 use stages::state::State;
 use vectors::vector::IoVector;
 ghost use mathlib.Core.Path.{_≡_};
-ghost use Rattle.dock.specs.Dock.{vacant, fresh, openOf, openProfileOf};
+ghost use Rattle.dock.specs.Dock.{vacant, fresh, openOf, openBy};
 
 // A dock, and whether it was opened: one that was not refuses every begin likewise.
 pub struct Opened {
@@ -77,11 +76,11 @@ pub fn open(settings: Settings, buffers: Buffers) -> Opened
     Opened { dock, outcome }
 }
 
-// Open by drive profile (document 01: a drive row): refused with 201, then 205.
-pub fn open_profile(index: usize, bounce: u64, buffers: Buffers) -> Opened
-    ensures { λ o. ⌜ o ≡ openProfileOf index bounce buffers ⌝ }
+// Open by drive profile (document 01: a drive row), a built-in one or one of a loaded table: refused with 201, then 205.
+pub fn open_by(profile: Profile, bounce: u64, buffers: Buffers) -> Opened
+    ensures { λ o. ⌜ o ≡ openBy profile bounce buffers ⌝ }
 {
-    match drive_profile(index) {
+    match profile {
         Profile::Of(align) => open(Settings { align, bounce }, buffers),
         Profile::Refused(r) => {
             let align = Alignments {

@@ -17,12 +17,13 @@ use arithmetic::settings::Alignments;
 use arithmetic::settings::Buffers;
 use arithmetic::settings::Lent;
 use arithmetic::settings::Settings;
+use arithmetic::settings::drive_profile;
 use dock::begin::Asked;
 use dock_words::arrays::begin;
 use dock_words::arrays::collect;
 use dock_words::arrays::next;
 use dock_words::arrays::open;
-use dock_words::arrays::open_profile;
+use dock_words::arrays::open_by;
 use dock_words::arrays::piece;
 use dock_words::arrays::settings_of;
 use dock_words::arrays::tell;
@@ -116,7 +117,8 @@ pub extern "C" fn dock_words_open_row(
         length: scratch_length,
     };
     let b = Buffers { data, scratch };
-    let outcome = open_profile(settings, blockers, states, vectors, row, share, b);
+    let profile = drive_profile(row);
+    let outcome = open_by(settings, blockers, states, vectors, profile, share, b);
     outcome.number()
 }
 

@@ -5,6 +5,7 @@ use crate::vector_words::put_vector;
 use arithmetic::offsets::Range;
 use arithmetic::refusals::Outcome;
 use arithmetic::settings::Buffers;
+use arithmetic::settings::Profile;
 use arithmetic::settings::Settings;
 use blockers::Kind;
 use dock::begin::Asked;
@@ -15,7 +16,7 @@ use dock::tell::Collected;
 use vectors::vector::IoVector;
 ghost use mathlib.Core.Path.{_≡_};
 ghost use Rattle.blockers.specs.Blockers.{enteredOf, leftOf, waitsOf};
-ghost use Rattle.dock.specs.Dock.{openOf, openProfileOf};
+ghost use Rattle.dock.specs.Dock.{openOf, openBy};
 ghost use Rattle.dock.specs.Begin.{beginOf};
 ghost use Rattle.dock.specs.Next.{nextOf, pieceOf};
 ghost use Rattle.dock.specs.Tell.{tellOf, collectOf, CollectGives};
@@ -53,21 +54,21 @@ pub fn open(
     crate::calls::open(settings, blockers, states, vectors, s, b)
 }
 
-// Open by drive profile (document 01: a drive row): refused with 201, then 205.
-pub fn open_profile(
+// Open by drive profile (document 01: a drive row), a built-in one or one of a loaded table: refused with 201, then 205.
+pub fn open_by(
     settings: &mut [u64; 9],
     blockers: &mut [u64; 88],
     states: &mut [u64; 144],
     vectors: &mut [u64; 272],
-    index: usize,
+    profile: Profile,
     bounce: u64,
     b: Buffers,
 ) -> Outcome
-    ensures { λ r. ⌜ (r ≡ openProfileOf index bounce b .outcome) × opensOver (openProfileOf index bounce b)
+    ensures { λ r. ⌜ (r ≡ openBy profile bounce b .outcome) × opensOver (openBy profile bounce b)
         (now (settings .entry)) (now (blockers .entry)) (now (states .entry)) (now (vectors .entry))
         (now (settings .exit)) (now (blockers .exit)) (now (states .exit)) (now (vectors .exit)) ⌝ }
 {
-    crate::calls::open_profile(settings, blockers, states, vectors, index, bounce, b)
+    crate::calls::open_by(settings, blockers, states, vectors, profile, bounce, b)
 }
 
 // Begin what is asked, in the lowest free slot.

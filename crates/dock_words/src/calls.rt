@@ -20,7 +20,6 @@ use arithmetic::settings::Buffers;
 use arithmetic::settings::Profile;
 use arithmetic::settings::Settings;
 use arithmetic::settings::check_opening;
-use arithmetic::settings::drive_profile;
 use dock::begin::Asked;
 use dock::begin::Begun;
 use dock::begin::decide;
@@ -38,7 +37,7 @@ use dock::tell::Collected;
 use stages::state::has_ended;
 use vectors::vector::IoVector;
 ghost use mathlib.Core.Path.{_≡_};
-ghost use Rattle.dock.specs.Dock.{fresh, openOf, openProfileOf};
+ghost use Rattle.dock.specs.Dock.{fresh, openOf, openBy};
 ghost use Rattle.dock.specs.Begin.{beginOf};
 ghost use Rattle.dock.specs.Next.{nextOf, pieceOf};
 ghost use Rattle.dock.specs.Tell.{tellOf, collectOf, CollectGives};
@@ -87,21 +86,21 @@ pub(crate) fn open(
 }
 
 // Open by drive profile: refused with 201, then 205.
-pub(crate) fn open_profile(
+pub(crate) fn open_by(
     settings: &mut [u64],
     blockers: &mut [u64],
     states: &mut [u64],
     vectors: &mut [u64],
-    index: usize,
+    profile: Profile,
     bounce: u64,
     b: Buffers,
 ) -> Outcome
     requires { ⌜ DockWords (now settings) (now blockers) (now states) (now vectors) ⌝ }
-    ensures { λ r. ⌜ (r ≡ openProfileOf index bounce b .outcome) × opensOver (openProfileOf index bounce b)
+    ensures { λ r. ⌜ (r ≡ openBy profile bounce b .outcome) × opensOver (openBy profile bounce b)
         (now (settings .entry)) (now (blockers .entry)) (now (states .entry)) (now (vectors .entry))
         (now (settings .exit)) (now (blockers .exit)) (now (states .exit)) (now (vectors .exit)) ⌝ }
 {
-    match drive_profile(index) {
+    match profile {
         Profile::Of(align) => {
             let s = Settings { align, bounce };
             open(settings, blockers, states, vectors, s, b)

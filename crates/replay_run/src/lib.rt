@@ -26,6 +26,7 @@ use arithmetic::offsets::StoreOffset;
 use arithmetic::refusals::Outcome;
 use arithmetic::settings::Buffers;
 use arithmetic::settings::Lent;
+use arithmetic::settings::drive_profile;
 use dock::begin::Asked;
 use dock::dock::Dock;
 use dock::next::Due;
@@ -70,7 +71,7 @@ fn open(row: u64, bounce: u64, data_len: usize, scratch_len: usize) -> Opened {
         length: scratch_len as u64,
     };
     let buffers = Buffers { data, scratch };
-    dock::open::open_profile(row as usize, bounce, buffers)
+    dock::open::open_by(drive_profile(row as usize), bounce, buffers)
 }
 
 // No dock is open at the start: every begin is refused.

@@ -9,6 +9,7 @@ use Rattle.arithmetic.specs.declared.refusals.Outcome.the-variants.{Done}
 use Rattle.arithmetic.specs.declared.offsets.Range.{Range}
 use Rattle.arithmetic.specs.declared.settings.Settings.{Settings}
 use Rattle.arithmetic.specs.declared.settings.Buffers.{Buffers}
+use Rattle.arithmetic.specs.declared.settings.Profile.{Profile}
 use Rattle.vectors.specs.Vectors.{isValid}
 use Rattle.vectors.specs.declared.vector.IoVector.{IoVector}
 use Rattle.blockers.specs.Blockers.{present, blockerAt, strength}
@@ -17,7 +18,7 @@ use Rattle.blockers.specs.declared.Kind.{Kind}
 use Rattle.stages.specs.Stages.{sizeOf, isFree, isPending, isBlocking, isSound}
 use Rattle.stages.specs.Laws.{StageOnStore}
 use Rattle.stages.specs.declared.state.State.{State}
-use Rattle.dock.specs.Dock.{stateAt, vectorAt, openOf, openProfileOf}
+use Rattle.dock.specs.Dock.{stateAt, vectorAt, openOf, openBy}
 use Rattle.dock.specs.Begin.{beginOf}
 use Rattle.dock.specs.Tell.{tellOf, collectOf}
 use Rattle.dock.specs.declared.dock.Dock.{Dock}
@@ -62,7 +63,7 @@ pub record Held (d : Dock) : Type 0 where
 -- included.
 pub data Made : Dock → Type 0 where
   opens : (s : Settings) (b : Buffers) → openOf s b .outcome ≡ Done → Made (openOf s b .dock)
-  opens-profile : (i n : ℕ) (b : Buffers) → openProfileOf i n b .outcome ≡ Done → Made (openProfileOf i n b .dock)
+  opens-by : (f : Profile) (n : ℕ) (b : Buffers) → openBy f n b .outcome ≡ Done → Made (openBy f n b .dock)
   begins : {d : Dock} → Made d → (q : Asked) (memory scratch : List ℕ) → Made (beginOf d q memory scratch .dock)
   tells : {d : Dock} → Made d → (p code : ℕ) (memory scratch : List ℕ) → Made (tellOf d p code memory scratch .dock)
   collects : {d : Dock} → Made d → (p m n : ℕ) → Made (collectOf d p m n .dock)

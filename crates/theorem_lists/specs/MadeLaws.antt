@@ -10,7 +10,6 @@ use lib.ListN.{length}
 use borrow.Author.Tests.{ltb-true, eqb-true, le-leb}
 use Rattle.arithmetic.specs.Rounding.{pick}
 use Rattle.arithmetic.specs.SettingsLaws.{and-left, opened}
-use Rattle.arithmetic.specs.Settings.{profileOf}
 use Rattle.arithmetic.specs.declared.refusals.Refusal.the-variants.{Buffer, Slot, NoAnswer}
 use Rattle.arithmetic.specs.declared.refusals.Outcome.the-variants.{Done}
 use Rattle.arithmetic.specs.declared.settings.Buffers.{Buffers}
@@ -21,7 +20,7 @@ use Rattle.stages.specs.Stages.{isPending, toldOf, hasEnded}
 use Rattle.stages.specs.declared.state.State.{State}
 use Rattle.stages.specs.declared.plan.Plan.{Plan}
 use Rattle.stages.specs.declared.plan.Plan.the-variants.{Done as NothingToDo, Started, Refused as PlanRefused}
-use Rattle.dock.specs.Dock.{stateAt, vectorAt, shareAt, vacant, openOf, openBy, openProfileOf, lentFits, lentOf, isOutBy, isOut, overlapsOf}
+use Rattle.dock.specs.Dock.{stateAt, vectorAt, shareAt, vacant, openOf, openBy, lentFits, lentOf, isOutBy, isOut, overlapsOf}
 use Rattle.dock.specs.Dock.{firstFree}
 use Rattle.dock.specs.Begin.{admitAt, withJob, Begins, storedWith, vectorFor, planFor, decidedFor, beginOf}
 use Rattle.dock.specs.Next.{isSoundIn, isSoundOf}
@@ -32,7 +31,7 @@ use Rattle.dock.specs.declared.begin.Asked.{Asked}
 use Rattle.dock.specs.declared.tell.Answered.the-variants.{Leads, Refused as NoLead}
 use Rattle.dock.specs.declared.tell.Collects.{Collects}
 use Rattle.dock.specs.declared.tell.Collected.the-variants.{Final, Refused as NotCollected}
-use Rattle.theorem_lists.specs.Held.{Held, Made, opens, opens-profile, begins, tells, collects}
+use Rattle.theorem_lists.specs.Held.{Held, Made, opens, opens-by, begins, tells, collects}
 use Rattle.theorem_lists.specs.Keeping.{fresh-held}
 use Rattle.theorem_lists.specs.Calls.{Ready, planned-ready, begunRule, admit-done, admit-held, after, told-done, told-held}
 use Rattle.theorem_lists.specs.Calls.{freed-held}
@@ -181,9 +180,9 @@ profile-held (Of a) n b e = fresh-held (record { align = a; bounce = n }) b e
 profile-held (NoProfile r) n b e = let z : _≡_ {A = ℕ} 0 1 = cc in absurd (omega arith)
 
 pub made-held : {d : Dock} → Made d → Held d
-unfolding openOf openProfileOf
+unfolding openOf
 made-held (opens s b e) = fresh-held s b e
-made-held (opens-profile i n b e) = profile-held (profileOf i) n b e
+made-held (opens-by f n b e) = profile-held f n b e
 made-held (begins {d} k q memory scratch) = begin-held d (made-held k) q memory scratch
 made-held (tells {d} k p code memory scratch) = tell-held d (made-held k) p code memory scratch
 made-held (collects {d} k p m n) = collect-held d (made-held k) p m n
