@@ -10,6 +10,8 @@ use Rattle.arithmetic.specs.declared.refusals.Outcome.{Outcome}
 use Rattle.arithmetic.specs.declared.refusals.Outcome.the-variants.{Done, Refused}
 use Rattle.arithmetic.specs.declared.settings.Settings.{Settings}
 use Rattle.arithmetic.specs.declared.settings.Buffers.{Buffers}
+use Rattle.arithmetic.specs.declared.settings.Profile.{Profile}
+use Rattle.arithmetic.specs.declared.settings.Profile.the-variants.{Of as Profiled, Refused as NoProfile}
 use Rattle.arithmetic.specs.declared.planner.Count.{Count}
 use Rattle.arithmetic.specs.declared.planner.Count.the-variants.{Chunks, Refused as NotCounted}
 use Rattle.arithmetic.specs.declared.planner.Planned.{Planned}
@@ -30,6 +32,8 @@ use Rattle.dock.specs.declared.tell.Collected.{Collected}
 use Rattle.dock.specs.declared.tell.Collects.{Collects}
 use Rattle.dock.specs.declared.numbers.Number.{Number}
 use Rattle.dock.specs.declared.numbers.Number.the-variants.{Of, None}
+use Rattle.tables.specs.Words.{tableWords}
+use Rattle.tables.specs.declared.table.Loaded.{Loaded}
 use Rattle.dock_words.specs.View.{blockersOf, vectorWords}
 use Rattle.dock_words.specs.CallWords.{sameUnless}
 use Rattle.dock_c.specs.declared.replies.Reply.{Reply}
@@ -82,6 +86,11 @@ abbrev pub splitPaper : Outcome → ℕ → Paper
 splitPaper Done n = record { number = Of 0; values = n ∷ [] }
 splitPaper (Refused r) n = numbered (numberOf r)
 
+-- a row of a drive table (document 02, N3): M, R, Z, D
+abbrev pub profilePaper : Profile → Paper
+profilePaper (Profiled a) = valued (a .mem ∷ a .req ∷ a .zero ∷ a .discard ∷ [])
+profilePaper (NoProfile r) = numbered (numberOf r)
+
 -- collect: the number that `collectedPaper` gives
 abbrev pub collectedNumber : Collected → ℕ
 collectedNumber c = numberWord (collectedPaper c .number)
@@ -112,6 +121,10 @@ SplitsTailAs t r words = (r ≡ replyOf (splitPaper (t .outcome) (t .looked))) �
 
 abbrev pub MovesAs : Bool → List ℕ → List ℕ → ℕ → List ℕ → Type 0
 MovesAs t moved old r bytes = (r ≡ outcomeNumber (outcomeOf t)) × (bytes ≡ pick t moved old)
+
+-- of a load of a drive table, in every word: a refusal leaves them
+abbrev pub LoadsAs : Loaded → ℕ → List ℕ → List ℕ → Type 0
+LoadsAs l r before after = (r ≡ outcomeNumber (l .outcome)) × (after ≡ whenDone (l .outcome) (tableWords (l .table)) (λ z. before))
 
 -- and of one on the blockers, whose words a refusal leaves
 abbrev pub BlocksAs : Changed → ℕ → List ℕ → List ℕ → Type 0

@@ -2,6 +2,7 @@
 // words.
 mod replies; // answers, as they cross
 pub mod parts; // vectors and blockers alone
+pub mod drive_tables; // loading a drive table, and its rows
 
 use crate::replies::Reply;
 use crate::replies::begun_reply;
@@ -28,17 +29,20 @@ use dock_words::arrays::piece;
 use dock_words::arrays::settings_of;
 use dock_words::arrays::tell;
 use dock_words::arrays::vector_of;
+use tables::words::row_of;
 ghost use mathlib.Core.Path.{_≡_};
 ghost use Rattle.arithmetic.specs.Offsets.{storeAt};
 ghost use Rattle.arithmetic.specs.Refusals.{outcomeNumber, isDone};
 ghost use Rattle.arithmetic.specs.Planner.{countOf, plannedOf};
-ghost use Rattle.dock.specs.Dock.{openOf, openProfileOf};
+ghost use Rattle.dock.specs.Dock.{openOf, openBy, openProfileOf};
 ghost use Rattle.dock.specs.Begin.{beginOf, readOf, writeOf, zeroesOf, discardOf};
 ghost use Rattle.dock.specs.Next.{nextOf, pieceOf};
 ghost use Rattle.dock.specs.Tell.{tellOf, collectOf};
 ghost use Rattle.dock.specs.Numbers.{duePaper, piecePaper};
 ghost use Rattle.dock_words.specs.View.{flagOf, settingsOf, vectorFrom, dockOf};
 ghost use Rattle.dock_words.specs.CallWords.{isAdmitted, isFinal, sameTwo, sameThree, opensOver};
+ghost use Rattle.tables.specs.Tables.{profileIn};
+ghost use Rattle.tables.specs.Words.{tableFrom};
 ghost use Rattle.dock_c.specs.Replies.{settingsBy, buffersBy, replyOf, countPaper, plannedPaper, BeginsAs, TellsAs, CollectsAs};
 
 // Open with alignments.
@@ -118,6 +122,42 @@ pub extern "C" fn dock_words_open_row(
     };
     let b = Buffers { data, scratch };
     let profile = drive_profile(row);
+    let outcome = open_by(settings, blockers, states, vectors, profile, share, b);
+    outcome.number()
+}
+
+// Open by a row of a loaded drive table (document 02, N3), which stands in the place of the built-in rows.
+#[no_mangle]
+pub extern "C" fn dock_words_open_table(
+    settings: &mut [u64; 9],
+    blockers: &mut [u64; 88],
+    states: &mut [u64; 144],
+    vectors: &mut [u64; 272],
+    table: &[u64; 257],
+    row: usize,
+    share: u64,
+    data_address: u64,
+    data_length: u64,
+    scratch_address: u64,
+    scratch_length: u64,
+) -> u8
+    ensures number { λ r. ⌜ r ≡ outcomeNumber (openBy (profileIn (tableFrom (now (table .entry))) row) share
+        (buffersBy data_address data_length «scratch_address» «scratch_length») .outcome) ⌝ }
+    ensures words { λ _. ⌜ opensOver (openBy (profileIn (tableFrom (now (table .entry))) row) share
+        (buffersBy data_address data_length «scratch_address» «scratch_length»))
+        (now (settings .entry)) (now (blockers .entry)) (now (states .entry)) (now (vectors .entry))
+        (now (settings .exit)) (now (blockers .exit)) (now (states .exit)) (now (vectors .exit)) ⌝ }
+{
+    let data = Lent {
+        address: data_address,
+        length: data_length,
+    };
+    let scratch = Lent {
+        address: scratch_address,
+        length: scratch_length,
+    };
+    let b = Buffers { data, scratch };
+    let profile = row_of(table, row);
     let outcome = open_by(settings, blockers, states, vectors, profile, share, b);
     outcome.number()
 }

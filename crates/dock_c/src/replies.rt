@@ -2,6 +2,7 @@
 use arithmetic::planner::Count;
 use arithmetic::planner::Planned;
 use arithmetic::refusals::Outcome;
+use arithmetic::settings::Profile;
 use dock::begin::Begun;
 use dock::next::Due;
 use dock::next::Piece;
@@ -12,7 +13,7 @@ use stages::state::size;
 use vectors::vector::Alignment;
 ghost use mathlib.Core.Path.{_≡_};
 ghost use Rattle.dock.specs.Numbers.{kindNumber, begunPaper, duePaper, piecePaper};
-ghost use Rattle.dock_c.specs.Replies.{replyOf, numbers, countPaper, plannedPaper, alignmentPaper, splitPaper};
+ghost use Rattle.dock_c.specs.Replies.{replyOf, numbers, countPaper, plannedPaper, alignmentPaper, splitPaper, profilePaper};
 ghost use Rattle.dock_c.specs.Replies.{collectedNumber};
 
 // The number that stands for none: an answer that has values alone.
@@ -141,6 +142,15 @@ pub(crate) fn alignment_reply(a: Alignment) -> Reply
         Alignment::Aligned => reply_values(1, 1, 0, 0, 0),
         Alignment::Unaligned => reply_values(1, 0, 0, 0, 0),
         Alignment::Refused(r) => reply_number(r.number() as u64),
+    }
+}
+
+pub(crate) fn profile_reply(p: Profile) -> Reply
+    ensures { λ r. ⌜ r ≡ replyOf (profilePaper p) ⌝ }
+{
+    match p {
+        Profile::Of(a) => reply_values(4, a.mem, a.req, a.zero, a.discard),
+        Profile::Refused(r) => reply_number(r.number() as u64),
     }
 }
 
