@@ -11,3 +11,4 @@ pub mod Serving
 pub mod Telling
 pub mod Theorem
 pub mod Applied
+pub mod Loaded

@@ -11,3 +11,4 @@ pub mod Histories
 pub mod Acts
 pub mod Example
 pub mod StarredLists
+pub mod Loaded
