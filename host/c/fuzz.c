@@ -5,16 +5,11 @@
  * where it does not, only what is the call's to change; its number is one of document 01's for the call. An episode
  * depends on seed and number alone: a failure names both.
  */
-#define _DEFAULT_SOURCE
+#include "guard.h"
+
 #include "draw.h"
 
-#include <signal.h>
-#include <stdio.h>
-#include <stdlib.h>
-#include <string.h>
-#include <sys/mman.h>
 #include <time.h>
-#include <unistd.h>
 
 /* ---- Random numbers ---- */
 
@@ -75,42 +70,12 @@ static void on_signal(int signal)
 
 /* ---- Arrays and buffers between guard pages ---- */
 
-struct area {
-    uint8_t *room;
-    size_t room_len;
-    uint8_t *at;
-    size_t length;
-    uint8_t *before;
-};
-
 enum area_index { SETTINGS, BLOCKERS, STATES, VECTORS, VECTOR, LENT_DATA, LENT_SCRATCH, AREAS };
 
 static struct area areas[AREAS];
 static const size_t words_of[] = { 9, 88, 144, 272, 34 };
 static const size_t row_of[] = { 0, 11, 18, 34 };
 enum room { DATA_ROOM = 8192, SCRATCH_ROOM = 32768 };
-
-static void make_area(struct area *area, size_t room_len)
-{
-    size_t page = (size_t)sysconf(_SC_PAGESIZE);
-    uint8_t *all;
-    room_len = (room_len + page - 1) / page * page;
-    all = (uint8_t *)mmap(NULL, room_len + 2 * page, PROT_READ | PROT_WRITE, MAP_PRIVATE | MAP_ANONYMOUS, -1, 0);
-    area->before = (uint8_t *)malloc(room_len);
-    if (all == MAP_FAILED || area->before == NULL || mprotect(all, page, PROT_NONE) != 0
-        || mprotect(all + page + room_len, page, PROT_NONE) != 0) {
-        puts("fuzz: no memory");
-        exit(2);
-    }
-    area->room = all + page;
-    area->room_len = room_len;
-}
-
-static void place(struct area *area, size_t length, int at_end)
-{
-    area->length = length;
-    area->at = at_end ? area->room + area->room_len - length : area->room;
-}
 
 static uint64_t *words(enum area_index i)
 {
@@ -121,16 +86,13 @@ static void keep(void)
 {
     int i;
     for (i = 0; i < AREAS; i++)
-        memcpy(areas[i].before, areas[i].room, areas[i].room_len);
+        keep_area(&areas[i]);
 }
 
 /* Whether a room is as before but for `length` bytes from `start` of the area in it. */
 static int same_but(enum area_index i, size_t start, size_t length)
 {
-    const struct area *area = &areas[i];
-    size_t from = (size_t)(area->at - area->room) + start;
-    return memcmp(area->before, area->room, from) == 0
-        && memcmp(area->before + from + length, area->room + from + length, area->room_len - from - length) == 0;
+    return area_same_but(&areas[i], start, length);
 }
 
 static int same(enum area_index i)
@@ -706,11 +668,7 @@ int main(int argc, char **argv)
     first = argc > 3 ? strtoull(argv[3], NULL, 10) : 0;
     for (i = 0; i < AREAS; i++)
         make_area(&areas[i], rooms[i]);
-    signal(SIGSEGV, on_signal);
-    signal(SIGBUS, on_signal);
-    signal(SIGFPE, on_signal);
-    signal(SIGILL, on_signal);
-    signal(SIGALRM, on_signal);
+    catch_signals(on_signal);
     for (episode = first; episode - first < LEAST || time(NULL) - start < seconds; episode++) {
         alarm(30);
         run_episode();
