@@ -3,8 +3,9 @@
  *
  * A job is begun (read, write, zeroes, discard) over any byte range of the store. dock_next says which aligned request
  * the store must carry out for it, dock_piece where that request's bytes lie, dock_tell hands in the store's code,
- * dock_collect takes the final answer. The dock does no input or output itself. "Document 01" is the agreed scope; its
- * numbers are the constants below. dock_serve.h has that loop ready, over a store of callbacks.
+ * dock_collect takes the final answer. The dock does no input or output itself. "Document 01" is the agreed scope,
+ * "document 02" has the change requests to it; their numbers are the constants below. dock_serve.h has that loop ready,
+ * over a store of callbacks.
  *
  * Who owns what, and when bytes may change:
  *
@@ -20,13 +21,17 @@
  * - `struct dock` is the caller's. It holds no pointer into itself, so it may be moved or copied as bytes between
  *   calls; from then on only the copy that the newest call was made with counts. Two threads must not be in calls on
  *   one dock at once.
+ * - `struct dock_table` is the caller's too, and is no part of a dock: opening reads a row of it and keeps nothing. The
+ *   bytes of a table are read while it is loaded, and are left as they are; they must not overlap the table.
  *
- * A call that refuses changes nothing: not a word of the dock, not the vector, not the lent bytes. Nor does a refused
- * opening: a dock that was open stays open with its jobs, and memory that was no dock is none after it. Zeroes count as
- * a dock that refuses all: every begin with 201, next, piece, tell and collect with 205 or 208.
+ * A call that refuses changes nothing: not a word of the dock, not the vector, not the table, not the lent bytes. Nor
+ * does a refused opening: a dock that was open stays open with its jobs, and memory that was no dock is none after it.
+ * Zeroes count as a dock that refuses all: every begin with 201, next, piece, tell and collect with 205 or 208. As a
+ * table they are one without rows, each row of which is refused with 201.
  *
  * Null pointers: a buffer of length 0 may be null. One that is null and has a length is refused with 205; at opening
- * 201 comes before it, in other calls nothing does. The dock, the vector and the lent buffers' struct must not be null.
+ * 201 comes before it, in other calls nothing does. Null for the bytes of a table counts as no record, whatever the
+ * length: 211. The dock, the vector, the table and the lent buffers' struct must not be null.
  */
 #ifndef DOCK_H
 #define DOCK_H
@@ -45,7 +50,7 @@ extern "C" {
 #define DOCK_VERSION_PATCH 0
 #define DOCK_VERSION "0.4.0"
 
-/* ---- Numbers of document 01 ---- */
+/* ---- Numbers of documents 01 and 02 ---- */
 
 /* Why a call was refused. 207 is also the final answer of a zero job of which a later stage has no offsets left. */
 enum dock_refusal {
@@ -59,9 +64,9 @@ enum dock_refusal {
     DOCK_SLOT = 208,      /* slot not 0 to 7 or free; no request out; not ended; no such piece */
     DOCK_NO_ANSWER = 209, /* told a code of 200 to 255 */
     DOCK_UNALIGNED = 210, /* planner: offset or length no multiple of the request alignment */
-    /* Of document 02's requests; no call of this header refuses with one of them yet. */
-    DOCK_TABLE = 211,       /* drive table: a record cut, too short or of another length, a 65th row or none */
-    DOCK_ROW = 212,         /* drive table: a row past the limits of an alignment */
+    DOCK_TABLE = 211,     /* drive table: a record cut, too short or of another length, a 65th row or none */
+    DOCK_ROW = 212,       /* drive table: a row past the limits of an alignment */
+    /* Of document 02's later requests; no call of this header refuses with one of them yet. */
     DOCK_SAVED = 213,       /* recorded write: the part for the old bytes too short, or outside the data */
     DOCK_UNDO = 214,        /* taking back: no write is remembered, or a later request reached its bytes */
     DOCK_RESERVATION = 215, /* reservation: empty, none in the slot, of another length, or still waiting */
@@ -92,7 +97,8 @@ enum dock_kind {
 enum dock_limit {
     DOCK_SLOTS = 8,
     DOCK_SEGMENTS = 16,
-    DOCK_ROWS = 6,
+    DOCK_ROWS = 6,        /* of document 01's drive table */
+    DOCK_TABLE_ROWS = 64, /* of a loaded one, at most */
     DOCK_LONGEST_VECTOR = 1048576,
     DOCK_LONGEST_BOUNCE = 1048576,
     DOCK_LARGEST_ALIGNMENT = 65536
@@ -134,6 +140,14 @@ struct dock_vector {
 };
 
 #define DOCK_VECTOR_EMPTY { { 0 } }
+
+/* A drive table of the customer's: 1 to 64 rows, counted from 0, in place of document 01's six. Opaque: dock_load_table
+ * writes it, dock_table_row and dock_open_table read it. Whatever stands in it, they return, and stay inside it. */
+struct dock_table {
+    uint64_t words[257];
+};
+
+#define DOCK_TABLE_EMPTY { { 0 } }
 
 /* ---- What calls give back ---- */
 
@@ -177,6 +191,15 @@ struct dock_part {
     uint8_t refusal; /* 0 where there is a piece */
 };
 
+/* The alignments of a table's row: `refusal` is 0 where the others count. */
+struct dock_row {
+    uint64_t mem;
+    uint64_t req;
+    uint64_t zero;
+    uint64_t discard;
+    uint8_t refusal;
+};
+
 /* What the planner gives: `refusal` is 0 where the others count. */
 struct dock_chunk_count {
     uint64_t count;
@@ -205,6 +228,11 @@ uint8_t dock_words_open(uint64_t *settings, uint64_t *blockers, uint64_t *states
 uint8_t dock_words_open_row(uint64_t *settings, uint64_t *blockers, uint64_t *states, uint64_t *vectors, size_t row,
                             uint64_t share, uint64_t data_address, uint64_t data_length, uint64_t scratch_address,
                             uint64_t scratch_length);
+uint8_t dock_words_load_table(uint64_t *table, const uint8_t *bytes, size_t bytes_len);
+struct dock_words_reply dock_words_table_row(const uint64_t *table, size_t row);
+uint8_t dock_words_open_table(uint64_t *settings, uint64_t *blockers, uint64_t *states, uint64_t *vectors,
+                              const uint64_t *table, size_t row, uint64_t share, uint64_t data_address,
+                              uint64_t data_length, uint64_t scratch_address, uint64_t scratch_length);
 struct dock_words_reply dock_words_begin_read(const uint64_t *settings, uint64_t *blockers, uint64_t *states,
                                               uint64_t *vectors, uint64_t offset, const uint64_t *vector,
                                               const uint8_t *data, size_t data_len, uint8_t *scratch,
@@ -274,6 +302,52 @@ static inline uint8_t dock_open_row(struct dock *dock, size_t row, uint64_t boun
     return dock_words_open_row(dock->settings, dock->blockers, dock->states, dock->vectors, row, bounce,
                                dock_address(lent->data, lent->data_len), lent->data_len,
                                dock_address(lent->scratch, lent->scratch_len), lent->scratch_len);
+}
+
+/* ---- Drive tables ---- */
+
+/* Loads a table of `length` bytes: records of a two-byte length of what follows, a two-byte kind and the body, low
+ * bytes first. A record of kind 1 is a row, its body four alignments of four bytes each: mem, req, zero, discard. Those
+ * of other kinds are passed over. 0, and the rows stand in `table` in the order of the file; or refused, and it is as
+ * it was: the first bad record decides. 211: it is cut, shorter than its kind, a row of another length than 18, or a
+ * 65th row; or, at the end, there is no row. 212: an alignment of a row is no power of two from 1 to 65,536. */
+static inline uint8_t dock_load_table(struct dock_table *table, const uint8_t *bytes, size_t length)
+{
+    if (bytes == NULL)
+        return DOCK_TABLE;
+    return dock_words_load_table(table->words, bytes, length);
+}
+
+/* How many rows a table has: 0 to 64. */
+static inline size_t dock_table_rows(const struct dock_table *table)
+{
+    return table->words[0] < DOCK_TABLE_ROWS ? (size_t)table->words[0] : (size_t)DOCK_TABLE_ROWS;
+}
+
+/* The alignments of a row, or refused with 201 where there is none. */
+static inline struct dock_row dock_table_row(const struct dock_table *table, size_t row)
+{
+    struct dock_row alignments = { 0, 0, 0, 0, 0 };
+    struct dock_words_reply reply = dock_words_table_row(table->words, row);
+    if (reply.number != DOCK_WORDS_NO_NUMBER) {
+        alignments.refusal = (uint8_t)reply.number;
+        return alignments;
+    }
+    alignments.mem = reply.value[0];
+    alignments.req = reply.value[1];
+    alignments.zero = reply.value[2];
+    alignments.discard = reply.value[3];
+    return alignments;
+}
+
+/* Opens as dock_open does, with the alignments of a table's row. 0, 201 (also where there is no such row) or 205;
+ * refused, every word of the dock is as it was. */
+static inline uint8_t dock_open_table(struct dock *dock, const struct dock_table *table, size_t row, uint64_t bounce,
+                                      const struct dock_lent *lent)
+{
+    return dock_words_open_table(dock->settings, dock->blockers, dock->states, dock->vectors, table->words, row, bounce,
+                                 dock_address(lent->data, lent->data_len), lent->data_len,
+                                 dock_address(lent->scratch, lent->scratch_len), lent->scratch_len);
 }
 
 /* ---- Vectors ---- */
