@@ -16,11 +16,6 @@
 static uint64_t seed = 1;
 static uint64_t episode;
 
-static int one_in(uint64_t n)
-{
-    return below(n) == 0;
-}
-
 /* ---- Failures ---- */
 
 enum call {
@@ -187,13 +182,6 @@ static void put_words(enum area_index i)
     size_t j;
     for (j = 0; j < words_of[i]; j++)
         words(i)[j] = origin == UNIFORM ? rnd() : one_in(4) ? any_word() : below(12);
-}
-
-static void put_bytes(uint8_t *bytes, size_t length)
-{
-    size_t i;
-    for (i = 0; i < length; i++)
-        bytes[i] = (uint8_t)rnd();
 }
 
 /* A vector of some segments of the data, some of which touch, right or nearly so, or any words. */
