@@ -1,4 +1,5 @@
-/* Every call of dock.h, every number of document 01, its traced jobs. The last line is `N checks, M failed`. */
+/* Every call of dock.h, every number that one refuses with, document 01's traced jobs. The last line is `N checks, M
+ * failed`. */
 #include "bench.h"
 
 #include <stdlib.h>
@@ -328,6 +329,114 @@ static void test_unfit_buffers(void)
     row.mem = 3;
     lent.scratch_len = 1;
     CHECK(dock_open(&dock, &row, &lent) == DOCK_UNFIT);
+}
+
+/* ---- Drive tables ---- */
+
+static const uint8_t two_rows[] = {
+    18, 0, 1, 0, 0, 2, 0, 0, 0, 2, 0, 0, 0, 16, 0, 0, 0, 0,  1, 0, /* row 0: 512, 512, 4096, 65536 */
+    5,  0, 9, 0, 'a', 'b', 'c',                                    /* of a kind that is passed over */
+    18, 0, 1, 0, 1, 0, 0, 0, 0, 2, 0, 0, 0, 2,  0, 0, 0, 2,  0, 0, /* row 1: 1, 512, 512, 512 */
+};
+enum table_part { KIND_PASSED_OVER = 22, SECOND_ROW = 27, TWO_ROWS = sizeof two_rows };
+
+static struct dock_table table;
+
+static int is_row_of(size_t row, uint64_t mem, uint64_t req, uint64_t zero, uint64_t discard)
+{
+    struct dock_row read = dock_table_row(&table, row);
+    return read.refusal == 0 && read.mem == mem && read.req == req && read.zero == zero && read.discard == discard;
+}
+
+static void refused_table(uint8_t number, const uint8_t *bytes, size_t length, int line)
+{
+    struct dock_table before = table;
+    check(dock_load_table(&table, bytes, length) == number, "a table is refused with its number", line);
+    check(memcmp(&before, &table, sizeof before) == 0, "and has changed no word", line);
+}
+
+#define REFUSED_TABLE(number, bytes, length) refused_table(number, bytes, length, __LINE__)
+
+/* A loaded table stays where another one is refused. */
+static void test_loads(void)
+{
+    uint8_t bytes[TWO_ROWS];
+    CHECK(dock_table_rows(&table) == 0 && dock_table_row(&table, 0).refusal == DOCK_UNFIT);
+    CHECK(dock_load_table(&table, two_rows, TWO_ROWS) == 0);
+    CHECK(dock_table_rows(&table) == 2);
+    CHECK(is_row_of(0, 512, 512, 4096, 65536) && is_row_of(1, 1, 512, 512, 512));
+    CHECK(dock_table_row(&table, 2).refusal == DOCK_UNFIT && dock_table_row(&table, SIZE_MAX).refusal == DOCK_UNFIT);
+    REFUSED_TABLE(DOCK_TABLE, two_rows, TWO_ROWS - 1);
+    REFUSED_TABLE(DOCK_TABLE, two_rows, 0);
+    REFUSED_TABLE(DOCK_TABLE, NULL, 0);
+    REFUSED_TABLE(DOCK_TABLE, NULL, TWO_ROWS);
+    REFUSED_TABLE(DOCK_TABLE, two_rows + 20, 7);
+    memcpy(bytes, two_rows, TWO_ROWS);
+    bytes[SECOND_ROW + 4] = 3;
+    REFUSED_TABLE(DOCK_ROW, bytes, TWO_ROWS);
+    bytes[SECOND_ROW] = 17;
+    REFUSED_TABLE(DOCK_TABLE, bytes, TWO_ROWS);
+    bytes[SECOND_ROW] = 18;
+    bytes[KIND_PASSED_OVER] = 1;
+    REFUSED_TABLE(DOCK_TABLE, bytes, TWO_ROWS);
+    CHECK(dock_load_table(&table, two_rows, 20) == 0);
+    CHECK(dock_table_rows(&table) == 1 && dock_table_row(&table, 1).refusal == DOCK_UNFIT);
+}
+
+/* 64 rows are loaded, a 65th is not. */
+static void test_most_rows(void)
+{
+    uint8_t bytes[20 * (DOCK_TABLE_ROWS + 1)];
+    size_t i;
+    for (i = 0; i <= DOCK_TABLE_ROWS; i++)
+        memcpy(bytes + 20 * i, two_rows + (i == 63 ? 0 : SECOND_ROW), 20);
+    REFUSED_TABLE(DOCK_TABLE, bytes, sizeof bytes);
+    CHECK(dock_load_table(&table, bytes, sizeof bytes - 20) == 0);
+    CHECK(dock_table_rows(&table) == DOCK_TABLE_ROWS);
+    CHECK(is_row_of(62, 1, 512, 512, 512) && is_row_of(63, 512, 512, 4096, 65536));
+    CHECK(dock_table_row(&table, DOCK_TABLE_ROWS).refusal == DOCK_UNFIT);
+}
+
+/* Opening by a row gives the dock of the same alignments, and a job runs on it; 201 comes before 205. */
+static void test_open_table(void)
+{
+    static const struct wanted wanted[] = { { DOCK_READ, 0, 512, 0 },
+                                            { DOCK_READ, 0, 512, 0 },
+                                            { DOCK_WRITE, 0, 512, 0 } };
+    struct dock_table none = DOCK_TABLE_EMPTY;
+    CHECK(dock_load_table(&table, two_rows, TWO_ROWS) == 0);
+    open_row(ROW, BOUNCE);
+    dock_before = dock;
+    memset(&dock, 0xa5, sizeof dock);
+    CHECK(dock_open_table(&dock, &table, 1, BOUNCE, &lent) == 0);
+    CHECK(memcmp(&dock_before, &dock, sizeof dock) == 0);
+    REFUSED(DOCK_UNFIT, dock_open_table(&dock, &table, 2, BOUNCE, &lent));
+    REFUSED(DOCK_UNFIT, dock_open_table(&dock, &table, SIZE_MAX, BOUNCE, &lent));
+    REFUSED(DOCK_UNFIT, dock_open_table(&dock, &none, 0, BOUNCE, &lent));
+    REFUSED(DOCK_UNFIT, dock_open_table(&dock, &table, 1, BOUNCE + 1, &lent));
+    REFUSED(DOCK_UNFIT, dock_open_table(&dock, &table, 0, BOUNCE, &lent));
+    lent.scratch_len -= 1;
+    REFUSED(DOCK_BUFFER, dock_open_table(&dock, &table, 1, BOUNCE, &lent));
+    REFUSED(DOCK_UNFIT, dock_open_table(&dock, &table, 2, BOUNCE, &lent));
+    lent.scratch_len += 1;
+    lent.data = NULL;
+    REFUSED(DOCK_BUFFER, dock_open_table(&dock, &table, 1, BOUNCE, &lent));
+    REFUSED(DOCK_UNFIT, dock_open_table(&dock, &table, 2, BOUNCE, &lent));
+    lent.data = on_page(data_room);
+    RUNS(write_at(100, 5, 10), 0, wanted);
+    CHECK(store_has(100, 5, 10));
+}
+
+/* Words of no load's making: no more than 64 rows, and opening tests their alignments. */
+static void test_foreign_table(void)
+{
+    lent = bench_lent(DATA, 8 * BOUNCE);
+    memset(&table, 0xff, sizeof table);
+    CHECK(dock_table_rows(&table) == DOCK_TABLE_ROWS);
+    CHECK(is_row_of(63, UINT64_MAX, UINT64_MAX, UINT64_MAX, UINT64_MAX));
+    CHECK(dock_table_row(&table, DOCK_TABLE_ROWS).refusal == DOCK_UNFIT);
+    REFUSED(DOCK_UNFIT, dock_open_table(&dock, &table, 63, BOUNCE, &lent));
+    REFUSED(DOCK_UNFIT, dock_open_table(&dock, &table, DOCK_TABLE_ROWS, BOUNCE, &lent));
 }
 
 /* ---- Document 01's traced jobs ---- */
@@ -1045,6 +1154,14 @@ static void test_row_zero(void)
     CHECK(store_zero(3, 10));
 }
 
+static void test_tables(void)
+{
+    test_loads();
+    test_most_rows();
+    test_open_table();
+    test_foreign_table();
+}
+
 static void test_vectors(void)
 {
     test_seventeen();
@@ -1062,6 +1179,7 @@ int main(void)
     test_unfit();
     test_unfit_buffers();
     test_refused_opening_of_open_dock();
+    test_tables();
     test_traced_writes();
     test_traced_gap();
     test_traced_row_four();
