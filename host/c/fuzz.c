@@ -2,7 +2,7 @@
  * Random words, arguments and buffers against the raw calls of libdock_c.a: fuzz [SECONDS [SEED [EPISODE]]], 60
  * seconds and seed 1 unless said. Each array and buffer lies between two pages that nobody may touch, its end (or its
  * start) right at one of them. After each call: it has returned; where it refuses, no word and no byte has changed;
- * where it does not, only what is the call's to change; its number is one of document 01's for the call. An episode
+ * where it does not, only what is the call's to change; its number is one of the documents' for the call. An episode
  * depends on seed and number alone: a failure names both.
  */
 #include "guard.h"
@@ -21,6 +21,9 @@ static uint64_t episode;
 enum call {
     OPEN,
     OPEN_ROW,
+    OPEN_TABLE,
+    LOAD_TABLE,
+    TABLE_ROW,
     BEGIN_READ,
     BEGIN_WRITE,
     BEGIN_ZEROES,
@@ -34,8 +37,9 @@ enum call {
     CALLS
 };
 
-static const char *const names[] = { "open", "open_row", "begin_read", "begin_write", "begin_zeroes", "begin_discard",
-                                     "next", "piece",    "tell",       "collect",     "chunks",       "chunk" };
+static const char *const names[] = { "open",       "open_row",    "open_table",   "load_table",    "table_row",
+                                     "begin_read", "begin_write", "begin_zeroes", "begin_discard", "next",
+                                     "piece",      "tell",        "collect",      "chunks",        "chunk" };
 static volatile sig_atomic_t at_call;
 
 static void fail(const char *what)
@@ -65,12 +69,12 @@ static void on_signal(int signal)
 
 /* ---- Arrays and buffers between guard pages ---- */
 
-enum area_index { SETTINGS, BLOCKERS, STATES, VECTORS, VECTOR, LENT_DATA, LENT_SCRATCH, AREAS };
+enum area_index { SETTINGS, BLOCKERS, STATES, VECTORS, VECTOR, TABLE, TABLE_BYTES, LENT_DATA, LENT_SCRATCH, AREAS };
 
 static struct area areas[AREAS];
-static const size_t words_of[] = { 9, 88, 144, 272, 34 };
+static const size_t words_of[] = { 9, 88, 144, 272, 34, 257 };
 static const size_t row_of[] = { 0, 11, 18, 34 };
-enum room { DATA_ROOM = 8192, SCRATCH_ROOM = 32768 };
+enum room { TABLE_ROOM = 4096, DATA_ROOM = 8192, SCRATCH_ROOM = 32768 };
 
 static uint64_t *words(enum area_index i)
 {
@@ -95,14 +99,19 @@ static int same(enum area_index i)
     return same_but(i, 0, 0);
 }
 
-static int all_same(void)
+/* Whether the rooms from this one on are as before. */
+static int same_from(int i)
 {
-    int i;
-    for (i = 0; i < AREAS; i++) {
+    for (; i < AREAS; i++) {
         if (!same((enum area_index)i))
             return 0;
     }
     return 1;
+}
+
+static int all_same(void)
+{
+    return same_from(0);
 }
 
 /* Whether of an array of rows only the slot's may have changed. */
@@ -221,7 +230,7 @@ static void done(int was_accepted)
 
 static void check_number(int is_one)
 {
-    check(is_one, "a number that is not document 01's for this call");
+    check(is_one, "a number that is not the documents' for this call");
 }
 
 static uint64_t bounce(void)
@@ -235,8 +244,23 @@ static int same_outside_bounce(size_t slot)
     return same_but(LENT_SCRATCH, slot * (size_t)bounce(), (size_t)bounce());
 }
 
+/* Opens by a row of the table at hand, by a built-in one, the row being args[0], or with four alignments. */
+static uint8_t raw_open(enum call call, uint64_t *s, uint64_t *b, uint64_t *x, uint64_t *v, const uint64_t *args,
+                        uint64_t data_len, uint64_t scratch_len)
+{
+    uint64_t data = (uint64_t)(uintptr_t)areas[LENT_DATA].at;
+    uint64_t scratch = (uint64_t)(uintptr_t)areas[LENT_SCRATCH].at;
+    size_t row = (size_t)args[0];
+    if (call == OPEN_TABLE)
+        return dock_words_open_table(s, b, x, v, words(TABLE), row, args[4], data, data_len, scratch, scratch_len);
+    if (call == OPEN_ROW)
+        return dock_words_open_row(s, b, x, v, row, args[4], data, data_len, scratch, scratch_len);
+    return dock_words_open(s, b, x, v, args[0], args[1], args[2], args[3], args[4], data, data_len, scratch,
+                           scratch_len);
+}
+
 /* What an accepted opening writes depends on its arguments alone; a refused one writes nothing. */
-static void open_twice(int by_row, const uint64_t *args, uint64_t data_len, uint64_t scratch_len)
+static void open_twice(enum call call, const uint64_t *args, uint64_t data_len, uint64_t scratch_len)
 {
     struct dock other;
     struct dock before;
@@ -246,19 +270,12 @@ static void open_twice(int by_row, const uint64_t *args, uint64_t data_len, uint
     uint64_t *b = words(BLOCKERS);
     uint64_t *x = words(STATES);
     uint64_t *v = words(VECTORS);
-    uint64_t data = (uint64_t)(uintptr_t)areas[LENT_DATA].at;
-    uint64_t scratch = (uint64_t)(uintptr_t)areas[LENT_SCRATCH].at;
     memset(&other, (int)below(256), sizeof other);
     before = other;
-    at_call = by_row ? OPEN_ROW : OPEN;
+    at_call = (sig_atomic_t)call;
     keep();
-    number = by_row ? dock_words_open_row(s, b, x, v, (size_t)args[0], args[4], data, data_len, scratch, scratch_len)
-                    : dock_words_open(s, b, x, v, args[0], args[1], args[2], args[3], args[4], data, data_len, scratch,
-                                      scratch_len);
-    again = by_row ? dock_words_open_row(other.settings, other.blockers, other.states, other.vectors, (size_t)args[0],
-                                         args[4], data, data_len, scratch, scratch_len)
-                   : dock_words_open(other.settings, other.blockers, other.states, other.vectors, args[0], args[1],
-                                     args[2], args[3], args[4], data, data_len, scratch, scratch_len);
+    number = raw_open(call, s, b, x, v, args, data_len, scratch_len);
+    again = raw_open(call, other.settings, other.blockers, other.states, other.vectors, args, data_len, scratch_len);
     check_number(number == 0 || number == 201 || number == 205);
     check(number == again, "answered by what its arguments do not say");
     if (number != 0)
@@ -268,10 +285,98 @@ static void open_twice(int by_row, const uint64_t *args, uint64_t data_len, uint
                   && memcmp(x, other.states, 1152) == 0 && memcmp(v, other.vectors, 2176) == 0,
               "wrote what its arguments do not say");
     check(same_but(SETTINGS, 0, 72) && same_but(BLOCKERS, 0, 704) && same_but(STATES, 0, 1152)
-              && same_but(VECTORS, 0, 2176) && same(VECTOR) && same(LENT_DATA) && same(LENT_SCRATCH),
+              && same_but(VECTORS, 0, 2176) && same_from(VECTOR),
           "wrote outside its arrays");
     counts[at_call]++;
     accepted[at_call] += number == 0;
+}
+
+static int is_fit(uint64_t alignment)
+{
+    return alignment != 0 && alignment <= DOCK_LARGEST_ALIGNMENT && (alignment & (alignment - 1)) == 0;
+}
+
+/* A row is what stands in its words, and there is none past the count or past 64. */
+static void try_table_row(size_t row)
+{
+    const uint64_t *table = words(TABLE);
+    int has = row < table[0] && row < DOCK_TABLE_ROWS;
+    struct dock_words_reply reply;
+    keep();
+    at_call = TABLE_ROW;
+    reply = dock_words_table_row(table, row);
+    check(all_same(), "changed something");
+    done(reply.number == 256);
+    check_number(reply.number == (has ? 256 : 201));
+    check(reply.count == (has ? 4 : 0), "gave other values");
+    check(!has || memcmp(reply.value, table + 1 + 4 * row, 32) == 0, "another row than stands there");
+}
+
+static size_t any_row(void)
+{
+    return one_in(8) ? (size_t)any_word() : one_in(2) ? (size_t)below(8) : (size_t)below(70);
+}
+
+/* Loads bytes that are a table, nearly so, or any. What is loaded depends on them alone, and its rows are fit. */
+static void try_load_table(void)
+{
+    const struct area *bytes = &areas[TABLE_BYTES];
+    struct dock_table other;
+    uint8_t number;
+    size_t i;
+    place(&areas[TABLE_BYTES], any_table(areas[TABLE_BYTES].room, TABLE_ROOM), at_end);
+    memmove(bytes->at, bytes->room, bytes->length);
+    memset(&other, (int)below(256), sizeof other);
+    keep();
+    at_call = LOAD_TABLE;
+    number = dock_words_load_table(words(TABLE), bytes->at, bytes->length);
+    done(number == 0);
+    check_number(number == 0 || number == 211 || number == 212);
+    check(dock_words_load_table(other.words, bytes->at, bytes->length) == number,
+          "answered by what its arguments do not say");
+    if (number != 0)
+        return;
+    check(memcmp(words(TABLE), other.words, sizeof other) == 0, "wrote what its arguments do not say");
+    check(other.words[0] >= 1 && other.words[0] <= DOCK_TABLE_ROWS, "loaded no row, or too many");
+    for (i = 1; i < sizeof other.words / sizeof *other.words; i++)
+        check((i - 1) / 4 < other.words[0] ? is_fit(other.words[i]) : other.words[i] == 0,
+              "loaded a row that is unfit, or words past the rows");
+    check(same_but(TABLE, 0, sizeof other), "wrote outside its array");
+    for (i = 0; i < AREAS; i++)
+        check(i == TABLE || same((enum area_index)i), "changed what is not its to change");
+}
+
+/* Alignments and a bounce buffer that opening takes, small enough for the scratch here. */
+static void fit_settings(uint64_t *args)
+{
+    uint64_t least;
+    uint64_t step;
+    int i;
+    for (i = 0; i < 4; i++)
+        args[i] = UINT64_C(1) << (one_in(2) ? 9 : below(10));
+    step = args[0] > args[1] ? args[0] : args[1];
+    least = 2 * args[2] + 2 * step;
+    args[4] = (least + step - 1) / step * step + step * below(3);
+}
+
+/* A table that is loaded, words of no load's making, or such with a row that opening takes. */
+static void try_table(void)
+{
+    uint64_t args[5];
+    size_t row = any_row();
+    if (one_in(2))
+        try_load_table();
+    else
+        put_words(TABLE);
+    fit_settings(args);
+    if (one_in(2)) {
+        words(TABLE)[0] = any_row();
+        memcpy(words(TABLE) + 1 + 4 * (row % DOCK_TABLE_ROWS), args, 32);
+    }
+    try_table_row(row);
+    try_table_row(any_row());
+    args[0] = row;
+    open_twice(OPEN_TABLE, args, areas[LENT_DATA].length, one_in(4) ? any_length() : areas[LENT_SCRATCH].length);
 }
 
 static struct dock_words_reply raw_begin(enum call call, uint64_t offset, uint64_t length)
@@ -537,24 +642,11 @@ static void mutate(void)
     }
 }
 
-/* Alignments and a bounce buffer that opening takes, small enough for the scratch here. */
-static void fit_settings(uint64_t *args)
-{
-    uint64_t least;
-    uint64_t step;
-    int i;
-    for (i = 0; i < 4; i++)
-        args[i] = UINT64_C(1) << (one_in(2) ? 9 : below(10));
-    step = args[0] > args[1] ? args[0] : args[1];
-    least = 2 * args[2] + 2 * step;
-    args[4] = (least + step - 1) / step * step + step * below(3);
-}
-
 static void place_all(uint64_t *args)
 {
     int i;
     at_end = !one_in(3);
-    for (i = 0; i <= VECTOR; i++)
+    for (i = 0; i <= TABLE; i++)
         place(&areas[i], words_of[i] * 8, at_end);
     place(&areas[LENT_DATA], one_in(16) ? 0 : (size_t)below(DATA_ROOM + 1), at_end);
     place(&areas[LENT_SCRATCH], (size_t)(8 * args[4]), at_end);
@@ -585,10 +677,27 @@ static void try_unfit_opening(void)
     fit_settings(args);
     for (i = 0; i < 5; i++)
         args[i] = one_in(4) ? any_word() : args[i];
-    open_twice(one_in(2), args, any_length(), any_word());
+    open_twice(one_in(2) ? OPEN_ROW : OPEN, args, any_length(), any_word());
     args[0] = below(8);
     args[4] = UINT64_C(1) << below(22);
-    open_twice(1, args, any_length(), UINT64_C(1) << below(25));
+    open_twice(OPEN_ROW, args, any_length(), UINT64_C(1) << below(25));
+}
+
+/* Opens with settings that fit, or by a row of a table that has their alignments. */
+static void open_made(const uint64_t *args)
+{
+    uint64_t by_row[5];
+    uint64_t row = below(DOCK_TABLE_ROWS);
+    if (one_in(2)) {
+        open_twice(OPEN, args, areas[LENT_DATA].length, areas[LENT_SCRATCH].length);
+        return;
+    }
+    put_words(TABLE);
+    words(TABLE)[0] = row + 1 + below(4);
+    memcpy(words(TABLE) + 1 + 4 * row, args, 32);
+    memcpy(by_row, args, sizeof by_row);
+    by_row[0] = row;
+    open_twice(OPEN_TABLE, by_row, areas[LENT_DATA].length, areas[LENT_SCRATCH].length);
 }
 
 static void run_episode(void)
@@ -599,10 +708,13 @@ static void run_episode(void)
     origin = (enum origin)below(ORIGINS);
     fit_settings(args);
     place_all(args);
+    place(&areas[TABLE_BYTES], 0, at_end);
     if (one_in(8))
         try_unfit_opening();
+    if (one_in(4))
+        try_table();
     if (origin == MADE || origin == MUTATED)
-        open_twice(0, args, areas[LENT_DATA].length, areas[LENT_SCRATCH].length);
+        open_made(args);
     else
         put_all(args);
     for (i = 0; i < 60; i++) {
@@ -646,7 +758,7 @@ static void summary(void)
 
 int main(int argc, char **argv)
 {
-    static const size_t rooms[] = { 4096, 4096, 4096, 4096, 4096, DATA_ROOM, SCRATCH_ROOM };
+    static const size_t rooms[] = { 4096, 4096, 4096, 4096, 4096, 4096, TABLE_ROOM, DATA_ROOM, SCRATCH_ROOM };
     long seconds = argc > 1 ? strtol(argv[1], NULL, 10) : 60;
     time_t start = time(NULL);
     time_t shown = start;
