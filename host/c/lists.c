@@ -1,7 +1,8 @@
 /*
  * Random lists of events on the library, over a store in memory that fails as it likes: lists [SECONDS [SEED [LIST]]],
- * 60 seconds and seed 1 unless said. Requests are compared with those that document 01's rules give; after each carry
- * the store with the plain byte store, byte by byte; at each collect a read's bytes with what its step yielded.
+ * 60 seconds and seed 1 unless said. The dock is opened by a built-in drive row, by a row of a loaded table or with
+ * settings. Requests are compared with those that document 01's rules give; after each carry the store with the plain
+ * byte store, byte by byte; at each collect a read's bytes with what its step yielded.
  */
 #include "rules.h"
 
@@ -142,7 +143,7 @@ int main(int argc, char **argv)
         }
     }
     check(begun > 0 && refused > 0 && carried > 0 && waited > 0 && collected > 0 && fallbacks > 0 && joined > 0
-              && left_apart > 0,
+              && left_apart > 0 && by_table > 0,
           "something was never reached");
     printf("%llu begun, %llu refused, %llu carried, ", (unsigned long long)begun, (unsigned long long)refused,
            (unsigned long long)carried);

@@ -493,7 +493,31 @@ static inline void change_data(void)
 
 enum { CHOICES = DOCK_ROWS + 2 };
 
-/* Opens with document 01's drive row, or with one of two other settings. The data often starts off a page. */
+static uint64_t by_table;
+
+/* Opens with the settings by a loaded table: their row stands among others. */
+static inline uint8_t open_loaded(void)
+{
+    struct dock_table table = DOCK_TABLE_EMPTY;
+    uint8_t bytes[DOCK_TABLE_ROWS * ROW_BYTES];
+    uint64_t alignments[4];
+    size_t rows = 1 + (size_t)below(DOCK_TABLE_ROWS);
+    size_t row = (size_t)below(rows);
+    size_t i;
+    alignments[0] = settings.mem;
+    alignments[1] = settings.req;
+    alignments[2] = settings.zero;
+    alignments[3] = settings.discard;
+    for (i = 0; i < rows; i++)
+        put_any_row(bytes + ROW_BYTES * i, 0);
+    put_row(bytes + ROW_BYTES * row, alignments);
+    check(dock_load_table(&table, bytes, ROW_BYTES * rows) == 0, "a table is refused");
+    by_table++;
+    return dock_open_table(&dock, &table, row, settings.bounce, &lent);
+}
+
+/* Opens with document 01's drive row, or with one of two other settings; every other time by a loaded table that has
+ * their alignments. The data often starts off a page. */
 static inline void open_choice(size_t row)
 {
     static const struct dock_settings choices[] = {
@@ -508,7 +532,12 @@ static inline void open_choice(size_t row)
     lent.data_len = DATA;
     lent.scratch = scratch_room + (PAGE - (uintptr_t)scratch_room % PAGE) % PAGE;
     lent.scratch_len = (size_t)(8 * settings.bounce);
-    number = row < DOCK_ROWS ? dock_open_row(&dock, row, settings.bounce, &lent) : dock_open(&dock, &settings, &lent);
+    if (one_in(2))
+        number = open_loaded();
+    else if (row < DOCK_ROWS)
+        number = dock_open_row(&dock, row, settings.bounce, &lent);
+    else
+        number = dock_open(&dock, &settings, &lent);
     check(number == 0, "opening is refused");
     memset(jobs, 0, sizeof jobs);
 }
