@@ -3,6 +3,7 @@
 use crate::answer::{Answer, Begun, Chunk, Due, Piece};
 use crate::raw::{Loan, Reply, Words};
 use crate::refusal::Refusal;
+use crate::table::Table;
 use crate::vector::Vector;
 use std::error::Error;
 use std::fmt;
@@ -28,7 +29,7 @@ pub struct Settings {
 }
 
 impl Settings {
-    /// Document 01's drive rows: alignments of memory, requests, zero requests and discards.
+    /// Document 01's drive rows: alignments of memory, requests, zero requests and discards. A [`Table`] has others.
     pub const ROWS: [[u64; 4]; 6] = [
         [1, 1, 1, 1],
         [1, 512, 512, 512],
@@ -67,7 +68,7 @@ pub fn aligned_part(buffer: &mut [u8], align: usize) -> &mut [u8] {
 }
 
 /// A number without values: 0, or the refusal's.
-fn done(number: u8) -> Result<(), Refusal> {
+pub(crate) fn done(number: u8) -> Result<(), Refusal> {
     match number {
         0 => Ok(()),
         refused => Err(Refusal::answered(refused.into())),
@@ -99,6 +100,18 @@ impl<'buf> Dock<'buf> {
         scratch: &'buf mut [u8],
     ) -> Result<Dock<'buf>, Refusal> {
         let (words, number) = Words::open_row(row, bounce, data, scratch);
+        done(number).map(|()| Dock { words })
+    }
+
+    /// The same with the alignments of a row of a loaded table.
+    pub fn open_table(
+        table: &Table,
+        row: usize,
+        bounce: u64,
+        data: &'buf mut [u8],
+        scratch: &'buf mut [u8],
+    ) -> Result<Dock<'buf>, Refusal> {
+        let (words, number) = Words::open_table(table, row, bounce, data, scratch);
         done(number).map(|()| Dock { words })
     }
 

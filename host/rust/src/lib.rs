@@ -27,7 +27,8 @@
 //! ```
 //!
 //! [`Runner::run_threads`] has up to eight requests carried out together. Jobs that are not known beforehand come from
-//! a [`Source`] of your own. [`MemoryStore`] and [`FileStore`] are stores, [`FaultyStore`] is one for tests.
+//! a [`Source`] of your own. [`MemoryStore`] and [`FileStore`] are stores, [`FaultyStore`] is one for tests. Drives that
+//! no built-in row describes are loaded as a [`Table`].
 //!
 //! # One step at a time
 //!
@@ -84,6 +85,7 @@ mod room;
 mod runner;
 mod store;
 mod stores;
+mod table;
 mod vector;
 
 pub use answer::{Answer, Begun, Chunk, Due, Kind, Piece, Request};
@@ -94,4 +96,5 @@ pub use room::Room;
 pub use runner::{Ended, Job, JobList, Next, Order, Runner, Source, Tally, Told, Waiting};
 pub use store::Store;
 pub use stores::{Carried, Faults, FaultyStore, FileStore, MemoryStore, Watcher};
+pub use table::{Table, TABLE_ROWS};
 pub use vector::{Vector, LONGEST_VECTOR, SEGMENTS};

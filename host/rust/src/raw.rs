@@ -3,9 +3,9 @@
 //!
 //! The library is proved to return for any words, and to touch nothing outside its arrays and the lent bytes. What its
 //! calls ask for in turn: arrays of the declared lengths, and for data and scratch a pointer that is not null to as
-//! many bytes as the call is told. The arrays are fields of [`Words`]. Data and scratch are borrowed for `'buf` at
-//! opening and held as pointers from then on, so that pieces can be out with other threads while calls run: a reference
-//! to a whole buffer would claim those bytes too.
+//! many bytes as the call is told. The arrays are fields of [`Words`], and of [`Table`] where a call takes one. Data and
+//! scratch are borrowed for `'buf` at opening and held as pointers from then on, so that pieces can be out with other
+//! threads while calls run: a reference to a whole buffer would claim those bytes too.
 //!
 //! **Who touches which bytes when.** A piece that is out ([`Loan`]) is its holder's: filled for a read, looked at for a
 //! write. Meanwhile calls for other slots run, and pieces of other slots are out. No two of these touch the same byte
@@ -30,6 +30,7 @@
 use crate::answer::{Due, Kind, Piece, Request};
 use crate::dock::{DataError, Settings, SLOTS};
 use crate::refusal::Refusal;
+use crate::table::{Table, TABLE_ROWS};
 use crate::vector::Vector;
 use std::marker::PhantomData;
 use std::ops::Range;
@@ -82,6 +83,9 @@ type SettingsWords = [u64; 9];
 type BlockerWords = [u64; 88];
 type StateWords = [u64; 144];
 type VectorWords = [u64; 272];
+/// The words of a drive table: count, and the alignments of each row; 0 past the count.
+pub(crate) type TableWords = [u64; TABLE_WORDS];
+pub(crate) const TABLE_WORDS: usize = 1 + 4 * TABLE_ROWS;
 
 #[rustfmt::skip]
 extern "C" {
@@ -91,6 +95,11 @@ extern "C" {
     fn dock_words_open_row(settings: &mut SettingsWords, blockers: &mut BlockerWords, states: &mut StateWords,
         vectors: &mut VectorWords, row: usize, share: u64, data_address: u64, data_length: u64, scratch_address: u64,
         scratch_length: u64) -> u8;
+    fn dock_words_open_table(settings: &mut SettingsWords, blockers: &mut BlockerWords, states: &mut StateWords,
+        vectors: &mut VectorWords, table: &TableWords, row: usize, share: u64, data_address: u64, data_length: u64,
+        scratch_address: u64, scratch_length: u64) -> u8;
+    fn dock_words_load_table(table: &mut TableWords, bytes: *const u8, bytes_len: usize) -> u8;
+    fn dock_words_table_row(table: &TableWords, row: usize) -> Reply;
     fn dock_words_begin_read(settings: &SettingsWords, blockers: &mut BlockerWords, states: &mut StateWords,
         vectors: &mut VectorWords, offset: u64, vector: &[u64; 34], data: *const u8, data_len: usize, scratch: *mut u8,
         scratch_len: usize) -> Reply;
@@ -164,6 +173,18 @@ impl<'buf> Words<'buf> {
         let number = unsafe {
             dock_words_open_row(&mut w.settings, &mut w.blockers, &mut w.states, &mut w.vectors, row, bounce,
                 w.data.address(), w.data.length as u64, w.scratch.address(), w.scratch.length as u64)
+        };
+        (w, number)
+    }
+
+    pub fn open_table(
+        table: &Table, row: usize, bounce: u64, data: &'buf mut [u8], scratch: &'buf mut [u8],
+    ) -> (Words<'buf>, u8) {
+        let mut w = Words::over(data, scratch);
+        // SAFETY: as for open; the words of the table are borrowed.
+        let number = unsafe {
+            dock_words_open_table(&mut w.settings, &mut w.blockers, &mut w.states, &mut w.vectors, table.words(), row,
+                bounce, w.data.address(), w.data.length as u64, w.scratch.address(), w.scratch.length as u64)
         };
         (w, number)
     }
@@ -346,6 +367,18 @@ impl Reply {
             refused => Err(Refusal::answered(refused)),
         }
     }
+}
+
+/// Loads a drive table into words: 0, or a refusal's number, and then they are as they were.
+pub(crate) fn load_table(table: &mut TableWords, bytes: &[u8]) -> u8 {
+    // SAFETY: words and bytes are borrowed; the pointer of a slice is not null, and it has as many bytes as are told.
+    unsafe { dock_words_load_table(table, bytes.as_ptr(), bytes.len()) }
+}
+
+/// The alignments of a row of a drive table.
+pub(crate) fn table_row(table: &TableWords, row: usize) -> Reply {
+    // SAFETY: the words are borrowed; the rest is a number.
+    unsafe { dock_words_table_row(table, row) }
 }
 
 /// The library's own push on the words of a vector over data of that length: 0 or a refusal's number.

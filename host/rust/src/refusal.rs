@@ -3,8 +3,8 @@
 use std::error::Error;
 use std::fmt;
 
-/// Why a call was refused. A refused call has changed nothing. From 211 on they are those of document 02's requests: no
-/// call of this crate answers with one of them yet.
+/// Why a call was refused. A refused call has changed nothing. From 211 on they are those of document 02's requests:
+/// [`crate::Table`] answers with 211 and 212, and no call of this crate answers with one from 213 on yet.
 #[derive(Clone, Copy, Debug, PartialEq, Eq, Hash)]
 pub enum Refusal {
     /// 201: alignment, bounce buffer length or drive row unfit.
@@ -28,7 +28,7 @@ pub enum Refusal {
     NoAnswer,
     /// 210: planner: offset or length no multiple of the request alignment.
     Unaligned,
-    /// 211: drive table: a record cut, too short or of another length, a 65th row or none.
+    /// 211: drive table: a record cut or shorter than its kind, a row of another length, a 65th row or none.
     Table,
     /// 212: drive table: a row past the limits of an alignment.
     Row,

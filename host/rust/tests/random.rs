@@ -7,7 +7,7 @@
 mod plain;
 
 use pitch_dock::{
-    Ended, Faults, FaultyStore, Job, Kind, Next, Order, Refusal, Room, Runner, Settings, Source, Tally, Told,
+    Ended, Faults, FaultyStore, Job, Kind, Next, Order, Refusal, Room, Runner, Settings, Source, Table, Tally, Told,
 };
 use plain::rules::{is_too_long, longer};
 use plain::{Places, Plain};
@@ -43,12 +43,13 @@ impl Draw {
     }
 }
 
-/// A drive row, or other alignments; and a share that fits them.
+/// A built-in drive row, or one of a table with other alignments; and a share that fits them.
 fn draw_settings(draw: &mut Draw) -> Settings {
     let mut settings = Settings::of_row(draw.below(6) as usize, 0).expect("a row");
     if draw.below(3) == 0 {
-        let mut align = || 1 << draw.below(13);
-        settings = Settings { mem: align(), req: align(), zero: align(), discard: align(), bounce: 0 };
+        let rows: Vec<[u64; 4]> = (0..1 + draw.below(64)).map(|_| [(); 4].map(|()| 1 << draw.below(13))).collect();
+        let table = Table::of_rows(&rows).expect("rows that fit");
+        settings = table.settings(draw.below(rows.len() as u64) as usize, 0).expect("a row");
     }
     let unit = longer(&settings);
     let least = (2 * settings.zero).next_multiple_of(unit) + 2 * unit;

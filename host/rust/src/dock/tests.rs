@@ -1,5 +1,6 @@
 use super::*;
 use crate::answer::{Kind, Request};
+use crate::draw::Draw;
 
 const BOUNCE: u64 = 4096;
 const LAST_BLOCK: u64 = u64::MAX - 511;
@@ -209,6 +210,60 @@ fn the_settings_of_a_row_are_the_library_s() {
     }
     assert_eq!(Settings::of_row(6, 65_536), None);
     assert_eq!(Dock::open_row(6, 65_536, &mut data, scratch).err(), Some(Refusal::Unfit));
+}
+
+/// The words of the dock, or its refusal.
+type Opened = Result<(Vec<u64>, Vec<u8>), Refusal>;
+
+fn words_of(opened: Result<Dock<'_>, Refusal>) -> Opened {
+    opened.map(|dock| {
+        let (words, bytes, ..) = dock.words.copied();
+        (words, bytes)
+    })
+}
+
+#[test]
+fn a_dock_opens_by_a_row_of_a_table_as_by_its_alignments() {
+    let mut draw = Draw::new(3);
+    let (mut data, mut room) = (vec![1; 100], vec![2; 8 * 1_048_576 + 65536]);
+    let mut outcomes = [0; 3];
+    for _ in 0..40 {
+        let rows: Vec<[u64; 4]> = (0..1 + draw.below(64)).map(|_| [(); 4].map(|()| 1 << draw.below(17))).collect();
+        let table = Table::of_rows(&rows).unwrap();
+        for (i, &[mem, req, zero, discard]) in rows.iter().enumerate() {
+            let unit = mem.max(req);
+            let least = (2 * zero).next_multiple_of(unit) + 2 * unit;
+            let bounce = [least, least + unit, least - 1, 65536, 1_048_576, 0, u64::MAX][draw.below(7) as usize];
+            let past = if draw.one_in(5) { 1 } else { 0 };
+            let scratch = &mut aligned_part(&mut room, 65536)[past..];
+            let scratch = match draw.one_in(2) {
+                true => &mut scratch[..(8 * bounce.min(4096)) as usize],
+                false => scratch,
+            };
+            let settings = table.settings(i, bounce).unwrap();
+            assert_eq!(settings, Settings { mem, req, zero, discard, bounce });
+            let wanted = words_of(Dock::open(&settings, &mut data, scratch));
+            assert!(words_of(Dock::open_table(&table, i, bounce, &mut data, scratch)) == wanted, "{settings:?}");
+            outcomes[match wanted {
+                Ok(_) => 0,
+                Err(Refusal::Unfit) => 1,
+                Err(Refusal::Buffer) => 2,
+                Err(other) => panic!("{other}"),
+            }] += 1;
+        }
+    }
+    assert!(outcomes.iter().all(|&count| count > 100), "{outcomes:?}");
+}
+
+#[test]
+fn a_table_of_the_built_in_rows_opens_as_they_do() {
+    let table = Table::of_rows(&Settings::ROWS).unwrap();
+    let (mut data, mut room) = (vec![0; 100], vec![0; 9 * 65536]);
+    let scratch = aligned_part(&mut room, 4096);
+    for row in 0..7 {
+        let wanted = words_of(Dock::open_row(row, 65536, &mut data, scratch));
+        assert!(words_of(Dock::open_table(&table, row, 65536, &mut data, scratch)) == wanted, "{row}");
+    }
 }
 
 #[test]
