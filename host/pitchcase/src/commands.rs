@@ -9,9 +9,10 @@ use crate::out::say;
 use crate::report::{job_text, Report};
 use crate::script::{Entry, JobLine, Verb};
 use crate::system;
+use crate::table;
 use crate::trouble::{failed, name_of, reason, refusal_text, refused, Outcome, Trouble};
 use crate::work::{Bytes, End, Print, Work};
-use pitch_dock::{Room, Runner, Settings, Tally, SLOTS};
+use pitch_dock::{Room, Runner, Settings, Table, Tally, SLOTS};
 use serde_json::json;
 use std::os::unix::fs::MetadataExt;
 use std::path::{Path, PathBuf};
@@ -66,6 +67,14 @@ struct Asked {
     manner: Manner,
 }
 
+impl Asked {
+    /// The drive table that was named.
+    fn load_table(&self, is_stdin_closed: bool) -> Outcome<Option<Table>> {
+        let path = self.manner.table()?;
+        path.map(|path| table::load("--table", path, is_stdin_closed)).transpose()
+    }
+}
+
 /// An image that is open, and how its jobs are run.
 struct Opened {
     image: Image,
@@ -81,7 +90,11 @@ struct Opened {
 /// Carries out a command.
 pub fn run(command: Command, is_stdin_closed: bool) -> Outcome<()> {
     let asked = match command {
-        Command::Info { image, direct, json } => return info(&image, direct, json),
+        Command::Info { image, direct, table, json } => {
+            let loaded = table.as_deref().map(|path| table::load("--table", path, is_stdin_closed)).transpose()?;
+            return info(&image, direct, table.as_deref().zip(loaded), json);
+        }
+        Command::Table { command } => return table::run(command, is_stdin_closed),
         Command::Look { range, raw, manner } => look(range, raw, manner)?,
         Command::Edit { place, bytes, manner } => edit(place, &bytes, manner, is_stdin_closed)?,
         Command::Zero { range, alloc, manner } => {
@@ -90,13 +103,15 @@ pub fn run(command: Command, is_stdin_closed: bool) -> Outcome<()> {
         }
         Command::Discard { range, manner } => of_range(Name::Discard, Verb::Discard, range, manner)?,
         Command::Fleet { image, script, manner } => {
+            check_input(&manner, "SCRIPT", Some(&script))?;
             let mut script = input::script(&script, is_stdin_closed)?;
             let entries = std::mem::take(&mut script.entries);
             let (bytes, print) = (Bytes::Script(script), Print::Lines);
             Asked { name: Name::Fleet, image, entries, bytes, from: None, print, manner }
         }
     };
-    carry_out(asked)
+    let table = asked.load_table(is_stdin_closed)?;
+    carry_out(asked, table.as_ref())
 }
 
 fn look(range: RangeWords, raw: bool, manner: Manner) -> Outcome<Asked> {
@@ -115,10 +130,20 @@ fn of_range(name: Name, verb: Verb, range: RangeWords, manner: Manner) -> Outcom
 
 fn edit(place: PlaceWords, words: &BytesWords, manner: Manner, is_stdin_closed: bool) -> Outcome<Asked> {
     let offset = number("OFFSET", &place.offset)?;
+    check_input(&manner, "--from", words.from.as_deref())?;
     let edit = input::edit_bytes(words, is_stdin_closed)?;
     let entries = vec![single(Verb::Write, Range { offset, length: edit.length })];
     let (image, bytes, from) = (place.image, edit.bytes, edit.from);
     Ok(Asked { name: Name::Edit, image, entries, bytes, from, print: Print::Rows, manner })
+}
+
+/// Standard input has the table or the other file that a command reads, not both.
+fn check_input(manner: &Manner, name: &str, path: Option<&Path>) -> Outcome<()> {
+    let standard_input = Some(Path::new("-"));
+    match manner.table()? == standard_input && path == standard_input {
+        true => refused(format!("--table - and {name} -: standard input is read once")),
+        false => Ok(()),
+    }
 }
 
 fn single(verb: Verb, range: Range) -> Entry {
@@ -132,9 +157,9 @@ fn jobs(entries: &[Entry]) -> impl Iterator<Item = JobLine> + '_ {
 
 impl Opened {
     /// Opens the image and looks every job over: after it nothing is refused any more.
-    fn open(asked: &Asked) -> Outcome<Opened> {
+    fn open(asked: &Asked, table: Option<&Table>) -> Outcome<Opened> {
         let manner = &asked.manner;
-        let means = manner.means()?;
+        let means = manner.means(table)?;
         let is_change = jobs(&asked.entries).any(|job| job.verb.is_change()) && !manner.plan;
         let lock = !manner.no_lock && !manner.plan;
         let image = image::open(&asked.image, Access { change: is_change, direct: manner.direct, lock })?;
@@ -270,8 +295,8 @@ fn check_device(entries: &[Entry], image: &Image, settings: &Settings) -> Outcom
 }
 
 /// Opens the image and a runner for it, and runs the jobs. Nothing is refused after that.
-fn carry_out(asked: Asked) -> Outcome<()> {
-    let opened = Opened::open(&asked)?;
+fn carry_out(asked: Asked, table: Option<&Table>) -> Outcome<()> {
+    let opened = Opened::open(&asked, table)?;
     let settings = &opened.settings;
     let mut room = Room::new(settings, usize::try_from(settings.bounce).unwrap_or(0).min(1 << 20));
     let (data, scratch) = room.parts();
@@ -373,21 +398,29 @@ fn interrupted(end: &End) -> String {
     format!("{} job{plural} done, {} partly, {} not begun", end.ended, end.lines.partly.len(), end.lines.unbegun.len())
 }
 
-/// Prints what is found of an image. Nothing of it is read, and no lock taken.
-fn info(path: &Path, direct: bool, json: bool) -> Outcome<()> {
+/// Prints what is found of an image, and which row of the table has its alignments, or which built-in one where no
+/// table is named. Nothing of the image is read, and no lock taken.
+fn info(path: &Path, direct: bool, table: Option<(&Path, Table)>, json: bool) -> Outcome<()> {
     let image = image::open(path, Access { change: false, direct, lock: false })?;
     let held = image::held(&image);
     let [mem, req, zero, discard] = image.found;
-    let row = Settings::ROWS.iter().position(|row| *row == image.found);
+    let row = match &table {
+        Some((_, table)) => table.rows().position(|row| row == image.found),
+        None => Settings::ROWS.iter().position(|row| *row == image.found),
+    };
     let mut report = Report::new(json, false, false);
     if json {
-        let fields = json!({
+        let mut fields = json!({
             "image": path.to_string_lossy(), "kind": image.kind.word(), "size": image.size,
             "allocated": image.allocated, "align": image.found, "drive": row, "lock": held,
         });
+        if let Some((name, _)) = table {
+            fields["table"] = name.to_string_lossy().into();
+        }
         report.object("info", fields);
     } else {
         let row = row.map_or("none".into(), |row| row.to_string());
+        let of_table = table.map_or(String::new(), |(name, _)| format!(" of {}", name_of(name)));
         report.out.line(&format!("image:      {}", name_of(path)));
         report.out.line(&format!("kind:       {}", image.kind.word()));
         report.out.line(&format!("size:       {} bytes", both(image.size)));
@@ -395,7 +428,7 @@ fn info(path: &Path, direct: bool, json: bool) -> Outcome<()> {
             report.out.line(&format!("allocated:  {} bytes", both(image.allocated)));
         }
         report.out.line(&format!("alignments: {mem},{req},{zero},{discard} (memory, requests, zeroes, discards)"));
-        report.out.line(&format!("drive row:  {row}"));
+        report.out.line(&format!("drive row:  {row}{of_table}"));
         report.out.line(&format!("lock:       {held}"));
     }
     report.out.settle("nothing was begun")

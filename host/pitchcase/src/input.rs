@@ -1,4 +1,4 @@
-//! What is read beside the image: scripts, and the bytes of an edit.
+//! What is read beside the image: scripts, drive tables and their texts, and the bytes of an edit.
 
 use crate::options::{hex, BytesWords};
 use crate::script::Script;
@@ -11,7 +11,7 @@ use std::os::unix::ffi::OsStringExt;
 use std::os::unix::fs::MetadataExt;
 use std::path::Path;
 
-/// What is held in memory at most: a script, or bytes from a pipe.
+/// What is held in memory at most: a script, a table, or bytes from a pipe.
 const MOST: u64 = 1 << 30;
 const MOST_TEXT: &str = "has more than 1G, which is all that is held in memory";
 
@@ -66,6 +66,13 @@ fn read_whole(name: &str, path: &Path, mut file: File) -> Outcome<Vec<u8>> {
 pub fn script(path: &Path, is_stdin_closed: bool) -> Outcome<Script> {
     let file = open("SCRIPT", path, is_stdin_closed)?;
     Script::parse(read_whole("SCRIPT", path, file)?)
+}
+
+/// All bytes of a file, which is called `name` where it was typed, and which file that is; of standard input for `-`.
+pub fn whole(name: &str, path: &Path, is_stdin_closed: bool) -> Outcome<(Vec<u8>, Option<Identity>)> {
+    let file = open(name, path, is_stdin_closed)?;
+    let identity = file.metadata().ok().map(|metadata| (metadata.dev(), metadata.ino()));
+    Ok((read_whole(name, path, file)?, identity))
 }
 
 /// The bytes that an edit writes: at least one.

@@ -13,14 +13,17 @@ mod commands;
 mod drive;
 mod image;
 mod input;
+mod newfile;
 mod numbers;
 mod options;
 mod out;
 mod progress;
 mod report;
+mod rows;
 mod script;
 #[allow(unsafe_code)]
 mod system;
+mod table;
 mod trouble;
 mod work;
 

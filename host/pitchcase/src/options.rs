@@ -5,10 +5,10 @@ use crate::script::shown;
 use crate::trouble::{refused, Outcome, Trouble};
 use clap::error::{ContextKind, ContextValue, ErrorKind};
 use clap::{Args, Parser, Subcommand};
-use pitch_dock::{Order, Settings, SLOTS};
+use pitch_dock::{Order, Settings, Table, SLOTS};
 use std::ffi::{OsStr, OsString};
 use std::os::unix::ffi::OsStrExt;
-use std::path::PathBuf;
+use std::path::{Path, PathBuf};
 
 /// The version, and which library the program is linked with.
 const VERSION: &str = concat!(env!("CARGO_PKG_VERSION"), " (libdock_c.a ", env!("PITCHCASE_LIBRARY"), ")");
@@ -28,7 +28,8 @@ Examples:
   pitchcase edit drive.img 660 --text +002.75deg
   pitchcase edit drive.img 0x294 --hex '2b 30 30 32'
   pitchcase edit /dev/sdb 1M --from records.bin --direct
-  pitchcase edit drive.img 660 --text +002.75deg --plan";
+  pitchcase edit drive.img 660 --text +002.75deg --plan
+  pitchcase edit /dev/sdb 660 --text +002.75deg --table fleet.table --drive 2";
 
 const ZERO_END: &str = "\
 Examples:
@@ -52,8 +53,28 @@ Examples:
   printf 'write 596 2b30\\nbarrier\\nread 596 10\\n' | pitchcase fleet drive.img - --trace";
 
 const INFO_END: &str = "\
-Example:
-  pitchcase info /dev/sdb --direct";
+Examples:
+  pitchcase info /dev/sdb --direct
+  pitchcase info /dev/sdb --table fleet.table   which row of the table it is";
+
+const TABLE_END: &str = "\
+A drive table has 1 to 64 rows of alignments, numbered from 0 on, and replaces the built-in ones whole: --table names it
+beside --drive ROW. Its file has records: a length of two bytes, of what follows; a kind of two bytes; the body. Kind 1
+is a row, of four numbers of four bytes: M, R, Z, D; all little-endian. Other kinds are passed over.";
+
+const SHOW_END: &str = "\
+Examples:
+  pitchcase table show fleet.table
+  pitchcase table show fleet.table > fleet.rows   text, of which make makes the same rows again";
+
+const MAKE_END: &str = "\
+The text has a row to a line, M,R,Z,D; a # and what follows it say nothing, nor do empty lines:
+  1,4096,4096,4096      # alignments of memory, requests, zero requests, discards
+  512, 4K, 64K, 64K
+
+Examples:
+  pitchcase table make fleet.rows fleet.table
+  pitchcase table show old.table | pitchcase table make - new.table";
 
 /// Looks at and edits byte ranges of a drive or its image, in whole aligned blocks; no byte outside the range changes
 #[derive(Debug, Parser)]
@@ -125,9 +146,43 @@ pub enum Command {
         /// The alignments of transfers past the system's cache
         #[arg(long)]
         direct: bool,
+        /// Names the row of this drive table instead of a built-in one; - is standard input
+        #[arg(long, value_name = "FILE")]
+        table: Option<PathBuf>,
         /// Prints a JSON object
         #[arg(long)]
         json: bool,
+    },
+    /// Shows drive tables, and makes them of text
+    #[command(after_help = TABLE_END, disable_help_subcommand = true)]
+    Table {
+        #[command(subcommand)]
+        command: TableCommand,
+    },
+}
+
+/// The commands on drive tables.
+#[derive(Debug, Subcommand)]
+pub enum TableCommand {
+    /// Prints the rows of a drive table
+    #[command(after_help = SHOW_END)]
+    Show {
+        /// Drive table; - is standard input
+        table: PathBuf,
+        /// Prints JSON objects, one to a line
+        #[arg(long)]
+        json: bool,
+    },
+    /// Makes a drive table of text
+    #[command(after_help = MAKE_END)]
+    Make {
+        /// File of rows; - is standard input
+        text: PathBuf,
+        /// Drive table to be made; - is standard output
+        table: PathBuf,
+        /// Replaces a table that is there already
+        #[arg(long)]
+        replace: bool,
     },
 }
 
@@ -168,9 +223,12 @@ pub struct BytesWords {
 /// How a command is carried out.
 #[derive(Debug, Args)]
 pub struct Manner {
-    /// Drive row 0 to 5 of document 01; found by itself where neither this nor --align is given
+    /// Drive row 0 to 5 of document 01, or a row of --table; found by itself where neither this nor --align is given
     #[arg(long, value_name = "ROW", conflicts_with = "align", allow_negative_numbers = true)]
     drive: Option<OsString>,
+    /// Drive table whose rows --drive counts, instead of the built-in ones; - is standard input
+    #[arg(long, value_name = "FILE")]
+    table: Option<PathBuf>,
     /// Alignments of memory, requests, zero requests and discards
     #[arg(long, value_name = "M,R,Z,D")]
     align: Option<OsString>,
@@ -219,10 +277,18 @@ pub struct Means {
 }
 
 impl Manner {
-    /// Takes the words apart.
-    pub fn means(&self) -> Outcome<Means> {
+    /// The table that rows are of, where one is named; it is of no use without a row.
+    pub fn table(&self) -> Outcome<Option<&Path>> {
+        match (&self.table, &self.drive) {
+            (Some(_), None) => refused("--table: needs --drive, which says the row of the table"),
+            (table, _) => Ok(table.as_deref()),
+        }
+    }
+
+    /// Takes the words apart. `table` is the one that was named.
+    pub fn means(&self, table: Option<&Table>) -> Outcome<Means> {
         let align = match (&self.drive, &self.align) {
-            (Some(row), _) => Some(row_alignments(row)?),
+            (Some(row), _) => Some(row_alignments(row, table)?),
             (None, Some(words)) => Some(typed_alignments(words)?),
             (None, None) => None,
         };
@@ -256,14 +322,14 @@ fn flawed<T>(name: &str, word: &OsStr, flaw: numbers::Flaw) -> Outcome<T> {
     refused(format!("{name} '{}'{at}: {}", shown_word(word), flaw.what))
 }
 
-fn row_alignments(word: &OsStr) -> Outcome<[u64; 4]> {
-    let row = number("--drive", word)?;
-    match usize::try_from(row).ok().and_then(|row| Settings::ROWS.get(row)) {
-        Some(row) => Ok(*row),
-        None => {
-            refused(format!("--drive '{}': no such drive row (0 to {})", shown_word(word), Settings::ROWS.len() - 1))
-        }
-    }
+/// The alignments of a row of the table, or of a built-in one where there is none.
+fn row_alignments(word: &OsStr, table: Option<&Table>) -> Outcome<[u64; 4]> {
+    let row = usize::try_from(number("--drive", word)?).unwrap_or(usize::MAX);
+    let (found, none) = match table {
+        Some(table) => (table.row(row).ok(), format!(" of the table, 0 to {} (201)", table.len() - 1)),
+        None => (Settings::ROWS.get(row).copied(), format!(" (0 to {})", Settings::ROWS.len() - 1)),
+    };
+    found.map_or_else(|| refused(format!("--drive '{}': no such drive row{none}", shown_word(word))), Ok)
 }
 
 fn typed_alignments(words: &OsStr) -> Outcome<[u64; 4]> {
@@ -308,12 +374,21 @@ pub enum Said {
 
 /// Takes the command line apart.
 pub fn parse(words: impl IntoIterator<Item = OsString>) -> Outcome<Said> {
-    match CommandLine::try_parse_from(words) {
+    let words: Vec<OsString> = words.into_iter().collect();
+    match CommandLine::try_parse_from(&words) {
         Ok(line) => Ok(Said::Command(line.command)),
         Err(error) => match error.kind() {
             ErrorKind::DisplayHelp | ErrorKind::DisplayVersion => Ok(Said::Text(error.to_string())),
-            _ => Err(one_line(&error)),
+            _ => Err(one_line(&error, commands_of(&words))),
         },
+    }
+}
+
+/// The commands that a command line may choose from.
+fn commands_of(words: &[OsString]) -> &'static str {
+    match words.get(1).is_some_and(|word| word == "table") {
+        true => "show, make",
+        false => "look, edit, zero, discard, fleet, info, table",
     }
 }
 
@@ -329,15 +404,14 @@ fn context(error: &clap::Error, kind: ContextKind) -> String {
 }
 
 /// clap's refusal as one line that names the word.
-fn one_line(error: &clap::Error) -> Trouble {
-    const COMMANDS: &str = "look, edit, zero, discard, fleet, info";
+fn one_line(error: &clap::Error, commands: &str) -> Trouble {
     let word = context(error, ContextKind::InvalidArg);
     let why = match error.kind() {
         ErrorKind::MissingSubcommand | ErrorKind::DisplayHelpOnMissingArgumentOrSubcommand => {
-            format!("a command is missing ({COMMANDS}; --help says more)")
+            format!("a command is missing ({commands}; --help says more)")
         }
         ErrorKind::InvalidSubcommand => {
-            format!("'{}': no such command ({COMMANDS})", context(error, ContextKind::InvalidSubcommand))
+            format!("'{}': no such command ({commands})", context(error, ContextKind::InvalidSubcommand))
         }
         ErrorKind::UnknownArgument if word.starts_with('-') => format!("'{word}': no such option (--help lists them)"),
         ErrorKind::UnknownArgument | ErrorKind::TooManyValues => format!("'{word}': a word too many"),
@@ -381,8 +455,13 @@ mod tests {
     #[test]
     fn each_refusal_is_one_line() {
         let bad = [
-            ("", "refused: a command is missing (look, edit, zero, discard, fleet, info; --help says more)"),
-            ("lok a 0 1", "refused: 'lok': no such command (look, edit, zero, discard, fleet, info)"),
+            ("", "refused: a command is missing (look, edit, zero, discard, fleet, info, table; --help says more)"),
+            ("lok a 0 1", "refused: 'lok': no such command (look, edit, zero, discard, fleet, info, table)"),
+            ("table", "refused: a command is missing (show, make; --help says more)"),
+            ("table look a", "refused: 'look': no such command (show, make)"),
+            ("table help", "refused: 'help': no such command (show, make)"),
+            ("table make a", "refused: a word is missing: <TABLE>"),
+            ("table show a --replace", "refused: '--replace': no such option (--help lists them)"),
             ("look a 0", "refused: a word is missing: <LENGTH>"),
             ("look a 0 1 5", "refused: '5': a word too many"),
             ("look a 0 1 --trce", "refused: '--trce': no such option (--help lists them)"),
@@ -394,11 +473,15 @@ mod tests {
         }
     }
 
-    fn means(words: &str) -> Outcome<Means> {
+    fn manner(words: &str) -> Outcome<Manner> {
         match parsed(&format!("look a 0 1 {words}"))? {
-            Said::Command(Command::Look { manner, .. }) => manner.means(),
+            Said::Command(Command::Look { manner, .. }) => Ok(manner),
             _ => panic!("no look"),
         }
+    }
+
+    fn means(words: &str) -> Outcome<Means> {
+        manner(words)?.means(None)
     }
 
     #[test]
@@ -415,6 +498,21 @@ mod tests {
         {
             assert_eq!(means(bad).unwrap_err().status(), 2, "{bad}");
         }
+    }
+
+    #[test]
+    fn a_row_is_of_the_table_where_there_is_one() {
+        let table = Table::of_rows(&[[1, 4096, 4096, 4096], [2; 4]]).unwrap();
+        let align = |words: &str| manner(words)?.means(Some(&table)).map(|means| means.align);
+        assert_eq!(align("--drive 0"), Ok(Some([1, 4096, 4096, 4096])));
+        assert_eq!(align("--drive 1"), Ok(Some([2; 4])));
+        for row in ["2", "5", "64", "18446744073709551615"] {
+            let wanted = format!("refused: --drive '{row}': no such drive row of the table, 0 to 1 (201)");
+            assert_eq!(align(&format!("--drive {row}")).unwrap_err().to_string(), wanted);
+        }
+        assert_eq!(manner("--table - --drive 1").unwrap().table(), Ok(Some(Path::new("-"))));
+        assert_eq!(manner("--table a --align 1,1,1,1").unwrap().table().unwrap_err().status(), 2);
+        assert_eq!(manner("").unwrap().table(), Ok(None));
     }
 
     #[test]

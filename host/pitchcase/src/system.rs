@@ -1,12 +1,14 @@
 //! The system's calls that std has not, behind functions that are safe to call. All that is unsafe in this program is
 //! here.
 
-use std::ffi::{c_int, CStr};
+use std::ffi::{c_int, CStr, CString};
 use std::fs::File;
 use std::io::{self, IoSlice, IoSliceMut};
 use std::os::fd::{AsRawFd, FromRawFd, RawFd};
 use std::os::raw::c_ulong;
+use std::os::unix::ffi::OsStrExt;
 use std::os::unix::fs::FileExt;
+use std::path::Path;
 use std::sync::atomic::{AtomicU32, Ordering};
 use std::sync::OnceLock;
 
@@ -121,6 +123,22 @@ pub fn logical_block(file: &File) -> io::Result<u64> {
     // SAFETY: the request writes one int, which lives during the call.
     checked(unsafe { libc::ioctl(file.as_raw_fd(), BLKSSZGET as _, &mut size as *mut c_int) })?;
     Ok(u64::from(size.unsigned_abs()))
+}
+
+/// Gives a file another name, which nobody has: EEXIST where somebody does. A file system that cannot do it in one step
+/// gives it a second name first.
+pub fn rename_new(from: &Path, to: &Path) -> io::Result<()> {
+    let (old, new) = (CString::new(from.as_os_str().as_bytes())?, CString::new(to.as_os_str().as_bytes())?);
+    let here = libc::AT_FDCWD;
+    // SAFETY: both paths are strings that end, and live during the call.
+    let renamed = unsafe { libc::renameat2(here, old.as_ptr(), here, new.as_ptr(), libc::RENAME_NOREPLACE) };
+    match checked(renamed) {
+        Err(error) if matches!(error.raw_os_error(), Some(libc::EINVAL | libc::ENOSYS)) => {
+            std::fs::hard_link(from, to)?;
+            std::fs::remove_file(from)
+        }
+        result => result.map(drop),
+    }
 }
 
 /// The buffer of statx: 256 bytes, whose fields are read by their places in linux/stat.h.

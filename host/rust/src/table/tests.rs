@@ -279,7 +279,8 @@ fn a_runner_edits_by_a_row_and_changes_its_bytes_alone() {
         let edit = jobs.write(65530, b"+002.75deg");
         let tally = runner.run(&mut jobs, &store);
         assert_eq!(jobs.ended(edit).unwrap().outcome, Ok(Answer::Done));
-        assert!(tally.written % settings.req == 0 && tally.written > 0);
+        assert_eq!(tally.written % settings.req, 0);
+        assert_ne!(tally.written, 0);
         let mut wanted = vec![b'.'; 2 * 65536];
         wanted[65530..65540].copy_from_slice(b"+002.75deg");
         assert!(store.bytes()[..] == wanted, "{settings:?}");
