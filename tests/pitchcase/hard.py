@@ -617,6 +617,339 @@ def random_fleets():
     return "120 fleets"
 
 
+# --- Drive tables ---
+
+FLEET = ((1, 4096, 4096, 4096), (512, 512, 512, 65536), (65536, 65536, 1, 1), (1, 2048, 32768, 16384))
+
+
+def record(kind, body=b"", order="little"):
+    return (2 + len(body)).to_bytes(2, order) + kind.to_bytes(2, order) + body
+
+
+def row_record(row, order="little"):
+    return record(1, b"".join(align.to_bytes(4, order) for align in row), order)
+
+
+def table_of(rows):
+    return b"".join(map(row_record, rows))
+
+
+def mixed_table():
+    """Rows with records of other kinds before, between and after them."""
+    return record(0) + b"".join(row_record(row) + record(2 + 300 * i, bytes(7 * i)) for i, row in enumerate(FLEET))
+
+
+class Bad(Exception):
+    """A table is refused: number, record from 1 on and its first byte; 0 and 0 where it is the end that is bad."""
+
+
+def decoded(table):
+    """The request's sentences, read once more and by themselves: the rows, and how many records are of other kinds."""
+    rows, others, at, n = [], 0, 0, 0
+    while at < len(table):
+        n += 1
+        head, rest = table[at:at + 2], table[at + 2:]
+        length = head[0] + 256 * head[1] if len(head) == 2 else None
+        if length is None or length > len(rest) or length < 2:
+            raise Bad(211, n, at)
+        content = rest[:length]
+        if content[:2] == b"\1\0":
+            if length != 18 or len(rows) == 64:
+                raise Bad(211, n, at)
+            row = [sum(byte << 8 * k for k, byte in enumerate(content[i:i + 4])) for i in range(2, 18, 4)]
+            if any(align not in [2 ** k for k in range(17)] for align in row):
+                raise Bad(212, n, at)
+            rows.append(row)
+        else:
+            others += 1
+        at += 2 + length
+    if not rows:
+        raise Bad(211, 0, 0)
+    return rows, others
+
+
+def refused_as(said, bad, what):
+    """One line, which names number, record and byte."""
+    number, n, at = bad.args
+    place = b"record %d, byte %d (0x%x): " % (n, at, at) if n else b"has no row "
+    check(said.startswith(b"pitchcase: refused: ") and said.count(b"\n") == 1, what, said)
+    check(place in said and said.endswith(b" (%d)\n" % number), what, "is", bad.args, "and not", said)
+
+
+def table_is(table, what):
+    """A table is shown, or refused, as the plain decoder says; its number where it is refused, otherwise 0."""
+    try:
+        rows, others = decoded(table)
+    except Bad as bad:
+        ran = pitchcase("table", "show", "-", "--json", text=table, status=2)
+        check(ran.stdout == b"", what, "is refused, and printed:", ran.stdout)
+        refused_as(ran.stderr, bad, what)
+        return bad.args[0]
+    ran = pitchcase("table", "show", "-", "--json", text=table)
+    events = [json.loads(line) for line in ran.stdout.splitlines()]
+    wanted = [{"event": "table", "table": "-", "rows": len(rows), "other_records": others}]
+    wanted += [{"event": "row", "row": i, "align": row} for i, row in enumerate(rows)]
+    check(events == wanted and ran.stderr == b"", what, "is shown as", events, "instead of", wanted)
+    return 0
+
+
+def tables_cut_and_changed():
+    """Every cut, every length field off by one, and what else the request names, beside a decoder of its own."""
+    before = count
+    table = mixed_table()
+    numbers = [table_is(table[:end], "cut at %d" % end) for end in range(len(table) + 1)]
+    check(numbers.count(0) == 8 and 212 not in numbers, "cuts are told as", numbers)
+    at = 0
+    while at < len(table):
+        length = int.from_bytes(table[at:at + 2], "little")
+        for wrong in (length - 1, length + 1, 0, 1, 2, 17, 18, 19, length << 8, 0xffff):
+            number = table_is(table[:at] + (wrong & 0xffff).to_bytes(2, "little") + table[at + 2:], "length %d at %d" % (wrong, at))
+            check(number == 211 or wrong == length or table[at + 2:at + 4] != b"\1\0", "a row of length", wrong, "is no 211")
+        at += 2 + length
+    good = row_record(FLEET[0])
+    cases = [(b"", 211), (table_of([(1, 1, 1, 1)] * 64), 0), (table_of([(1, 1, 1, 1)] * 65), 211), (record(2) * 500, 211),
+             (table_of([(1, 1, 1, 1)] * 64) + row_record((3, 3, 3, 3)), 211), (row_record((0, 1, 1, 1)) + good * 64, 212),
+             (good + row_record((3, 1, 1, 1)) + b"\0", 212), (good + b"\0" + row_record((3, 1, 1, 1)), 211),
+             (record(1, bytes(15)) + good, 211), (record(1, bytes(17)) + good, 211),
+             (b"".join(row_record(row, "big") for row in FLEET), 211), (good[:4] + row_record(FLEET[0], "big")[4:], 212)]
+    cases += [(good + bytes(n), 211) for n in (1, 2, 3, 4, 20, 40)]
+    cases += [(good + end, 211) for end in (b"\1\0", b"\1\0\1", b"\1\0\1\0", b"\2\0", b"\2\0\2")]
+    for kind, length in itertools.product((0, 2, 18, 255, 256, 257, 0x8001, 0xffff), (0, 1, 2, 15, 16, 17, 255, 256, 65533)):
+        cases += [(record(kind, bytes([1]) * length) + good, 0), (good + record(kind, bytes([1]) * length), 0)]
+    for place, align in itertools.product(range(4), (0, 3, 511, 65535, 65537, 131072, 1 << 31, (1 << 32) - 1)):
+        cases.append((good + row_record([align if i == place else 512 for i in range(4)]), 212))
+    for place, align in itertools.product(range(4), [2 ** k for k in range(17)]):
+        cases.append((row_record([align if i == place else 1 for i in range(4)]), 0))
+    for i, (case, wanted) in enumerate(cases):
+        check(table_is(case, "case %d" % i) == wanted, "case", i, "is no", wanted)
+    long = record(7, bytes(65533)) * 60 + good
+    check(table_is(long, "a long table") == 0, "a long table is refused")
+    return "%d tables" % (count - before)
+
+
+def random_tables():
+    """Records put together at random, with some bytes changed."""
+    rng = random.Random(5)
+    numbers = []
+    for n in range(400):
+        table = bytearray()
+        for _ in range(rng.choice((1, 2, 3, 5, 70))):
+            row = [rng.choice([2 ** rng.randrange(17)] * 80 + [rng.getrandbits(32)]) for _ in range(4)]
+            table += rng.choice([row_record(row)] * 6 + [record(rng.choice((0, 2, 257)), bytes(rng.randrange(40)))])
+        for _ in range(rng.choice((0, 0, 1, 3))):
+            table[rng.randrange(len(table))] = rng.choice((0, 1, 2, 16, 18, 255))
+        numbers.append(table_is(bytes(table), "random table %d" % n))
+    check(all(numbers.count(number) > 30 for number in (0, 211, 212)), "of random tables too few are", numbers)
+
+
+def made_again(rng):
+    """A table of random rows, which is made of its text, and shown as text that makes it again."""
+    rows = [[2 ** rng.randrange(17) for _ in range(4)] for _ in range(rng.choice((1, 2, 10, 64)))]
+    typed = "\n".join(",".join(rng.choice(("%d", "0x%x", " %d", "%d\t")) % align for align in row) for row in rows)
+    made = pitchcase("table", "make", "-", "-", text=typed.encode()).stdout
+    check(made == table_of(rows), "of", typed, "is made", made)
+    shown = pitchcase("table", "show", "-", text=made).stdout
+    check(pitchcase("table", "make", "-", "-", text=shown).stdout == made, "of", shown, "is made another table")
+    return rows, made
+
+
+def edits_by_tables():
+    """Edits with rows of random tables: alignments as asked, requests aligned so, and no other byte changed."""
+    rng = random.Random(31)
+    requests = 0
+    for n in range(60):
+        rows, table = made_again(rng)
+        write("some.table", table)
+        number = rng.randrange(len(rows))
+        size = rng.choice((70000, 200000, 262144))
+        plain = bytearray(random_bytes(rng, size))
+        write("image", bytes(plain))
+        align = dict(zip("MRZD", rows[number]))
+        at, length = rng.randrange(size - 1000), rng.choice((1, 10, 700))
+        new = random_bytes(rng, length)
+        options = ("--table", "some.table", "--drive", rng.choice((number, hex(number))), "--json", "--trace")
+        command, changed = rng.choice(((("edit", "image", at, "--hex", new.hex()), new), (("zero", "image", at, length), bytes(length))))
+        by_numbers = pitchcase(*command, "--align", "%d,%d,%d,%d" % tuple(rows[number]), "--json", "--trace", "--plan").stdout
+        check(pitchcase(*command, *options, "--plan").stdout == by_numbers, "run", n, "a plan by a row is another than by its alignments")
+        events = [json.loads(line) for line in pitchcase(*command, *options).stdout.splitlines()]
+        check(events[0]["align"] == rows[number], "run", n, "row", number, "of", rows, "is", events[0])
+        for request in (event for event in events if event["event"] == "request"):
+            unit = align[{"zero": "Z", "alloc": "Z", "discard": "D"}.get(request["kind"], "R")]
+            check(request["offset"] % unit == 0 and request["length"] % unit == 0, "run", n, "asked for", align, "and made", request)
+            requests += 1
+        plain[at:at + length] = changed
+        check(read("image") == plain, "run", n, "with", rows[number], "left other bytes")
+        ran = pitchcase(*command, "--table", "some.table", "--drive", len(rows), status=2)
+        check(b" 0 to %d (201)\n" % (len(rows) - 1) in ran.stderr and read("image") == plain, ran.stderr)
+    check(requests > 200, "only", requests, "requests")
+    return "%d requests" % requests
+
+
+class Folder:
+    """An empty folder, and what is in it."""
+
+    def __init__(self):
+        shutil.rmtree("tables", ignore_errors=True)
+        os.mkdir("tables")
+
+    def has(self, *names):
+        found = sorted(os.listdir("tables"))
+        check(found == sorted(names), "the folder has", found, "instead of", names)
+
+
+def tables_that_fail():
+    """Where standard output or the drive fails nothing is made, an old table stays, and nothing is left."""
+    folder = Folder()
+    write("rows", b"1,4096,4096,4096\n")
+    write("some.table", table_of(FLEET))
+    make = ("table", "make", "rows", "tables/t")
+    reader, writer = os.pipe()
+    os.close(reader)
+    with open("/dev/full", "wb") as full:
+        for output, why in ((full, b"no space left on device (28); "), (writer, b"broken pipe (32); ")):
+            for words in (make, ("table", "show", "some.table"), ("table", "make", "rows", "-")):
+                ran = pitchcase(*words, status=1, stdout=output)
+                check(why in ran.stderr and ran.stderr.count(b"\n") == 1, words, ran.stderr)
+                folder.has()
+    os.close(writer)
+    for closed in itertools.chain.from_iterable(itertools.combinations((0, 1, 2), n) for n in range(4)):
+        pitchcase(*make, status=1 if 1 in closed else 0, preexec_fn=lambda: [os.close(d) for d in closed])
+        folder.has(*([] if 1 in closed else ["t"]))
+        if 1 not in closed:
+            check(read("tables/t") == table_of([(1, 4096, 4096, 4096)]), "with", closed, "closed another table is made")
+            os.unlink("tables/t")
+    for words in (("table", "show", "-"), ("table", "make", "-", "tables/t")):
+        ran = pitchcase(*words, status=2, preexec_fn=lambda: os.close(0))
+        check(b"standard input is closed" in ran.stderr, ran.stderr)
+    folder.has()
+    for old in (False, True):
+        if old:
+            write("tables/t", b"old")
+        more = ("--replace",) if old else ()
+        ran = pitchcase(*make, *more, status=1, preexec_fn=lambda: resource.setrlimit(resource.RLIMIT_FSIZE, (5, 5)))
+        check(b"TABLE tables/t: file too large (27); nothing was made\n" in ran.stderr, ran.stderr)
+        folder.has(*(["t"] if old else []))
+        if FAULTS:
+            ran = pitchcase(*make, *more, status=1, faults={"FAULT_FSYNC": "1,5"})
+            check(b"TABLE tables/t: input/output error (5); nothing was made\n" in ran.stderr, ran.stderr)
+            folder.has(*(["t"] if old else []))
+    check(read("tables/t") == b"old", "a make that failed changed the old table")
+
+
+def tables_at_once():
+    """Of many that make one table one does, the others are refused; who reads while it is replaced sees a whole one."""
+    folder = Folder()
+    texts = {}
+    for i in range(8):
+        rows = [(1, 2 ** i, 2 ** i, 2 ** i)] * (8 * i + 8)
+        write("rows%d" % i, b"".join(b"%d,%d,%d,%d\n" % row for row in rows))
+        texts[i] = table_of(rows)
+    for _ in range(6):
+        makers = [subprocess.Popen([PROGRAM, "table", "make", "rows%d" % i, "tables/t"], stdout=subprocess.DEVNULL,
+                                   stderr=subprocess.PIPE) for i in range(8)]
+        said = [maker.communicate()[1] for maker in makers]
+        made = [i for i, maker in enumerate(makers) if maker.returncode == 0]
+        check(len(made) == 1 and read("tables/t") == texts[made[0]], made, "have made a table that is", read("tables/t")[:40])
+        for i, maker in enumerate(makers):
+            check(i in made or maker.returncode == 2 and b"is there already; --replace" in said[i], maker.returncode, said[i])
+        folder.has("t")
+        os.unlink("tables/t")
+    write("tables/t", texts[0])
+    for n in range(6):
+        makers = [subprocess.Popen([PROGRAM, "table", "make", "rows%d" % i, "tables/t", "--replace"], stdout=subprocess.DEVNULL)
+                  for i in range(8)]
+        while any(maker.poll() is None for maker in makers):
+            check(read("tables/t") in texts.values(), "a table that is being replaced is not whole")
+        check(all(maker.returncode == 0 for maker in makers), "of those who replace one has failed")
+        folder.has("t")
+
+
+def tables_interrupted():
+    """A make that waits for its text, and is asked to end, makes nothing; what a killed one left is in nobody's way."""
+    folder = Folder()
+    for sign in SIGNALS:
+        process = started("table", "make", "-", "tables/t", stdin=subprocess.PIPE, stderr=subprocess.PIPE)
+        process.stdin.write(b"1,1,1,1\n")
+        process.stdin.flush()
+        # It reads in its main thread: the signal comes while it waits in that call.
+        wait_until(lambda: open("/proc/%d/stat" % process.pid).read().rsplit(")", 1)[1].split()[0] == "S", "it does not wait")
+        process.send_signal(sign)
+        said = process.stderr.read()
+        check(process.wait() == 130 and said == b"pitchcase: interrupted: nothing was begun\n", process.returncode, said)
+        process.stdin.close()
+        folder.has()
+    write("rows", b"1,1,1,1\n")
+    left = [".pitchcase-%d-0.new" % pid for pid in range(os.getpid(), os.getpid() + 3000)]
+    for name in left:
+        write("tables/" + name, b"left")
+    pitchcase("table", "make", "rows", "tables/t")
+    folder.has("t", *left)
+    check(all(read("tables/" + name) == b"left" for name in left), "a file that an earlier run left has changed")
+
+
+def tables_of_others():
+    """Permissions, by a user who is not root: nothing is made, and none replaced, where he may not write."""
+    Folder()
+    write("tables/rows", b"1,1,1,1\n")
+    if os.geteuid() == 0:
+        shutil.copy(PROGRAM, "tables/pitchcase")
+        os.chmod("tables/pitchcase", 0o755)
+        before = os.stat(".").st_mode
+        os.chmod(".", 0o755)
+    os.chmod("tables", 0o777)
+
+    def by_user(*words, status=0):
+        def become():
+            os.setgroups([])
+            os.setgid(65534)
+            os.setuid(65534)
+        program = PROGRAM if os.geteuid() != 0 else os.path.abspath("tables/pitchcase")
+        ran = subprocess.run([program, *words], stdout=subprocess.PIPE, stderr=subprocess.PIPE, cwd="tables",
+                             preexec_fn=become if os.geteuid() == 0 else None)
+        check(ran.returncode == status, words, "ended with", ran.returncode, ran.stderr)
+        return ran.stderr
+
+    try:
+        by_user("table", "make", "rows", "t")
+        os.chmod("tables/t", 0o444)
+        said = by_user("table", "make", "rows", "t", "--replace", status=2)
+        check(said == b"pitchcase: refused: TABLE t: permission denied (13)\n", said)
+        os.chmod("tables/t", 0o000)
+        for words in (("table", "show", "t"), ("table", "make", "t", "u"), ("info", "rows", "--table", "t")):
+            check(b" t: permission denied (13)\n" in by_user(*words, status=2), words)
+        os.chmod("tables/t", 0o604)
+        by_user("table", "make", "rows", "t", "--replace")
+        check(os.stat("tables/t").st_mode & 0o777 == 0o604, "a table that was replaced has other permissions")
+        os.chmod("tables", 0o555)
+        said = by_user("table", "make", "rows", "new", status=2)
+        check(said == b"pitchcase: refused: TABLE new: its folder: permission denied (13)\n", said)
+    except (PermissionError, subprocess.SubprocessError):
+        return "another user cannot be had here: left out"
+    finally:
+        os.chmod("tables", 0o777)
+        if os.geteuid() == 0:
+            os.chmod(".", before)
+    return None
+
+
+def tables_from_pipes():
+    """A table that comes through a pipe, a byte at a time, and one that has no end."""
+    os.mkfifo("table.pipe")
+    process = subprocess.Popen([PROGRAM, "table", "show", "table.pipe"], stdout=subprocess.PIPE)
+    with open("table.pipe", "wb", buffering=0) as pipe:
+        for byte in mixed_table():
+            pipe.write(bytes([byte]))
+    shown = process.communicate()[0]
+    check(process.returncode == 0 and shown == pitchcase("table", "show", "-", text=mixed_table()).stdout, shown)
+    os.unlink("table.pipe")
+    if FAULTS:
+        write("image", IMAGE)
+        write("some.table", mixed_table())
+        faults = {"FAULT_SHORT": "1", "FAULT_EINTR": "1"}
+        pitchcase("edit", "image", 600, "--hex", "ffff", "--table", "some.table", "--drive", 0, faults=faults)
+        check(read("image") == edited("edit")[0], "short transfers with a table")
+
+
 # --- Devices ---
 
 
@@ -775,6 +1108,14 @@ TESTS = (
     ("a full disk", full_disk, False),
     ("images of 0, 1 and 2^32 + 1 bytes", sizes, False),
     ("random fleets", random_fleets, False),
+    ("drive tables, cut and changed", tables_cut_and_changed, False),
+    ("random drive tables", random_tables, False),
+    ("edits by rows of a table", edits_by_tables, False),
+    ("tables that cannot be made", tables_that_fail, False),
+    ("tables made at once", tables_at_once, False),
+    ("interrupted tables", tables_interrupted, False),
+    ("tables of others", tables_of_others, False),
+    ("tables from a pipe", tables_from_pipes, False),
     ("--direct", direct_files, False),
     ("loop devices", devices, False),
     ("JSON", json_lines, False),
