@@ -519,8 +519,27 @@ def full_disk():
         check(not any(read(image)), "zeroes on a full disk")
         ran = pitchcase("zero", image, 0, 8 << 20, "--alloc", status=1)
         check(b"no space left on device (28)" in ran.stderr and not any(read(image)), ran.stderr)
+        full_of_tables()
     finally:
         subprocess.run(["umount", "mount"], check=True)
+
+
+def full_of_tables():
+    """On a disk that is full no table is made, and an old one stays."""
+    write("rows", b"1,1,1,1\n" * 64)
+    pitchcase("table", "make", "rows", "mount/old")
+    old = read("mount/old")
+    with open("mount/rest", "wb", buffering=0) as rest:
+        try:
+            while rest.write(bytes(4096)):
+                pass
+        except OSError as error:
+            check(error.errno == errno.ENOSPC, error)
+    names = sorted(os.listdir("mount"))
+    for words in (("mount/new",), ("mount/old", "--replace")):
+        ran = pitchcase("table", "make", "rows", *words, status=1)
+        check(b"TABLE %s: no space left on device (28); nothing was made\n" % words[0].encode() in ran.stderr, ran.stderr)
+    check(read("mount/old") == old and sorted(os.listdir("mount")) == names, "a full disk left", os.listdir("mount"))
 
 
 def mount_point():
@@ -864,21 +883,52 @@ def tables_at_once():
         folder.has("t")
 
 
+def is_waiting(process):
+    """Whether it waits in a call of the system's."""
+    with open("/proc/%d/stat" % process.pid) as f:
+        return f.read().rsplit(")", 1)[1].split()[0] == "S"
+
+
+def full_pipe():
+    """Both ends of a pipe that takes no more."""
+    reader, writer = os.pipe()
+    os.set_blocking(writer, False)
+    try:
+        while os.write(writer, bytes(4096)):
+            pass
+    except BlockingIOError:
+        os.set_blocking(writer, True)
+    return reader, writer
+
+
 def tables_interrupted():
-    """A make that waits for its text, and is asked to end, makes nothing; what a killed one left is in nobody's way."""
+    """A make that is asked to end while it waits, for its text or for its reader, makes nothing; what a killed one left
+    is in nobody's way."""
     folder = Folder()
     for sign in SIGNALS:
         process = started("table", "make", "-", "tables/t", stdin=subprocess.PIPE, stderr=subprocess.PIPE)
         process.stdin.write(b"1,1,1,1\n")
         process.stdin.flush()
         # It reads in its main thread: the signal comes while it waits in that call.
-        wait_until(lambda: open("/proc/%d/stat" % process.pid).read().rsplit(")", 1)[1].split()[0] == "S", "it does not wait")
+        wait_until(lambda: is_waiting(process), "it does not wait")
         process.send_signal(sign)
         said = process.stderr.read()
         check(process.wait() == 130 and said == b"pitchcase: interrupted: nothing was begun\n", process.returncode, said)
         process.stdin.close()
         folder.has()
     write("rows", b"1,1,1,1\n")
+    for sign in SIGNALS:
+        reader, writer = full_pipe()
+        process = started("table", "make", "rows", "tables/t", stdout=writer, stderr=subprocess.PIPE)
+        os.close(writer)
+        wait_until(lambda: len(os.listdir("tables")) == 1 and is_waiting(process), "it does not wait")
+        process.send_signal(sign)
+        while os.read(reader, 65536):
+            pass
+        os.close(reader)
+        said = process.stderr.read()
+        check(process.wait() == 130 and said == b"pitchcase: interrupted: nothing was made\n", process.returncode, said)
+        folder.has()
     left = [".pitchcase-%d-0.new" % pid for pid in range(os.getpid(), os.getpid() + 3000)]
     for name in left:
         write("tables/" + name, b"left")
