@@ -144,10 +144,20 @@ fn show(path: &Path, json: bool, is_stdin_closed: bool) -> Outcome<()> {
             false => report.out.line(&rows::line(number, row)),
         }
     }
-    if let Some(count) = others.filter(|&count| count > 0 && !json) {
-        report.out.line(&format!("# passed over: {count} record{} of other kinds", if count == 1 { "" } else { "s" }));
+    if let Some(line) = others_line(others).filter(|_| !json) {
+        report.out.line(&line);
     }
     report.out.settle("nothing was begun")
+}
+
+/// A comment on the records of other kinds, where there are any or their count is not known.
+fn others_line(others: Option<usize>) -> Option<String> {
+    match others {
+        Some(0) => None,
+        Some(1) => Some("# passed over: 1 record of another kind".into()),
+        Some(count) => Some(format!("# passed over: {count} records of other kinds")),
+        None => Some("# records of other kinds are not counted: pitchcase's own look comes to another end".into()),
+    }
 }
 
 /// Makes a table of the rows of a text.
@@ -234,6 +244,9 @@ mod tests {
     fn records_of_other_kinds_are_counted() {
         let table = [vec![2, 0, 9, 9], row([1; 4]), vec![2, 0, 0, 0], vec![4, 0, 1, 1, 7, 7]].concat();
         assert_eq!(look_over(&table).map_err(|bad| bad.text()), Ok(3));
+        assert_eq!(others_line(Some(0)), None);
+        assert_eq!(others_line(Some(3)).unwrap(), "# passed over: 3 records of other kinds");
+        assert!([Some(1), None].into_iter().all(|others| others_line(others).unwrap().starts_with("# ")));
     }
 
     #[test]
