@@ -135,7 +135,9 @@ pub fn rename_new(from: &Path, to: &Path) -> io::Result<()> {
     match checked(renamed) {
         Err(error) if matches!(error.raw_os_error(), Some(libc::EINVAL | libc::ENOSYS)) => {
             std::fs::hard_link(from, to)?;
-            std::fs::remove_file(from)
+            // It has its name: that the old one stays too is no failure.
+            let _ = std::fs::remove_file(from);
+            Ok(())
         }
         result => result.map(drop),
     }
