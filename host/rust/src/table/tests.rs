@@ -149,7 +149,8 @@ fn a_table_has_1_to_64_rows() {
 #[test]
 fn an_alignment_is_a_power_of_two_up_to_65536() {
     let fit: Vec<u64> = (0..17).map(|bit| 1 << bit).collect();
-    let unfit = [0, 3, 5, 511, 513, 65535, 65537, 98304, 131_072, 1 << 24, 1 << 31, u64::from(u32::MAX)];
+    let unfit =
+        [0, 3, 5, 511, 513, 65535, 65537, 98304, 131_072, 1 << 24, (1 << 24) + 512, (1 << 31) + 1, (1 << 32) - 1];
     for (place, before) in [(0, 0), (1, 1), (2, 2), (3, 63)] {
         let table = |align: u64| {
             let mut row = [512; 4];
