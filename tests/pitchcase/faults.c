@@ -3,6 +3,7 @@
  *   FAULT_EINTR=1         every third transfer, and every other fallocate, is interrupted first
  *   FAULT_DELAY_US=N      each transfer takes so long
  *   FAULT_READ=N,ERRNO    the Nth read fails with that error; so do FAULT_WRITE, FAULT_FALLOCATE, FAULT_FSYNC (N = 0: each)
+ *   FAULT_RENAME=N,ERRNO  the Nth rename fails with that error
  * `cc -shared -fPIC -O1 faults.c -o faults.so -ldl -pthread` */
 #define _GNU_SOURCE
 #include <dlfcn.h>
@@ -14,7 +15,7 @@
 #include <sys/uio.h>
 #include <unistd.h>
 
-static atomic_ulong transfers, reads, writes, fallocates, fsyncs;
+static atomic_ulong transfers, reads, writes, fallocates, fsyncs, renames;
 
 static long setting(const char *name)
 {
@@ -106,4 +107,14 @@ int fsync(int fd)
     if (is_failing("FAULT_FSYNC", &fsyncs))
         return -1;
     return real(fd);
+}
+
+int rename(const char *from, const char *to)
+{
+    return is_failing("FAULT_RENAME", &renames) ? -1 : REAL(rename)(from, to);
+}
+
+int renameat2(int from_folder, const char *from, int to_folder, const char *to, unsigned flags)
+{
+    return is_failing("FAULT_RENAME", &renames) ? -1 : REAL(renameat2)(from_folder, from, to_folder, to, flags);
 }

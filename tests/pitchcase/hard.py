@@ -735,7 +735,7 @@ def tables_cut_and_changed():
     cases += [(good + end, 211) for end in (b"\1\0", b"\1\0\1", b"\1\0\1\0", b"\2\0", b"\2\0\2")]
     for kind, length in itertools.product((0, 2, 18, 255, 256, 257, 0x8001, 0xffff), (0, 1, 2, 15, 16, 17, 255, 256, 65533)):
         cases += [(record(kind, bytes([1]) * length) + good, 0), (good + record(kind, bytes([1]) * length), 0)]
-    for place, align in itertools.product(range(4), (0, 3, 511, 65535, 65537, 131072, 1 << 31, (1 << 32) - 1)):
+    for place, align in itertools.product(range(4), (0, 3, 65535, 65537, 131072, (1 << 24) + 512, (1 << 31) + 1, (1 << 32) - 1)):
         cases.append((good + row_record([align if i == place else 512 for i in range(4)]), 212))
     for place, align in itertools.product(range(4), [2 ** k for k in range(17)]):
         cases.append((row_record([align if i == place else 1 for i in range(4)]), 0))
@@ -852,7 +852,28 @@ def tables_that_fail():
             ran = pitchcase(*make, *more, status=1, faults={"FAULT_FSYNC": "1,5"})
             check(b"TABLE tables/t: input/output error (5); nothing was made\n" in ran.stderr, ran.stderr)
             folder.has(*(["t"] if old else []))
+            ran = pitchcase(*make, *more, status=1, faults={"FAULT_RENAME": "1,30"})
+            check(b"TABLE tables/t: read-only file system (30); nothing was made\n" in ran.stderr, ran.stderr)
+            folder.has(*(["t"] if old else []))
     check(read("tables/t") == b"old", "a make that failed changed the old table")
+
+
+def tables_and_names():
+    """A file system that cannot rename without replacing; a folder that cannot be synced."""
+    folder = Folder()
+    write("rows", b"1,4096,4096,4096\n")
+    make = ("table", "make", "rows", "tables/t")
+    for errno_of in (errno.EINVAL, errno.ENOSYS):
+        pitchcase(*make, faults={"FAULT_RENAME": "1,%d" % errno_of})
+        check(read("tables/t") == table_of([(1, 4096, 4096, 4096)]), "by a second name another table is made")
+        write("tables/t", b"old")
+        pitchcase(*make, status=2, faults={"FAULT_RENAME": "1,%d" % errno_of})
+        folder.has("t")
+        check(read("tables/t") == b"old", "by a second name the old table is replaced")
+        os.unlink("tables/t")
+    ran = pitchcase(*make, status=1, faults={"FAULT_FSYNC": "2,5"})
+    check(b"TABLE tables/t: fsync of its folder: input/output error (5); it was made\n" in ran.stderr, ran.stderr)
+    folder.has("t")
 
 
 def tables_at_once():
@@ -863,9 +884,11 @@ def tables_at_once():
         rows = [(1, 2 ** i, 2 ** i, 2 ** i)] * (8 * i + 8)
         write("rows%d" % i, b"".join(b"%d,%d,%d,%d\n" % row for row in rows))
         texts[i] = table_of(rows)
-    for _ in range(6):
+    for n in range(8):
+        # Every other time a file system that cannot rename without replacing.
+        environment = dict(os.environ, **({"LD_PRELOAD": FAULTS, "FAULT_RENAME": "1,22"} if FAULTS and n % 2 else {}))
         makers = [subprocess.Popen([PROGRAM, "table", "make", "rows%d" % i, "tables/t"], stdout=subprocess.DEVNULL,
-                                   stderr=subprocess.PIPE) for i in range(8)]
+                                   stderr=subprocess.PIPE, env=environment) for i in range(8)]
         said = [maker.communicate()[1] for maker in makers]
         made = [i for i, maker in enumerate(makers) if maker.returncode == 0]
         check(len(made) == 1 and read("tables/t") == texts[made[0]], made, "have made a table that is", read("tables/t")[:40])
@@ -874,7 +897,7 @@ def tables_at_once():
         folder.has("t")
         os.unlink("tables/t")
     write("tables/t", texts[0])
-    for n in range(6):
+    for _ in range(6):
         makers = [subprocess.Popen([PROGRAM, "table", "make", "rows%d" % i, "tables/t", "--replace"], stdout=subprocess.DEVNULL)
                   for i in range(8)]
         while any(maker.poll() is None for maker in makers):
@@ -1162,6 +1185,7 @@ TESTS = (
     ("random drive tables", random_tables, False),
     ("edits by rows of a table", edits_by_tables, False),
     ("tables that cannot be made", tables_that_fail, False),
+    ("names of tables", tables_and_names, True),
     ("tables made at once", tables_at_once, False),
     ("interrupted tables", tables_interrupted, False),
     ("tables of others", tables_of_others, False),
