@@ -44,7 +44,7 @@ fn loaded(name: &str, path: &Path, bytes: &[u8]) -> Outcome<Table> {
 
 /// A refusal of the library's, of which this program's own look does not find the place.
 pub fn unfound(refusal: Refusal) -> String {
-    format!("{refusal}; by which of them is not known: pitchcase's own look comes to another end")
+    format!("{refusal}; where is not known: pitchcase's own look comes to another end")
 }
 
 /// A record that is refused.
