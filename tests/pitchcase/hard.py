@@ -960,28 +960,28 @@ def tables_interrupted():
     check(all(read("tables/" + name) == b"left" for name in left), "a file that an earlier run left has changed")
 
 
+def become_nobody():
+    os.setgroups([])
+    os.setgid(65534)
+    os.setuid(65534)
+
+
+def by_user(*words, status=0):
+    """Runs a copy of it, in the folder of tables, by a user who is not root; its standard error."""
+    ran = subprocess.run([os.path.abspath("tables/pitchcase"), *words], stdout=subprocess.PIPE, stderr=subprocess.PIPE,
+                         cwd="tables", preexec_fn=become_nobody if os.geteuid() == 0 else None)
+    check(ran.returncode == status, words, "ended with", ran.returncode, ran.stderr)
+    return ran.stderr
+
+
 def tables_of_others():
     """Permissions, by a user who is not root: nothing is made, and none replaced, where he may not write."""
     Folder()
     write("tables/rows", b"1,1,1,1\n")
-    if os.geteuid() == 0:
-        shutil.copy(PROGRAM, "tables/pitchcase")
-        os.chmod("tables/pitchcase", 0o755)
-        before = os.stat(".").st_mode
-        os.chmod(".", 0o755)
+    shutil.copy(PROGRAM, "tables/pitchcase")
+    before = os.stat(".").st_mode
+    os.chmod(".", 0o755)
     os.chmod("tables", 0o777)
-
-    def by_user(*words, status=0):
-        def become():
-            os.setgroups([])
-            os.setgid(65534)
-            os.setuid(65534)
-        program = PROGRAM if os.geteuid() != 0 else os.path.abspath("tables/pitchcase")
-        ran = subprocess.run([program, *words], stdout=subprocess.PIPE, stderr=subprocess.PIPE, cwd="tables",
-                             preexec_fn=become if os.geteuid() == 0 else None)
-        check(ran.returncode == status, words, "ended with", ran.returncode, ran.stderr)
-        return ran.stderr
-
     try:
         by_user("table", "make", "rows", "t")
         os.chmod("tables/t", 0o444)
@@ -1000,8 +1000,7 @@ def tables_of_others():
         return "another user cannot be had here: left out"
     finally:
         os.chmod("tables", 0o777)
-        if os.geteuid() == 0:
-            os.chmod(".", before)
+        os.chmod(".", before)
     return None
 
 
