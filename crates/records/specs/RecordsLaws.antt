@@ -1,5 +1,5 @@
--- Laws of the house form: a byte string is the record that it starts with and those behind it; what was written as records is read as these,
--- and a record of which bytes are missing is broken. Assumes nothing.
+-- Laws of the house form: a byte string is the record that it starts with and those behind it; what was written as records is read as
+-- these, and a record of which bytes are missing is broken. Assumes nothing.
 use mathlib.Core.Path.{_≡_, refl, ap, _∙_}
 use mathlib.Core.Bool.{Bool, true, false, _||_, or-true}
 use mathlib.Core.Logic.{_⊎_, inl, inr}
@@ -57,7 +57,8 @@ pub start-few : (bs : List ℕ) → 0 < length bs → length bs < 4 → startOf 
 unfolding startOf isCut isShort
 start-few bs h k =
     let none = ne-eqb (length bs) 0 (λ e. omega (arith, e)) in
-    let bad = or-cut (isCut bs) (isShort bs) (λ e. lt-ltb (lengthField bs) 2 (omega (arith, ltb-false (length bs) (2 + lengthField bs) e))) in
+    let bad = or-cut (isCut bs) (isShort bs)
+    (λ e. lt-ltb (lengthField bs) 2 (omega (arith, ltb-false (length bs) (2 + lengthField bs) e))) in
     rw (none, bad)
 
 module _ (bs : List ℕ) (h : 0 < length bs) where

@@ -2,5 +2,6 @@
 pub mod Tables
 pub mod TablesLaws
 pub mod Writing
+pub mod Examples
 pub mod Words
 pub mod WordsLaws

@@ -54,8 +54,8 @@ withEntry Passed without after = without
 withEntry (Row a) without after = before a after
 withEntry (Refused r) without after = refused r
 
--- The rows that records add to n rows, "in file order". "The first bad record decides." "211 if a record is cut, shorter than its kind field,
--- [..] or none in all": that is seen at the end.
+-- The rows that records add to n rows, "in file order". "The first bad record decides." "211 if a record is cut, shorter than its kind
+-- field, [..] or none in all": that is seen at the end.
 unfoldable pub rowsFrom : ℕ → Form → Rows
 rowsFrom n end = pick (eqb n 0) (refused BadTable) (these [])
 rowsFrom n broken = refused BadTable
