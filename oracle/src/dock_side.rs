@@ -5,7 +5,7 @@
 //! job's share alone; pushes of a begin's segments leave the joined list.
 
 use crate::dock_scratch::Scratch;
-use crate::dock_words::{self, row, Lengths, Reply, Row, Words, NO_NUMBER};
+use crate::dock_words::{self, load_table, row, Lengths, Reply, Row, Words, NO_NUMBER};
 use crate::document;
 use crate::imago_side::CLOSED;
 use crate::memory::Data;
@@ -164,6 +164,36 @@ impl DockSide {
         self.expect(other == before, || "a refused opening by row changed the dock".to_owned());
     }
 
+    /// Opening by a row of a loaded table must do as opening with its alignments does: the row stands at the place that its share
+    /// picks, behind others. Where the alignments do not fit, the table is refused with 212.
+    fn check_loaded(&self, align: [u64; 4], share: u64, buffers: [u64; 4]) {
+        let record = |align: [u64; 4]| {
+            let body = align.map(|a| u32::try_from(a).unwrap_or(u32::MAX).to_le_bytes());
+            [&[18, 0, 1, 0], &body.concat()[..]].concat()
+        };
+        let row = share as usize % 64;
+        let bytes = [record([1, 512, 512, 512]).repeat(row), record(align)].concat();
+        let mut table = [u64::MAX; 257];
+        let loaded = load_table(&mut table, &bytes);
+        let fits = align.iter().all(|a| a.is_power_of_two() && *a <= 65_536);
+        self.expect(loaded == if fits { 0 } else { document::ROW }, || {
+            format!("a table with {align:?} loads as {loaded}")
+        });
+        if !fits {
+            self.expect(table == [u64::MAX; 257], || "a refused load changed the table".to_owned());
+            return;
+        }
+        let mut other = Words::default();
+        let opened = other.open_table(&table, row, share, buffers);
+        let same = other == if self.opened == 0 { self.words.clone() } else { Words::default() };
+        self.expect(opened == self.opened && same, || format!("row {row} of a loaded table opens otherwise"));
+        let before = other.clone();
+        let none = other.open_table(&table, row + 1, share, buffers);
+        self.expect(none == document::UNFIT && other == before, || {
+            format!("row {} past a table opens with {none}", row + 1)
+        });
+    }
+
     /// Calls that lend buffers of other lengths: each is refused with 205, and the words stay.
     fn probe(&mut self, begin: Option<&Begin>) {
         self.calls += 1;
@@ -302,6 +332,7 @@ impl Side for DockSide {
         self.expect(self.opened == 0 || self.words == before, || "a refused opening changed the dock".to_owned());
         self.opening = *o;
         self.check_rows(o.bounce, buffers);
+        self.check_loaded(align_of(o), o.bounce, buffers);
         self.opened
     }
 

@@ -34,6 +34,9 @@ pub fn row(segments: &[Segment], total: u64) -> Row {
     row
 }
 
+/// A drive table: how many rows, then the alignments of each of 64.
+pub type TableRow = [u64; 257];
+
 /// The blockers of a dock, or alone; zeroes where none is entered.
 pub type BlockerRow = [u64; BLOCKERS];
 
@@ -68,6 +71,20 @@ extern "C" {
         scratch_address: u64,
         scratch_length: u64,
     ) -> u8;
+    fn dock_words_open_table(
+        settings: Alter,
+        blockers: Alter,
+        states: Alter,
+        vectors: Alter,
+        table: Read,
+        row: usize,
+        share: u64,
+        data_address: u64,
+        data_length: u64,
+        scratch_address: u64,
+        scratch_length: u64,
+    ) -> u8;
+    fn dock_words_load_table(table: Alter, bytes: *const u8, bytes_len: usize) -> u8;
     fn dock_words_begin_read(
         settings: Read,
         blockers: Alter,
@@ -229,6 +246,11 @@ impl Words {
         unsafe { dock_words_open_row(s, k, j, v, row, share, b[0], b[1], b[2], b[3]) }
     }
 
+    pub fn open_table(&mut self, table: &TableRow, row: usize, share: u64, b: Buffers) -> u8 {
+        let (s, k, j, v) = self.alter();
+        unsafe { dock_words_open_table(s, k, j, v, table.as_ptr(), row, share, b[0], b[1], b[2], b[3]) }
+    }
+
     /// Changes a word, which no call does where it is refused.
     pub fn disturb(&mut self) {
         self.states[STATES - 1] ^= 1;
@@ -350,4 +372,10 @@ pub fn blockers_leave(b: &mut BlockerRow, slot: usize) -> u8 {
 /// 1 where the slot's blocker waits, 0 where not.
 pub fn blockers_wait(b: &BlockerRow, slot: usize) -> u8 {
     unsafe { dock_words_blockers_wait(b.as_ptr(), slot) }
+}
+
+/// Loads a drive table: 0, 211 or 212.
+pub fn load_table(table: &mut TableRow, bytes: &[u8]) -> u8 {
+    // SAFETY: as for the calls on a dock.
+    unsafe { dock_words_load_table(table.as_mut_ptr(), bytes.as_ptr(), bytes.len()) }
 }

@@ -16,6 +16,9 @@ pub const SLOT: u8 = 208;
 pub const NO_ANSWER: u8 = 209;
 pub const UNALIGNED: u8 = 210;
 
+/// Document 02: a drive table with a row that breaks an alignment limit.
+pub const ROW: u8 = 212;
+
 /// The first code that is no answer of the store.
 pub const FIRST_NO_ANSWER: u8 = 200;
 pub const LONGEST_BOUNCE: u64 = 1_048_576;
