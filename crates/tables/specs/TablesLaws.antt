@@ -138,7 +138,8 @@ module _ (bytes : List ℕ) (rs : List Alignments) (e : tableOf bytes ≡ these 
   pub loaded-long : length (loadOf bytes .table .rows) ≡ 64
   loaded-long =
       let s = table-sound bytes rs e in
-      rw loaded-with (length-append rs (replicate (64 - length rs) noRow) ∙ rw (length-replicate (64 - length rs) noRow) (omega (arith, s .most)))
+      rw loaded-with
+      (length-append rs (replicate (64 - length rs) noRow) ∙ rw (length-replicate (64 - length rs) noRow) (omega (arith, s .most)))
 
   -- row i of the loaded table is row i of the file, and past the last there is none
   pub loaded-row : (i : ℕ) → i < length rs → profileIn (loadOf bytes .table) i ≡ Of (getD rs i noRow)

@@ -100,7 +100,8 @@ table-back t e = let b : rows alignmentsFrom 4 64 (rowWords (t .rows)) ≡ t .ro
 
 -- ---- what a load leaves
 
-pub loads-refused : (l x : Loaded) → x ≡ l → (r : Refusal) → x .outcome ≡ Refused r → (before : List ℕ) → LoadsIn l (x .outcome) before before
+pub loads-refused : (l x : Loaded) → x ≡ l → (r : Refusal) → x .outcome ≡ Refused r → (before : List ℕ)
+    → LoadsIn l (x .outcome) before before
 loads-refused l x e r o before = (ap (λ (y : Loaded). y .outcome) e, rw (← e, o))
 
 pub loads-done : (l x : Loaded) → x ≡ l → x .outcome ≡ Done → (before after : List ℕ) → after ≡ tableWords (x .table)

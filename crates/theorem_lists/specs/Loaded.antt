@@ -1,5 +1,5 @@
--- Document 02, N3: "All that is promised for a built-in row holds for each loaded one." Opening by a row of a table that was loaded is opening
--- with its alignments, as opening by a built-in row is; it is refused for no other reason; and the theorem on every list holds of its dock.
+-- Document 02, N3: "All that is promised for a built-in row holds for each loaded one." Opening by a row of a table that was loaded is
+-- opening with its alignments, which fit, as opening by a built-in row is; and the theorem on every list holds of its dock.
 use mathlib.Core.Path.{_≡_, ap}
 use mathlib.Core.Bool.{true}
 use mathlib.Core.List.{List}
