@@ -32,7 +32,7 @@ use Rattle.dock.specs.declared.tell.Collected.{Collected}
 use Rattle.dock.specs.declared.tell.Collects.{Collects}
 use Rattle.dock.specs.declared.numbers.Number.{Number}
 use Rattle.dock.specs.declared.numbers.Number.the-variants.{Of, None}
-use Rattle.tables.specs.Words.{tableWords}
+use Rattle.tables.specs.Words.{wordsAfter}
 use Rattle.tables.specs.declared.table.Loaded.{Loaded}
 use Rattle.dock_words.specs.View.{blockersOf, vectorWords}
 use Rattle.dock_words.specs.CallWords.{sameUnless}
@@ -124,7 +124,7 @@ MovesAs t moved old r bytes = (r ≡ outcomeNumber (outcomeOf t)) × (bytes ≡ 
 
 -- of a load of a drive table, in every word: a refusal leaves them
 abbrev pub LoadsAs : Loaded → ℕ → List ℕ → List ℕ → Type 0
-LoadsAs l r before after = (r ≡ outcomeNumber (l .outcome)) × (after ≡ whenDone (l .outcome) (tableWords (l .table)) (λ z. before))
+LoadsAs l r before after = (r ≡ outcomeNumber (l .outcome)) × (after ≡ wordsAfter l before)
 
 -- and of one on the blockers, whose words a refusal leaves
 abbrev pub BlocksAs : Changed → ℕ → List ℕ → List ℕ → Type 0

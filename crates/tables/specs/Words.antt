@@ -24,6 +24,10 @@ rowWords (a ∷ rs) = a .mem ∷ a .req ∷ a .zero ∷ a .discard ∷ rowWords 
 abbrev pub tableWords : Table → List ℕ
 tableWords t = t .count ∷ rowWords (t .rows)
 
--- what a load answers, and every word after it: a refusal leaves those that stood there
+-- every word after a load: a refusal leaves those that stood there
+abbrev pub wordsAfter : Loaded → List ℕ → List ℕ
+wordsAfter l words = whenDone (l .outcome) (tableWords (l .table)) (λ z. words)
+
+-- what it answers, and leaves
 abbrev pub LoadsIn : Loaded → Outcome → List ℕ → List ℕ → Type 0
-LoadsIn l r before after = (r ≡ l .outcome) × (after ≡ whenDone (l .outcome) (tableWords (l .table)) (λ z. before))
+LoadsIn l r before after = (r ≡ l .outcome) × (after ≡ wordsAfter l before)
