@@ -45,6 +45,26 @@ ghost use Rattle.tables.specs.Tables.{profileIn};
 ghost use Rattle.tables.specs.Words.{tableFrom};
 ghost use Rattle.dock_c.specs.Replies.{settingsBy, buffersBy, replyOf, countPaper, plannedPaper, BeginsAs, TellsAs, CollectsAs};
 
+// The buffers of an opening, from its numbers.
+fn buffers_of(
+    data_address: u64,
+    data_length: u64,
+    scratch_address: u64,
+    scratch_length: u64,
+) -> Buffers
+    ensures { λ b. ⌜ b ≡ buffersBy data_address data_length «scratch_address» «scratch_length» ⌝ }
+{
+    let data = Lent {
+        address: data_address,
+        length: data_length,
+    };
+    let scratch = Lent {
+        address: scratch_address,
+        length: scratch_length,
+    };
+    Buffers { data, scratch }
+}
+
 // Open with alignments.
 #[no_mangle]
 pub extern "C" fn dock_words_open(
@@ -79,15 +99,7 @@ pub extern "C" fn dock_words_open(
         align,
         bounce: share,
     };
-    let data = Lent {
-        address: data_address,
-        length: data_length,
-    };
-    let scratch = Lent {
-        address: scratch_address,
-        length: scratch_length,
-    };
-    let b = Buffers { data, scratch };
+    let b = buffers_of(data_address, data_length, scratch_address, scratch_length);
     open(settings, blockers, states, vectors, s, b).number()
 }
 
@@ -112,15 +124,7 @@ pub extern "C" fn dock_words_open_row(
         (now (settings .entry)) (now (blockers .entry)) (now (states .entry)) (now (vectors .entry))
         (now (settings .exit)) (now (blockers .exit)) (now (states .exit)) (now (vectors .exit)) ⌝ }
 {
-    let data = Lent {
-        address: data_address,
-        length: data_length,
-    };
-    let scratch = Lent {
-        address: scratch_address,
-        length: scratch_length,
-    };
-    let b = Buffers { data, scratch };
+    let b = buffers_of(data_address, data_length, scratch_address, scratch_length);
     let profile = drive_profile(row);
     let outcome = open_by(settings, blockers, states, vectors, profile, share, b);
     outcome.number()
@@ -148,15 +152,7 @@ pub extern "C" fn dock_words_open_table(
         (now (settings .entry)) (now (blockers .entry)) (now (states .entry)) (now (vectors .entry))
         (now (settings .exit)) (now (blockers .exit)) (now (states .exit)) (now (vectors .exit)) ⌝ }
 {
-    let data = Lent {
-        address: data_address,
-        length: data_length,
-    };
-    let scratch = Lent {
-        address: scratch_address,
-        length: scratch_length,
-    };
-    let b = Buffers { data, scratch };
+    let b = buffers_of(data_address, data_length, scratch_address, scratch_length);
     let profile = row_of(table, row);
     let outcome = open_by(settings, blockers, states, vectors, profile, share, b);
     outcome.number()
