@@ -10,11 +10,11 @@ use Rattle.theorem_lists.specs.Acts.{eventsOf}
 use Rattle.theorem_lists.specs.Example.{settings, buffers, world, plain, whole-list, example}
 use Rattle.theorem_lists.proofs.Theorem.{every-list}
 
-opens : openOf settings buffers .outcome ≡ Done
+pub opens : openOf settings buffers .outcome ≡ Done
 unfolding computing
 opens = refl
 
-lends : lentFits buffers (length (world .memory)) (length (world .scratch)) ≡ true
+pub lends : lentFits buffers (length (world .memory)) (length (world .scratch)) ≡ true
 unfolding computing
 lends = refl
 
