@@ -37,6 +37,7 @@ const ROW: u64 = 1;
 // A row's body: four alignments of 32 bits.
 const ROW_BODY: usize = 16;
 
+// How many rows a table has at most.
 pub const MOST_ROWS: usize = 64;
 
 // The rows of a table that has none yet.
@@ -52,6 +53,7 @@ fn make_rows() -> [Alignments; 64]
     [none; 64]
 }
 
+// What is left of a table that is refused: none of its rows.
 fn refuse(r: Refusal) -> Loaded
     ensures { λ l. ⌜ l ≡ record { table = noTable; outcome = Outcome.Refused r } ⌝ }
 {
