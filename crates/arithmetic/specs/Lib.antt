@@ -10,6 +10,7 @@ pub mod Settings
 pub mod SettingsLaws
 pub mod Padding
 pub mod PaddingLaws
+pub mod Content
 pub mod Zeroes
 pub mod ZeroesLaws
 pub mod Planner

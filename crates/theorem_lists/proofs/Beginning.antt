@@ -13,6 +13,7 @@ use borrow.Author.Tests.{eqb-true}
 use Rattle.arithmetic.specs.Rounding.{pick}
 use Rattle.arithmetic.specs.Loops.{anyBelow, any-here}
 use Rattle.arithmetic.specs.SettingsLaws.{and-left, and-right}
+use Rattle.arithmetic.specs.Content.{Bytes}
 use Rattle.arithmetic.specs.declared.refusals.Outcome.the-variants.{Done}
 use Rattle.vectors.specs.Vectors.{segmentsOf, bytesOf, overlapOf, selfOverlapOf, isValid, copies, put}
 use Rattle.vectors.specs.ByteLaws.{bytes-length}
@@ -37,7 +38,6 @@ use Rattle.stages.specs.Laws.{never}
 use Rattle.theorem_lists.specs.Courses.{isZeroJob, bounces, isRegular, suited}
 use Rattle.theorem_lists.specs.Calls.{Ready, free-idle, write-vector, copied, admitted, free-there, admit-held}
 use Rattle.theorem_lists.specs.MadeLaws.{data-long}
-use Rattle.theorem_lists.specs.Store.{Bytes}
 use Rattle.theorem_lists.specs.PlainStore.{Tracked, Plain, newBytes, putJob}
 use Rattle.theorem_lists.specs.Histories.{World, called}
 use Rattle.theorem_lists.proofs.Lists.{share-put-length, share-put-other, share-put-on}

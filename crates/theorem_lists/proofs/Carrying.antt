@@ -12,6 +12,7 @@ use lib.Seq.{take-nil, drop-drop, getD-drop}
 use borrow.Author.Tests.{lt-ltb, le-leb, ltb-true}
 use Rattle.arithmetic.specs.Rounding.{pick}
 use Rattle.arithmetic.specs.SettingsLaws.{and-left, and-right}
+use Rattle.arithmetic.specs.Content.{Bytes}
 use Rattle.arithmetic.specs.declared.refusals.Refusal.the-variants.{Buffer, Slot}
 use Rattle.arithmetic.specs.declared.offsets.Range.{Range}
 use Rattle.vectors.specs.Vectors.{segment, none as noSegment, liesIn, allSegments, segmentsOf, bytesOf, scatterOf, put, isValid, overlapOf}
@@ -35,7 +36,7 @@ use Rattle.dock.specs.declared.next.Piece.the-variants.{InData, InScratch}
 use Rattle.stages.specs.Laws.{never}
 use Rattle.theorem_lists.specs.Courses.{hasVector}
 use Rattle.theorem_lists.specs.MadeLaws.{sound-held}
-use Rattle.theorem_lists.specs.Store.{Bytes, piecesFrom, gathered, landed}
+use Rattle.theorem_lists.specs.Store.{piecesFrom, gathered, landed}
 use Rattle.theorem_lists.specs.PlainStore.{Did, Tracked, Plain, putJob, putBytes, withSteps}
 use Rattle.theorem_lists.specs.Histories.{World, unless, made, outIn, putBy, acted}
 use Rattle.theorem_lists.proofs.Progress.{Before}

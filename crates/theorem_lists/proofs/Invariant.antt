@@ -10,6 +10,7 @@ use lib.Dec.{leb}
 use lib.ListN.{length, getD}
 use borrow.Author.Tests.{leb-true}
 use Rattle.arithmetic.specs.SettingsLaws.{and-left, and-right}
+use Rattle.arithmetic.specs.Content.{Bytes}
 use Rattle.arithmetic.specs.declared.offsets.Range.{Range}
 use Rattle.arithmetic.specs.declared.settings.Settings.{Settings}
 use Rattle.vectors.specs.Vectors.{segmentsOf, bytesOf}
@@ -26,7 +27,6 @@ use Rattle.dock.specs.Begin.{isWriteJob, vectorFor}
 use Rattle.dock.specs.declared.begin.Asked.{Asked}
 use Rattle.theorem_lists.specs.Courses.{isZeroJob, hasVector, isRegular}
 use Rattle.theorem_lists.specs.Calls.{write-vector, read-vector, direct-reads}
-use Rattle.theorem_lists.specs.Store.{Bytes}
 use Rattle.theorem_lists.specs.PlainStore.{yielded, wrote, zeroed, rangeFor, Tracked, newBytes, standing}
 use Rattle.theorem_lists.specs.Histories.{Among, OwedBy}
 use Rattle.theorem_lists.proofs.Geometry.{Beside, ReadBy, Geo, Unread, AsAsked, Zoned}

@@ -8,35 +8,11 @@ use native.Mathlib.Omega.{arith}
 use native.Mathlib.Decide.{decLt}
 use native.Mathlib.Nat.{mul-le-mul-right}
 use lib.ListN.{length, getD}
+use Rattle.arithmetic.specs.Content.{list-ext}
 use Rattle.vectors.specs.Vectors.{sizeOf, liesIn, allSegments, put, bytesOf}
 use Rattle.vectors.specs.Places.{covered, placeOf}
 use Rattle.vectors.specs.ByteLaws.{length-put, put-off, put-on, bytes-length, bytes-at, place-covered}
 use Rattle.vectors.specs.declared.vector.Segment.{Segment}
-use Rattle.theorem_lists.specs.Store.{Bytes, window}
-
--- two lists of the same length are equal where their elements are
-pub list-ext : (l m : List ℕ) → length l ≡ length m → ((i : ℕ) → i < length l → getD l i 0 ≡ getD m i 0) → l ≡ m
-list-ext [] [] e f = refl
-list-ext [] (y ∷ m) e f = absurd (let z : 0 ≡ suc (length m) = e in omega arith)
-list-ext (x ∷ l) [] e f = absurd (let z : suc (length l) ≡ 0 = e in omega arith)
-list-ext (x ∷ l) (y ∷ m) e f =
-    let h : length l ≡ length m = let z : suc (length l) ≡ suc (length m) = e in omega arith in
-    let a : x ≡ y = f 0 (omega arith) in
-    let b = list-ext l m h (λ i k. f (suc i) (omega arith)) in
-    λ t. a t ∷ b t
-
--- ---- windows
-
-pub window-length : (s : Bytes) (o n : ℕ) → length (window s o n) ≡ n
-unfolding window
-window-length s o zero = refl
-window-length s o (suc n) = ap suc (window-length s (suc o) n)
-
-pub window-at : (s : Bytes) (o n i : ℕ) → i < n → getD (window s o n) i 0 ≡ s (o + i)
-unfolding window
-window-at s o zero i h = absurd (omega arith)
-window-at s o (suc n) zero h = let e : o + 0 ≡ o = omega arith in ap s (sym e)
-window-at s o (suc n) (suc i) h = let e : suc o + i ≡ o + suc i = omega arith in window-at s (suc o) n i (omega arith) ∙ ap s e
 
 -- ---- shares
 

@@ -10,6 +10,7 @@ use lib.ListN.{length, getD-replicate}
 use lib.Seq.{getD-set-same, getD-set-other}
 use borrow.Author.Tests.{eq-eqb, ne-eqb}
 use Rattle.arithmetic.specs.Settings.{openingOf}
+use Rattle.arithmetic.specs.Content.{Bytes}
 use Rattle.arithmetic.specs.declared.refusals.Outcome.the-variants.{Done}
 use Rattle.arithmetic.specs.declared.settings.Settings.{Settings}
 use Rattle.arithmetic.specs.declared.settings.Buffers.{Buffers}
@@ -27,7 +28,6 @@ use Rattle.theorem_lists.specs.Courses.{hasVector}
 use Rattle.theorem_lists.specs.Held.{Held}
 use Rattle.theorem_lists.specs.Keeping.{fresh-held}
 use Rattle.theorem_lists.specs.Calls.{freed-held}
-use Rattle.theorem_lists.specs.Store.{Bytes}
 use Rattle.theorem_lists.specs.PlainStore.{Plain, plainOpened, setAt, putJob}
 use Rattle.theorem_lists.specs.Histories.{World, opened, Same, called}
 use Rattle.theorem_lists.proofs.Invariant.{share}

@@ -14,6 +14,7 @@ use borrow.Author.Tests.{lt-ltb, le-leb, le-ltb, lt-leb, ltb-true, leb-true, eq-
 use Rattle.arithmetic.specs.Rounding.{pick}
 use Rattle.arithmetic.specs.SettingsLaws.{and-left, and-right}
 use Rattle.arithmetic.specs.Offsets.{rangeOf}
+use Rattle.arithmetic.specs.Content.{Bytes, inRange, changed, window, laidAt, in-range, not-in-before, not-in-behind, changed-off, window-length, window-at}
 use Rattle.arithmetic.specs.declared.offsets.Range.{Range}
 use Rattle.arithmetic.specs.declared.settings.Settings.{Settings}
 use Rattle.vectors.specs.Vectors.{sizeOf as sizeOfAll, liesIn, allSegments, segment, segmentsOf, bytesOf, scatterOf, put, isValid}
@@ -41,20 +42,16 @@ use Rattle.theorem_lists.specs.Courses.{isLast, hasVector, suits, isRegu
 use Rattle.theorem_lists.specs.Held.{SlotOf}
 use Rattle.theorem_lists.specs.Calls.{read-no-write, pending-taken, read-vector, write-vector, direct-reads}
 use Rattle.theorem_lists.specs.MadeLaws.{data-long}
-use Rattle.theorem_lists.specs.Store.{Bytes, Choice, Buffered, inRange, changed, becomesNew, window, laidAt, piecesFrom, gathered, landed, yields, storeAfter, fetched}
+use Rattle.theorem_lists.specs.Store.{Choice, Buffered, becomesNew, piecesFrom, gathered, landed, yields, storeAfter, fetched}
 use Rattle.theorem_lists.specs.PlainStore.{Did, yielded, wrote, zeroed, discarded, Tracked, Plain, newBytes, standing, withStep, noStep, stepBy, carriedOut, carriedBy, PlainStepped, afterStep, putJob, putBytes, withSteps}
 use Rattle.theorem_lists.specs.Histories.{World, carriesOut, puts, putBy, Among, here, OwedBy, acted}
-use Rattle.theorem_lists.proofs.Lists.{window-length, window-at, share-room, share-put-length, share-put-other, share-put-off, share-put-on}
+use Rattle.theorem_lists.proofs.Lists.{share-room, share-put-length, share-put-other, share-put-off, share-put-on}
 use Rattle.theorem_lists.proofs.Geometry.{Beside, ReadBy, AsAsked}
 use Rattle.theorem_lists.proofs.Invariant.{share, Fact, within}
 use Rattle.theorem_lists.proofs.World.{Taken, Tracks, Inv, room, segments-lie, shared-overlap}
 use Rattle.theorem_lists.proofs.Carrying.{Out, scratch-piece, landed-data, gathered-data, data-pieces, carry-inv}
 
 -- ---- bytes of a range
-
-pub changed-off : (s : Bytes) (r : Range) (which : ℕ → Bool) (new : Bytes) (y : ℕ) → inRange r y ≡ false → changed s r which new y ≡ s y
-unfolding changed
-changed-off s r which new y e = rw e
 
 -- two changes of the same bytes, by the same choice
 pub changed-same : (s t : Bytes) (r : Range) (which : ℕ → Bool) (new old : Bytes) (y : ℕ) → s y ≡ t y → (inRange r y ≡ true → new y ≡ old y) → changed s r which new y ≡ changed t r which old y
@@ -79,12 +76,6 @@ both-in : (s t : Bytes) (r g : Range) (which : ℕ → Bool) (a b : Bytes) (y : 
 unfolding changed
 both-in s t r g which a b y i k e f = rw (i, k, e, f)
 
-not-in-before : (r : Range) (y : ℕ) → y < r .start .0 → inRange r y ≡ false
-not-in-before r y h = rw (lt-leb (r .start .0) y h)
-
-not-in-behind : (r : Range) (y : ℕ) → r .end .0 ≤ y → inRange r y ≡ false
-not-in-behind r y h = rw (le-ltb y (r .end .0) h) (and-false (leb (r .start .0) y))
-
 -- n bytes of the scratch as a write's only piece
 handed-is : (memory scratch : List ℕ) (a n : ℕ) → a + n ≤ length scratch → gathered (InScratch (segment a n) ∷ []) memory scratch ≡ take n (drop a scratch) ++ []
 unfolding gathered partOf
@@ -94,9 +85,6 @@ payload-at : (scratch : List ℕ) (a n i : ℕ) → i < n → a + n ≤ length s
 payload-at scratch a n i h l =
     let k : length (take n (drop a scratch)) ≡ n = length-take-le n (drop a scratch) (omega (arith, length-drop a scratch)) in
     List·getD-append (take n (drop a scratch)) [] 0 i (omega (arith, k)) ∙ getD-take n (drop a scratch) i 0 h ∙ getD-drop a scratch i 0
-
-in-range : (r : Range) (y : ℕ) → r .start .0 ≤ y → y < r .end .0 → inRange r y ≡ true
-in-range r y h k = rw (le-leb (r .start .0) y h, lt-ltb y (r .end .0) k)
 
 range-is : (r : Range) → r .start .0 ≤ r .end .0 → rangeOf (r .start .0) (r .start .0 + sizeOf r) ≡ r
 range-is r h = let e : r .start .0 + sizeOf r ≡ r .end .0 = omega arith in ap (λ (k : ℕ). rangeOf (r .start .0) k) e

@@ -15,6 +15,7 @@ use Rattle.arithmetic.specs.Rounding.{pick}
 use Rattle.arithmetic.specs.SettingsLaws.{and-left, and-right, opened}
 use Rattle.arithmetic.specs.Settings.{settingsFit}
 use Rattle.arithmetic.specs.Zeroes.{chunkOf}
+use Rattle.arithmetic.specs.Content.{Bytes, list-ext}
 use Rattle.arithmetic.specs.declared.zeroes.Chunk.{Chunk}
 use Rattle.arithmetic.specs.declared.zeroes.Chunk.the-variants.{Nothing as NoChunk, Next, Refused as ChunkRefused}
 use Rattle.arithmetic.specs.declared.offsets.StoreOffset.{StoreOffset}
@@ -48,10 +49,9 @@ use Rattle.theorem_lists.specs.Held.{Held, SlotOf}
 use Rattle.theorem_lists.specs.Calls.{read-no-write, write-vector, read-vector, direct-reads, bounced-reads, pending-taken, copied, told-held, entered, after}
 use Rattle.theorem_lists.specs.Keeping.{Changes, leave-changes}
 use Rattle.theorem_lists.specs.MadeLaws.{data-long}
-use Rattle.theorem_lists.specs.Store.{Bytes}
 use Rattle.theorem_lists.specs.PlainStore.{Did, yielded, wrote, zeroed, Tracked, Plain, newBytes, standing, stateOfStep, putJob, withCode}
 use Rattle.theorem_lists.specs.Histories.{World, Among, here, later, puts, putBy, OwedBy, answered}
-use Rattle.theorem_lists.proofs.Lists.{list-ext, share-room, share-put-off}
+use Rattle.theorem_lists.proofs.Lists.{share-room, share-put-off}
 use Rattle.theorem_lists.proofs.Geometry.{Beside, AsAsked, Zone}
 use Rattle.theorem_lists.proofs.Progress.{Put, Before, Follows, Goes as Leads, done-goes, chunk-goes}
 use Rattle.theorem_lists.proofs.Invariant.{share, Fact, asked-on, Flight, within}

@@ -13,6 +13,7 @@ use Rattle.arithmetic.specs.SettingsLaws.{opened as opened-facts}
 use Rattle.arithmetic.specs.Offsets.{rangeOf}
 use Rattle.arithmetic.specs.Settings.{settingsFit}
 use Rattle.arithmetic.specs.Zeroes.{zeroCutOf}
+use Rattle.arithmetic.specs.Content.{Bytes}
 use Rattle.arithmetic.specs.declared.refusals.Refusal.{Refusal}
 use Rattle.arithmetic.specs.declared.refusals.Refusal.the-variants.{Buffer, Slot, NoAnswer}
 use Rattle.arithmetic.specs.declared.refusals.Outcome.{Outcome}
@@ -51,7 +52,7 @@ use Rattle.dock.specs.declared.tell.Collected.{Collected}
 use Rattle.dock.specs.declared.tell.Collected.the-variants.{Final, Refused as NotCollected}
 use Rattle.theorem_lists.specs.Calls.{starts-from, read-ready, write-ready, zero-ready, discard-ready, begunRule, after}
 use Rattle.theorem_lists.specs.MadeLaws.{begin-is, data-long, tell-is}
-use Rattle.theorem_lists.specs.Store.{Bytes, Choice}
+use Rattle.theorem_lists.specs.Store.{Choice}
 use Rattle.theorem_lists.specs.PlainStore.{rangeFor, Tracked, Plain, plainOpened, plainStep, entersPlain, broughtBy, toldBy, tellBy, collectBy}
 use Rattle.theorem_lists.specs.Histories.{Lends, Event, begins, carries, tells, collects, World, opened, called, fitsLent, afterBegin, told, afterTell, afterCollect, outIn, afterCarry, step, carryItem, fed, LentOf, CodeOf, HandsIn, Allowed, Lawful, OwedBy, OwedTo, Owed, Claim, EveryList}
 use Rattle.theorem_lists.proofs.Geometry.{read-shaped, write-shaped, zero-shaped, discard-shaped}

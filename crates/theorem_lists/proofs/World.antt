@@ -12,6 +12,7 @@ use lib.ListN.{length, getD}
 use borrow.Author.Tests.{eqb-true, lt-ltb, ltb-true, leb-true}
 use Rattle.arithmetic.specs.Rounding.{pick}
 use Rattle.arithmetic.specs.SettingsLaws.{and-left, and-right, opened}
+use Rattle.arithmetic.specs.Content.{inRange}
 use Rattle.arithmetic.specs.declared.settings.Buffers.{Buffers}
 use Rattle.arithmetic.specs.declared.offsets.Range.{Range}
 use Rattle.arithmetic.specs.declared.refusals.Outcome.the-variants.{Done}
@@ -34,7 +35,6 @@ use Rattle.stages.specs.Laws.{never}
 use Rattle.theorem_lists.specs.Courses.{hasVector}
 use Rattle.theorem_lists.specs.Held.{SlotOf, Held}
 use Rattle.theorem_lists.specs.MadeLaws.{data-long}
-use Rattle.theorem_lists.specs.Store.{inRange}
 use Rattle.theorem_lists.specs.PlainStore.{Tracked, Plain}
 use Rattle.theorem_lists.specs.Histories.{Lends, World, fitsLent, dataOf, LentOf, Same, called}
 use Rattle.theorem_lists.proofs.Lists.{bytes-agree}

@@ -9,10 +9,11 @@ use lib.Dec.{eqb}
 use borrow.Author.Tests.{eqb-true}
 use Rattle.arithmetic.specs.Refusals.{isDone}
 use Rattle.arithmetic.specs.SettingsLaws.{and-left, and-right}
+use Rattle.arithmetic.specs.Content.{changed, window}
 use Rattle.dock.specs.declared.begin.Asked.{Asked}
 use Rattle.dock.specs.Tell.{tellOf}
 use Rattle.dock.specs.Computing.{computing}
-use Rattle.theorem_lists.specs.Store.{Choice, changed, window, piecesFrom, gathered, landed}
+use Rattle.theorem_lists.specs.Store.{Choice, piecesFrom, gathered, landed}
 use Rattle.theorem_lists.specs.PlainStore.{Plain, carriedOut, plainStep}
 use Rattle.theorem_lists.specs.Histories.{Lends, Event, begins, carries, tells, collects, World, fitsLent, step, fed, LentOf, CodeOf}
 use Rattle.theorem_lists.specs.Histories.{HandsIn, Allowed, Lawful}

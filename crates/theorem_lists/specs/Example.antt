@@ -8,6 +8,7 @@ use lib.Dec.{ltb}
 use lib.ListN.{length, take, drop, replicate}
 use Rattle.arithmetic.specs.Offsets.{storeAt}
 use Rattle.arithmetic.specs.Settings.{alignments}
+use Rattle.arithmetic.specs.Content.{window}
 use Rattle.arithmetic.specs.declared.refusals.Refusal.the-variants.{Overlap, Buffer}
 use Rattle.arithmetic.specs.declared.settings.Settings.{Settings}
 use Rattle.arithmetic.specs.declared.settings.Buffers.{Buffers}
@@ -24,7 +25,7 @@ use Rattle.dock.specs.declared.next.Due.{Due}
 use Rattle.dock.specs.declared.next.Due.the-variants.{Waiting}
 use Rattle.dock.specs.declared.next.Piece.{Piece}
 use Rattle.dock.specs.declared.next.Piece.the-variants.{InData}
-use Rattle.theorem_lists.specs.Store.{Choice, window}
+use Rattle.theorem_lists.specs.Store.{Choice}
 use Rattle.theorem_lists.specs.PlainStore.{Plain, plainOpened}
 use Rattle.theorem_lists.specs.Histories.{Lends, World, opened, Lawful}
 use Rattle.theorem_lists.specs.Acts.{Act, begin, begin-lent, carry, tell, collect, own, eventsOf, run, allAllowed, lawful}

@@ -9,6 +9,7 @@ use lib.Dec.{eqb}
 use lib.ListN.{length, getD}
 use Rattle.arithmetic.specs.Refusals.{whenDone}
 use Rattle.arithmetic.specs.Rounding.{pick}
+use Rattle.arithmetic.specs.Content.{Bytes, inRange}
 use Rattle.arithmetic.specs.declared.offsets.Range.{Range}
 use Rattle.arithmetic.specs.declared.settings.Settings.{Settings}
 use Rattle.arithmetic.specs.declared.settings.Buffers.{Buffers}
@@ -31,7 +32,7 @@ use Rattle.dock.specs.declared.next.Due.{Due}
 use Rattle.dock.specs.declared.next.Due.the-variants.{Waiting, Make, Answer, Refused as NotDue}
 use Rattle.dock.specs.declared.tell.Collects.{Collects}
 use Rattle.dock.specs.declared.tell.Collected.the-variants.{Final}
-use Rattle.theorem_lists.specs.Store.{Bytes, Choice, piecesFrom, gathered, rangeAsked, storeAfter, fetched, inRange}
+use Rattle.theorem_lists.specs.Store.{Choice, piecesFrom, gathered, rangeAsked, storeAfter, fetched}
 use Rattle.theorem_lists.specs.PlainStore.{Item, begin, carry, tell, collect, nothing, Did, yielded, wrote, zeroed, discarded}
 use Rattle.theorem_lists.specs.PlainStore.{rangeFor}
 use Rattle.theorem_lists.specs.PlainStore.{Tracked, Plain, plainOpened, plainStep, setAt}

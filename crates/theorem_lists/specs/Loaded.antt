@@ -7,6 +7,7 @@ use mathlib.Core.Option.{none}
 use Prim.Native.Nat.{ℕ, _<_, _≤_}
 use lib.ListN.{length, getD}
 use Rattle.arithmetic.specs.Settings.{bounceFits, settingsFit}
+use Rattle.arithmetic.specs.Content.{Bytes}
 use Rattle.arithmetic.specs.declared.refusals.Refusal.the-variants.{Unfit}
 use Rattle.arithmetic.specs.declared.refusals.Outcome.the-variants.{Done, Refused}
 use Rattle.arithmetic.specs.declared.settings.Alignments.{Alignments}
@@ -18,7 +19,6 @@ use Rattle.tables.specs.Tables.{these, tableOf, loadOf, profileIn, noRow}
 use Rattle.tables.specs.TablesLaws.{table-sound, loaded-row, loaded-past}
 use Rattle.dock.specs.Dock.{openOf, openBy, lentFits}
 use Rattle.dock.specs.declared.open.Opened.{Opened}
-use Rattle.theorem_lists.specs.Store.{Bytes}
 use Rattle.theorem_lists.specs.PlainStore.{plainOpened}
 use Rattle.theorem_lists.specs.Histories.{World, Event, Lawful, Claim}
 

@@ -10,6 +10,7 @@ use lib.Dec.{eqb}
 use Rattle.arithmetic.specs.Rounding.{pick}
 use Rattle.arithmetic.specs.Offsets.{rangeOf}
 use Rattle.arithmetic.specs.Refusals.{whenDone}
+use Rattle.arithmetic.specs.Content.{Bytes, changed, window, laidAt}
 use Rattle.arithmetic.specs.declared.offsets.Range.{Range}
 use Rattle.arithmetic.specs.declared.settings.Settings.{Settings}
 use Rattle.arithmetic.specs.declared.settings.Buffers.{Buffers}
@@ -32,7 +33,7 @@ use Rattle.dock.specs.declared.begin.Begun.{Begun}
 use Rattle.dock.specs.declared.begin.Begun.the-variants.{Done as NoRequest, Admitted, Refused as BeginRefused}
 use Rattle.dock.specs.declared.tell.Collected.{Collected}
 use Rattle.dock.specs.declared.tell.Collected.the-variants.{Final, Refused as NotCollected}
-use Rattle.theorem_lists.specs.Store.{Bytes, Choice, changed, becomesNew, window, laidAt}
+use Rattle.theorem_lists.specs.Store.{Choice, becomesNew}
 
 -- ---- what it is fed
 

@@ -7,6 +7,7 @@ use lib.Dec.{ltb, leb, eqb}
 use lib.ListN.{length, take, drop, getD}
 use Rattle.arithmetic.specs.Rounding.{pick}
 use Rattle.arithmetic.specs.Offsets.{rangeOf}
+use Rattle.arithmetic.specs.Content.{Bytes, changed, window, laidAt}
 use Rattle.arithmetic.specs.declared.offsets.Range.{Range}
 use Rattle.vectors.specs.Vectors.{put}
 use Rattle.stages.specs.declared.state.Kind.{Kind}
@@ -17,37 +18,15 @@ use Rattle.dock.specs.declared.dock.Dock.{Dock}
 use Rattle.dock.specs.declared.next.Piece.{Piece}
 use Rattle.dock.specs.declared.next.Piece.the-variants.{InData, InScratch, Refused}
 
--- A store's content, and what it may choose: a byte for each offset.
-abbrev pub Bytes : Type 0
-Bytes = ℕ → ℕ
-
 -- "as the store chose": which bytes of a failing request are new; what a discard, or a failing read, leaves. By the byte's offset on the
 -- store.
 pub record Choice : Type 0 where
   pub isNew : ℕ → Bool
   pub left : Bytes
 
--- ---- bytes of a range
-
-abbrev pub inRange : Range → ℕ → Bool
-inRange r x = leb (r .start .0) x && ltb x (r .end .0)
-
--- the store where bytes of the range have become new, at the offsets that a test names
-unfoldable pub changed : Bytes → Range → (ℕ → Bool) → Bytes → Bytes
-changed s r which new x = pick (inRange r x && which x) (new x) (s x)
-
 -- "code 0: [..] Other codes: each byte of that range is old or new, as the store chose"
 abbrev pub becomesNew : ℕ → Choice → ℕ → Bool
 becomesNew code c x = pick (eqb code 0) true (c .isNew x)
-
--- the n bytes from o on
-unfoldable pub window : Bytes → ℕ → ℕ → List ℕ
-window s o zero = []
-window s o (suc n) = s o ∷ window s (suc o) n
-
--- a list of bytes, laid on the store from o on
-abbrev pub laidAt : ℕ → List ℕ → Bytes
-laidAt o bs x = getD bs (x - o) 0
 
 -- ---- a request's own bytes
 
