@@ -2,9 +2,10 @@
 use mathlib.Core.Path.{_≡_, refl, sym, ap, _∙_, subst}
 use mathlib.Core.Bool.{Bool, true, false, and-false}
 use mathlib.Core.List.{List, [], _∷_, _++_, append-assoc, append-nil}
-use Prim.Native.Nat.{ℕ, zero, suc, _+_, _-_, _≤_, _<_}
+use Prim.Native.Nat.{ℕ, zero, suc, _+_, _-_, _≤_, _<_, min}
 use native.Mathlib.Nat.{not-suc-le-zero, le-of-suc-le-suc}
 use native.Mathlib.Numerals.{add-one}
+use native.Mathlib.Decide.{decLt}
 use native.Mathlib.Omega.{arith}
 use lib.Dec.{eqb}
 use lib.ListN.{length, take, drop, getD, set, replicate, length-drop, length-replicate, drop-of-length-le}
@@ -33,10 +34,16 @@ copy-suc (suc i) (a ∷ s) (b ∷ d) h k = ap (λ (t : List ℕ). a ∷ t) (copy
 pub copy-more : (i : ℕ) (s d : List ℕ) → i < length s → i < length d → set (take i s ++ drop i d) i (getD s i 0) ≡ take (i + 1) s ++ drop (i + 1) d
 copy-more i s d h k = rw add-one (copy-suc i s d h k)
 
-pub copy-done : (i : ℕ) (s d : List ℕ) → length s ≤ i → length d ≡ length s → take i s ++ drop i d ≡ s
-copy-done i s d h e =
-    let k : length d ≤ i = omega arith in
-    rw (take-all i s h, drop-of-length-le d k) (append-nil s)
+-- as many as both have are done
+pub copy-done : (i : ℕ) (s d : List ℕ) → i ≡ min (length d) (length s) → take i s ++ drop i d ≡ take (length d) s ++ drop (length s) d
+copy-done i s d e = elim (decLt (length s) (length d)) [
+  | yes l ↦
+      let z : i ≡ length s = omega arith in
+      rw (z, take-all (length s) s (omega arith), take-all (length d) s (omega arith))
+  | no l ↦
+      let z : i ≡ length d = omega arith in
+      rw (z, drop-of-length-le d {i = length d} (omega arith), drop-of-length-le d {i = length s} (omega arith))
+]
 
 pub fill-done : (i v : ℕ) (d : List ℕ) → i ≤ length d → length d ≤ i → replicate i v ++ drop i d ≡ replicate (length d) v
 fill-done i v d h k =
@@ -172,15 +179,6 @@ module _ (v : IoVector) (l₀ : List ℕ) (x : ℕ) (l : List ℕ) (i : ℕ) (g 
     }
 
 -- ---- a part that was lent comes back
-
--- with a copy of a part of d
-pub copied-back : (s d : List ℕ) (a n f : ℕ) (ys : List ℕ) → f + n ≤ length d → ys ≡ take (f + n - f) (drop f d) → putMid a (a + n - a) s ys ≡ put s a (take n (drop f d))
-unfolding put
-copied-back s d a n f ys h e =
-    let k : f + n - f ≡ n = omega arith in
-    let m : a + n - a ≡ n = omega arith in
-    let l : length (take n (drop f d)) ≡ n = length-take-le n (drop f d) (simp length-drop (omega arith)) in
-    rw (m, e, k, l)
 
 -- filled
 pub filled-back : (s : List ℕ) (a n x : ℕ) (ys : List ℕ) → a + n ≤ length s → ys ≡ replicate (length (take (a + n - a) (drop a s))) x → putMid a (a + n - a) s ys ≡ put s a (replicate n x)

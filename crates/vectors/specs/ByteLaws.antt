@@ -1,17 +1,18 @@
 -- Laws of the bytes of segments: lengths, joined lists, what scatter and fill keep, and which byte stands where. Assumes nothing.
 use mathlib.Core.Path.{_≡_, refl, sym, ap, _∙_}
 use mathlib.Core.Bool.{Bool, true, false, _||_, or-true}
-use mathlib.Core.List.{List, [], _∷_, _++_, append-assoc}
+use mathlib.Core.List.{List, [], _∷_, _++_, append-assoc, append-nil}
 use mathlib.Core.Logic.{_⊎_, inl, inr, ⊎-elim}
 use Prim.Native.Nat.{ℕ, zero, suc, _+_, _-_, _≤_, _<_}
 use native.Mathlib.Nat.{zero-add, suc-add}
 use native.Mathlib.Decide.{decLt}
 use native.Mathlib.Omega.{arith}
 use lib.ListN.{length, take, drop, getD, replicate, length-append, length-take, length-drop, length-replicate, replicate-append-replicate}
-use lib.ListN.{take-append-drop, getD-replicate, List·getD-append}
-use lib.Seq.{take-at, drop-at, take-take, take-nil, drop-drop, take-append-le, take-append-seam, drop-append-add, length-take-le, getD-take}
-use lib.Seq.{getD-drop, getD-append-add, take-add}
+use lib.ListN.{drop-of-length-le, take-append-drop, getD-replicate, List·getD-append}
+use lib.Seq.{take-all, take-at, drop-at, take-take, take-nil, drop-drop, take-append-le, take-append-seam, drop-append-add}
+use lib.Seq.{length-take-le, getD-take, getD-drop, getD-append-add, take-add}
 use borrow.Author.Tests.{lt-ltb, le-ltb, le-leb}
+use borrow.Rule.Slice.PartMut.{putMid}
 use Rattle.arithmetic.specs.Loops.{or-first}
 use Rattle.arithmetic.specs.SettingsLaws.{and-left, and-right}
 use Rattle.vectors.specs.declared.vector.Segment.{Segment}
@@ -70,8 +71,27 @@ module _ {A : Type 0} where
         ∙ drop-drop (s - (a + length bs)) (a + length bs) l
         ∙ ap (λ (i : ℕ). drop i l) f)
 
+-- what a copy leaves of a part as long as its source
+pub copied-whole : (p q : List ℕ) → length p ≡ length q → take (length p) q ++ drop (length q) p ≡ q
+copied-whole p q e = rw (take-all (length p) q (omega arith), drop-of-length-le p {i = length q} (omega arith)) (append-nil q)
+
+-- the part from a on comes back from a copy of the part of d from f on, n bytes each
+pub copied-back : (s d : List ℕ) (a n f : ℕ) (ys : List ℕ) → a + n ≤ length s → f + n ≤ length d
+    → ys
+    ≡ take (length (take (a + n - a) (drop a s))) (take (f + n - f) (drop f d))
+    ++ drop (length (take (f + n - f) (drop f d))) (take (a + n - a) (drop a s))
+    → putMid a (a + n - a) s ys ≡ put s a (take n (drop f d))
+unfolding put
+copied-back s d a n f ys g h e =
+    let k : f + n - f ≡ n = omega arith in
+    let m : a + n - a ≡ n = omega arith in
+    let l : length (take n (drop f d)) ≡ n = length-take-le n (drop f d) (rw length-drop (omega arith)) in
+    let p : length (take n (drop a s)) ≡ n = length-take-le n (drop a s) (rw length-drop (omega arith)) in
+    let w : ys ≡ take n (drop f d) = (rw (k, m) at e) ∙ copied-whole (take n (drop a s)) (take n (drop f d)) (p ∙ sym l) in
+    rw (m, w, l)
+
 -- two runs of bytes, the second put behind the first, are one
-put-behind : (l : List ℕ) (a : ℕ) (bs cs : List ℕ) → a ≤ length l → put (put l a bs) (a + length bs) cs ≡ put l a (bs ++ cs)
+pub put-behind : (l : List ℕ) (a : ℕ) (bs cs : List ℕ) → a ≤ length l → put (put l a bs) (a + length bs) cs ≡ put l a (bs ++ cs)
 unfolding put
 put-behind l a bs cs h =
     let front : List ℕ = take a l ++ bs in

@@ -1,19 +1,21 @@
 // The bytes of a vector's segments, copied into a slice and back, and filled.
 use crate::vector::IoVector;
+use arithmetic::offsets::lesser;
 use arithmetic::refusals::Outcome;
 use arithmetic::refusals::Refusal;
 ghost use mathlib.Core.Path.{_≡_};
 ghost use mathlib.Core.Bool.{true};
-ghost use lib.ListN.{length, replicate};
+ghost use mathlib.Core.List.{_++_};
+ghost use lib.ListN.{length, take, drop, replicate};
 ghost use Rattle.vectors.specs.Vectors.{segmentsOf, isValid, bytesOf, scatterOf, fillOf, copies, outcomeOf};
 ghost use Rattle.vectors.specs.Vectors.{copiedInto, copiedFrom, filledWith};
 
-// `part` becomes `source`: both have the same length.
-fn copy(part: &mut [u8], source: &[u8])
-    requires { ⌜ length (now part) ≡ length (now source) ⌝ }
-    ensures { λ _. ⌜ now (part .exit) ≡ now (source .entry) ⌝ }
+// The front of `part` becomes that of `source`: as many bytes as both have.
+pub fn copy_bytes(part: &mut [u8], source: &[u8])
+    ensures { λ _. ⌜ now (part .exit) ≡ take (length (now (part .entry))) (now (source .entry))
+        ++ drop (length (now (source .entry))) (now (part .entry)) ⌝ }
 {
-    let n = source.len();
+    let n = lesser(part.len() as u64, source.len() as u64) as usize;
     let mut i = 0;
     while i < n {
         part[i] = source[i];
@@ -47,7 +49,7 @@ impl IoVector {
             let from = p.start;
             let to = from + p.length;
             let next = filled + p.length;
-            copy(&mut slice[filled..next], &data[from..to]);
+            copy_bytes(&mut slice[filled..next], &data[from..to]);
             filled = next;
             i += 1;
         }
@@ -66,7 +68,7 @@ impl IoVector {
             let from = p.start;
             let to = from + p.length;
             let next = taken + p.length;
-            copy(&mut data[from..to], &slice[taken..next]);
+            copy_bytes(&mut data[from..to], &slice[taken..next]);
             taken = next;
             i += 1;
         }

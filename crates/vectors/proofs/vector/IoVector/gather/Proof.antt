@@ -7,7 +7,8 @@ use denote.Ref.{now}
 use borrow.Author.Needs.{needs}
 use Rattle.arithmetic.specs.Loops.{array-long}
 use Rattle.vectors.proofs.Pass.{nth}
-use Rattle.vectors.proofs.Moving.{Gathered, gather-fits, gather-step, gather-end, gather-start, copies-of, copied-back}
+use Rattle.vectors.specs.ByteLaws.{copied-back}
+use Rattle.vectors.proofs.Moving.{Gathered, gather-fits, gather-step, gather-end, gather-start, copies-of}
 use Rattle.vectors.proofs.vector.IoVector.gather.Statement.{statement}
 use Rattle.vectors.proofs.vector.IoVector.gather.Tie as tie
 
@@ -34,26 +35,26 @@ add-to c = omega (arith, gather-fits _ _ _ _ _ (c .before .before .before .loop 
 add-next : tie.Need-add-next Inv-loop μ-loop
 add-next c = omega (arith, gather-fits _ _ _ _ _ (c .before .before .before .before .loop .inv) (c .before .before .before .loop-test .taken))
 
-sub-copy : tie.Need-sub-copy Inv-loop μ-loop
-sub-copy c = omega (arith, gather-fits _ _ _ _ _ (c .before .before .before .before .loop .inv) (c .before .before .before .loop-test .taken))
+sub-copy-bytes : tie.Need-sub-copy-bytes Inv-loop μ-loop
+sub-copy-bytes c = omega (arith, gather-fits _ _ _ _ _ (c .before .before .before .before .loop .inv) (c .before .before .before .loop-test .taken))
 
-part-copy-start : tie.Need-part-copy-start Inv-loop μ-loop
-part-copy-start c = omega (arith, gather-fits _ _ _ _ _ (c .before .before .before .before .loop .inv) (c .before .before .before .loop-test .taken))
+part-copy-bytes-start : tie.Need-part-copy-bytes-start Inv-loop μ-loop
+part-copy-bytes-start c = omega (arith, gather-fits _ _ _ _ _ (c .before .before .before .before .loop .inv) (c .before .before .before .loop-test .taken))
 
-part-copy-end : tie.Need-part-copy-end Inv-loop μ-loop
-part-copy-end c = omega (arith, gather-fits _ _ _ _ _ (c .before .before .before .before .loop .inv) (c .before .before .before .loop-test .taken))
+part-copy-bytes-end : tie.Need-part-copy-bytes-end Inv-loop μ-loop
+part-copy-bytes-end c = omega (arith, gather-fits _ _ _ _ _ (c .before .before .before .before .loop .inv) (c .before .before .before .loop-test .taken))
 
-sub-copy-2 : tie.Need-sub-copy-2 Inv-loop μ-loop
-sub-copy-2 c = omega (arith, gather-fits _ _ _ _ _ (c .before .before .before .before .before .loop .inv) (c .before .before .before .before .loop-test .taken))
+sub-copy-bytes-2 : tie.Need-sub-copy-bytes-2 Inv-loop μ-loop
+sub-copy-bytes-2 c = omega (arith, gather-fits _ _ _ _ _ (c .before .before .before .before .before .loop .inv) (c .before .before .before .before .loop-test .taken))
 
-part-copy-start-2 : tie.Need-part-copy-start-2 Inv-loop μ-loop
-part-copy-start-2 c = omega (arith, gather-fits _ _ _ _ _ (c .before .before .before .before .before .loop .inv) (c .before .before .before .before .loop-test .taken))
+part-copy-bytes-start-2 : tie.Need-part-copy-bytes-start-2 Inv-loop μ-loop
+part-copy-bytes-start-2 c = omega (arith, gather-fits _ _ _ _ _ (c .before .before .before .before .before .loop .inv) (c .before .before .before .before .loop-test .taken))
 
-part-copy-end-2 : tie.Need-part-copy-end-2 Inv-loop μ-loop
-part-copy-end-2 c = omega (arith, gather-fits _ _ _ _ _ (c .before .before .before .before .before .loop .inv) (c .before .before .before .before .loop-test .taken))
+part-copy-bytes-end-2 : tie.Need-part-copy-bytes-end-2 Inv-loop μ-loop
+part-copy-bytes-end-2 c = omega (arith, gather-fits _ _ _ _ _ (c .before .before .before .before .before .loop .inv) (c .before .before .before .before .loop-test .taken))
 
-copy-requires : tie.Need-copy-requires Inv-loop μ-loop
-copy-requires c κs = omega (arith, gather-fits _ _ _ _ _ (c .before .before .before .before .before .before .loop .inv) (c .before .before .before .before .before .loop-test .taken))
+copy-bytes-requires : tie.Need-copy-bytes-requires Inv-loop μ-loop
+copy-bytes-requires c κs = search needs
 
 add-i : tie.Need-add-i Inv-loop μ-loop
 add-i c = omega (arith, gather-fits _ _ _ _ _ (c .before .before .before .before .before .before .before .before .before .loop .inv) (c .before .before .before .before .before .before .before .before .loop-test .taken))
@@ -64,7 +65,7 @@ loop-less c = omega (arith, gather-fits _ _ _ _ _ (c .before .before .before .be
 loop-again : tie.Need-loop-again Inv-loop μ-loop
 loop-again c = let l = c .before .before .before .before .before .before .before .before .before .loop in
     let a = c .before .before .before .before .before .before .before .before .before .before .before .before .args in
-    rw (copied-back (l .slice) (now (a .«data»)) (l .filled) (nth (a .t1) (l .i) .length) (nth (a .t1) (l .i) .start) (c .before .before .copy .last .0) (omega (arith, gather-fits _ _ _ _ _ (c .before .before .before .before .before .before .before .before .before .loop .inv) (c .before .before .before .before .before .before .before .before .loop-test .taken))) (c .before .before .copy .ensures))
+    rw (copied-back (l .slice) (now (a .«data»)) (l .filled) (nth (a .t1) (l .i) .length) (nth (a .t1) (l .i) .start) (c .before .before .copy-bytes .last .0) (omega (arith, gather-fits _ _ _ _ _ (c .before .before .before .before .before .before .before .before .before .loop .inv) (c .before .before .before .before .before .before .before .before .loop-test .taken))) (omega (arith, gather-fits _ _ _ _ _ (c .before .before .before .before .before .before .before .before .before .loop .inv) (c .before .before .before .before .before .before .before .before .loop-test .taken))) (c .before .before .copy-bytes .ensures))
     (gather-step _ _ _ _ _ (l .inv) (c .before .before .before .before .before .before .before .before .loop-test .taken))
 
 same-length : tie.Need-same-length Inv-loop μ-loop
@@ -84,13 +85,13 @@ gather-spec =
     element-copy-out-p
     add-to
     add-next
-    sub-copy
-    part-copy-start
-    part-copy-end
-    sub-copy-2
-    part-copy-start-2
-    part-copy-end-2
-    copy-requires
+    sub-copy-bytes
+    part-copy-bytes-start
+    part-copy-bytes-end
+    sub-copy-bytes-2
+    part-copy-bytes-start-2
+    part-copy-bytes-end-2
+    copy-bytes-requires
     add-i
     loop-less
     loop-again
