@@ -34,6 +34,9 @@ use Rattle.dock.specs.declared.numbers.Number.{Number}
 use Rattle.dock.specs.declared.numbers.Number.the-variants.{Of, None}
 use Rattle.tables.specs.Words.{wordsAfter}
 use Rattle.tables.specs.declared.table.Loaded.{Loaded}
+use Rattle.sheets.specs.Sheets.{Joins}
+use Rattle.sheets.specs.declared.joining.Joined.{Joined}
+use Rattle.sheets.specs.declared.joining.Joined.the-variants.{Into, Refused as NotJoined}
 use Rattle.dock_words.specs.View.{blockersOf, vectorWords}
 use Rattle.dock_words.specs.CallWords.{sameUnless}
 use Rattle.dock_c.specs.declared.replies.Reply.{Reply}
@@ -91,6 +94,11 @@ abbrev pub profilePaper : Profile → Paper
 profilePaper (Profiled a) = valued (a .mem ∷ a .req ∷ a .zero ∷ a .discard ∷ [])
 profilePaper (NoProfile r) = numbered (numberOf r)
 
+-- joined writes (document 02, N14): 0, and how many ranges and bytes they became
+abbrev pub joinedPaper : Joined → Paper
+joinedPaper (Into s) = record { number = Of 0; values = s .ranges ∷ s .bytes ∷ [] }
+joinedPaper (NotJoined r) = numbered (numberOf r)
+
 -- collect: the number that `collectedPaper` gives
 abbrev pub collectedNumber : Collected → ℕ
 collectedNumber c = numberWord (collectedPaper c .number)
@@ -125,6 +133,10 @@ MovesAs t moved old r bytes = (r ≡ outcomeNumber (outcomeOf t)) × (bytes ≡ 
 -- of a load of a drive table, in every word: a refusal leaves them
 abbrev pub LoadsAs : Loaded → ℕ → List ℕ → List ℕ → Type 0
 LoadsAs l r before after = (r ≡ outcomeNumber (l .outcome)) × (after ≡ wordsAfter l before)
+
+-- of joined writes, in every byte of the output and every word of their rows
+abbrev pub JoinsWith : Joins → Reply → List ℕ → List ℕ → Type 0
+JoinsWith j r output words = (r ≡ replyOf (joinedPaper (j .answer))) × (output ≡ j .output) × (words ≡ j .joined)
 
 -- and of one on the blockers, whose words a refusal leaves
 abbrev pub BlocksAs : Changed → ℕ → List ℕ → List ℕ → Type 0

@@ -3,6 +3,7 @@
 mod replies; // answers, as they cross
 pub mod parts; // vectors and blockers alone
 pub mod drive_tables; // loading a drive table, and its rows
+pub mod parameter_sheets; // many writes joined to few
 
 use crate::replies::Reply;
 use crate::replies::begun_reply;

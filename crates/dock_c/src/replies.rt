@@ -7,6 +7,7 @@ use dock::begin::Begun;
 use dock::next::Due;
 use dock::next::Piece;
 use dock::tell::Collected;
+use sheets::joining::Joined;
 use stages::state::Kind;
 use stages::state::Request;
 use stages::state::size;
@@ -14,7 +15,7 @@ use vectors::vector::Alignment;
 ghost use mathlib.Core.Path.{_≡_};
 ghost use Rattle.dock.specs.Numbers.{kindNumber, begunPaper, duePaper, piecePaper};
 ghost use Rattle.dock_c.specs.Replies.{replyOf, numbers, countPaper, plannedPaper, alignmentPaper, splitPaper, profilePaper};
-ghost use Rattle.dock_c.specs.Replies.{collectedNumber};
+ghost use Rattle.dock_c.specs.Replies.{joinedPaper, collectedNumber};
 
 // The number that stands for none: an answer that has values alone.
 const NO_NUMBER: u64 = 256;
@@ -168,6 +169,22 @@ pub(crate) fn split_reply(o: Outcome, looked: usize) -> Reply
             fourth: 0,
         },
         Outcome::Refused(r) => reply_number(r.number() as u64),
+    }
+}
+
+pub(crate) fn joined_reply(j: Joined) -> Reply
+    ensures { λ r. ⌜ r ≡ replyOf (joinedPaper j) ⌝ }
+{
+    match j {
+        Joined::Into(size) => Reply {
+            number: 0,
+            count: 2,
+            first: size.ranges as u64,
+            second: size.bytes as u64,
+            third: 0,
+            fourth: 0,
+        },
+        Joined::Refused(r) => reply_number(r.number() as u64),
     }
 }
 
