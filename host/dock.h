@@ -23,15 +23,20 @@
  *   one dock at once.
  * - `struct dock_table` is the caller's too, and is no part of a dock: opening reads a row of it and keeps nothing. The
  *   bytes of a table are read while it is loaded, and are left as they are; they must not overlap the table.
+ * - So are a sheet's writes and data, and the list and the output that dock_join fills with the joined writes and their
+ *   bytes. It keeps nothing. Neither the list nor the output may overlap any other of the four. Data and output may be
+ *   parts of a dock's data, the output then one that no job in flight has a byte of.
  *
- * A call that refuses changes nothing: not a word of the dock, not the vector, not the table, not the lent bytes. Nor
- * does a refused opening: a dock that was open stays open with its jobs, and memory that was no dock is none after it.
- * Zeroes count as a dock that refuses all: every begin with 201, next, piece, tell and collect with 205 or 208. As a
- * table they are one without rows, each row of which is refused with 201.
+ * A call that refuses changes nothing: not a word of the dock, not the vector, not the table, not the lent bytes, not
+ * the joined writes and their output. Nor does a refused opening: a dock that was open stays open with its jobs, and
+ * memory that was no dock is none after it. Zeroes count as a dock that refuses all: every begin with 201, next, piece,
+ * tell and collect with 205 or 208. As a table they are one without rows, each row of which is refused with 201.
  *
  * Null pointers: a buffer of length 0 may be null. One that is null and has a length is refused with 205; at opening
  * 201 comes before it, in other calls nothing does. Null for the bytes of a table counts as no record, whatever the
- * length: 211. The dock, the vector, the table and the lent buffers' struct must not be null.
+ * length: 211. Of a sheet, null for its writes is refused with 220 if there are any, and null for its data or the
+ * output counts as one of length 0. The dock, the vector, the table, the list of joined writes and the lent buffers'
+ * struct must not be null.
  */
 #ifndef DOCK_H
 #define DOCK_H
@@ -66,7 +71,7 @@ enum dock_refusal {
     DOCK_UNALIGNED = 210, /* planner: offset or length no multiple of the request alignment */
     DOCK_TABLE = 211,     /* drive table: a record cut, too short or of another length, a 65th row or none */
     DOCK_ROW = 212,       /* drive table: a row past the limits of an alignment */
-    /* Of document 02's later requests; no call of this header refuses with one of them yet. */
+    /* 213 to 218 are of document 02's later requests; no call of this header refuses with one of them yet. */
     DOCK_SAVED = 213,       /* recorded write: the part for the old bytes too short, or outside the data */
     DOCK_UNDO = 214,        /* taking back: no write is remembered, or a later request reached its bytes */
     DOCK_RESERVATION = 215, /* reservation: empty, none in the slot, of another length, or still waiting */
@@ -99,6 +104,7 @@ enum dock_limit {
     DOCK_SEGMENTS = 16,
     DOCK_ROWS = 6,        /* of document 01's drive table */
     DOCK_TABLE_ROWS = 64, /* of a loaded one, at most */
+    DOCK_SHEET_WRITES = 64,
     DOCK_LONGEST_VECTOR = 1048576,
     DOCK_LONGEST_BOUNCE = 1048576,
     DOCK_LARGEST_ALIGNMENT = 65536
@@ -148,6 +154,14 @@ struct dock_table {
 };
 
 #define DOCK_TABLE_EMPTY { { 0 } }
+
+/* A write of a sheet: `length` bytes from `start` of the sheet's data on go to `offset` of the store. Of a joined one,
+ * `start` is in the output: the joined writes with their output are a sheet again. */
+struct dock_sheet_write {
+    uint64_t offset;
+    uint64_t start;
+    uint64_t length;
+};
 
 /* ---- What calls give back ---- */
 
@@ -200,6 +214,13 @@ struct dock_row {
     uint8_t refusal;
 };
 
+/* How many writes a sheet is joined to, and their bytes in all: `refusal` is 0 where the others count. */
+struct dock_joined {
+    size_t ranges;
+    size_t bytes;
+    uint8_t refusal;
+};
+
 /* What the planner gives: `refusal` is 0 where the others count. */
 struct dock_chunk_count {
     uint64_t count;
@@ -233,6 +254,8 @@ struct dock_words_reply dock_words_table_row(const uint64_t *table, size_t row);
 uint8_t dock_words_open_table(uint64_t *settings, uint64_t *blockers, uint64_t *states, uint64_t *vectors,
                               const uint64_t *table, size_t row, uint64_t share, uint64_t data_address,
                               uint64_t data_length, uint64_t scratch_address, uint64_t scratch_length);
+struct dock_words_reply dock_words_join(const uint64_t *writes, size_t writes_len, const uint8_t *data, size_t data_len,
+                                        uint8_t *output, size_t output_len, uint64_t *joined);
 struct dock_words_reply dock_words_begin_read(const uint64_t *settings, uint64_t *blockers, uint64_t *states,
                                               uint64_t *vectors, uint64_t offset, const uint64_t *vector,
                                               const uint8_t *data, size_t data_len, uint8_t *scratch,
@@ -348,6 +371,36 @@ static inline uint8_t dock_open_table(struct dock *dock, const struct dock_table
     return dock_words_open_table(dock->settings, dock->blockers, dock->states, dock->vectors, table->words, row, bounce,
                                  dock_address(lent->data, lent->data_len), lent->data_len,
                                  dock_address(lent->scratch, lent->scratch_len), lent->scratch_len);
+}
+
+/* ---- Sheets ---- */
+
+/* Joins up to 64 writes, so that many edits are few jobs: where two cover a byte the later one wins, and ranges that
+ * touch become one. The first `ranges` rows of `joined`, which has room for 64, are then the joined writes, ascending
+ * and with a gap between any two; the first `bytes` bytes of the output are theirs, packed in that order. All other
+ * rows and bytes stay as they are. Written in any order, the joined writes give what the writes give in theirs. No
+ * writes are 0 ranges. An output as long as the writes' lengths in all suffices. A joined write may be longer than one
+ * job takes.
+ * Refused, in this order. 220: there are over 64 writes, none of which is looked at then; or one is empty, has an
+ * offset plus length past 2^64 - 1, or does not lie in the data. 219: the output is shorter than the joined bytes. */
+static inline struct dock_joined dock_join(const struct dock_sheet_write *writes, size_t count, const uint8_t *data,
+                                           size_t data_len, uint8_t *output, size_t output_len,
+                                           struct dock_sheet_write *joined)
+{
+    static const struct dock_sheet_write none = { 0, 0, 0 };
+    const void *rows = writes != NULL ? writes : &none;
+    size_t told = count <= DOCK_SHEET_WRITES ? count : (size_t)DOCK_SHEET_WRITES + 1; /* 3 times any count may wrap */
+    struct dock_joined all = { 0, 0, DOCK_SHEET };
+    struct dock_words_reply reply;
+    if (writes == NULL && count != 0)
+        return all;
+    reply = dock_words_join((const uint64_t *)rows, 3 * told, data != NULL ? data : dock_not_null(NULL),
+                            data != NULL ? data_len : 0, dock_not_null(output), output != NULL ? output_len : 0,
+                            (uint64_t *)(void *)joined);
+    all.refusal = (uint8_t)reply.number;
+    all.ranges = (size_t)reply.value[0];
+    all.bytes = (size_t)reply.value[1];
+    return all;
 }
 
 /* ---- Vectors ---- */
