@@ -24,6 +24,7 @@ enum call {
     OPEN_TABLE,
     LOAD_TABLE,
     TABLE_ROW,
+    JOIN,
     BEGIN_READ,
     BEGIN_WRITE,
     BEGIN_ZEROES,
@@ -37,9 +38,10 @@ enum call {
     CALLS
 };
 
-static const char *const names[] = { "open",       "open_row",    "open_table",   "load_table",    "table_row",
-                                     "begin_read", "begin_write", "begin_zeroes", "begin_discard", "next",
-                                     "piece",      "tell",        "collect",      "chunks",        "chunk" };
+static const char *const names[] = { "open",         "open_row",      "open_table", "load_table",
+                                     "table_row",    "join",          "begin_read", "begin_write",
+                                     "begin_zeroes", "begin_discard", "next",       "piece",
+                                     "tell",         "collect",       "chunks",     "chunk" };
 static volatile sig_atomic_t at_call;
 
 static void fail(const char *what)
@@ -69,12 +71,26 @@ static void on_signal(int signal)
 
 /* ---- Arrays and buffers between guard pages ---- */
 
-enum area_index { SETTINGS, BLOCKERS, STATES, VECTORS, VECTOR, TABLE, TABLE_BYTES, LENT_DATA, LENT_SCRATCH, AREAS };
+enum area_index {
+    SETTINGS,
+    BLOCKERS,
+    STATES,
+    VECTORS,
+    VECTOR,
+    TABLE,
+    JOINED,
+    WRITES,
+    OUTPUT,
+    TABLE_BYTES,
+    LENT_DATA,
+    LENT_SCRATCH,
+    AREAS
+};
 
 static struct area areas[AREAS];
-static const size_t words_of[] = { 9, 88, 144, 272, 34, 257 };
+static const size_t words_of[] = { 9, 88, 144, 272, 34, 257, 192 }; /* to JOINED; the others have any length */
 static const size_t row_of[] = { 0, 11, 18, 34 };
-enum room { TABLE_ROOM = 4096, DATA_ROOM = 8192, SCRATCH_ROOM = 32768 };
+enum room { WRITES_ROOM = 4096, OUTPUT_ROOM = 4096, TABLE_ROOM = 4096, DATA_ROOM = 8192, SCRATCH_ROOM = 32768 };
 
 static uint64_t *words(enum area_index i)
 {
@@ -379,6 +395,98 @@ static void try_table(void)
     open_twice(OPEN_TABLE, args, areas[LENT_DATA].length, one_in(4) ? any_length() : areas[LENT_SCRATCH].length);
 }
 
+/* Writes of the data, many of which meet on the store, right or nearly so, or any words. Up to two words more. */
+static void put_writes(void)
+{
+    size_t count = one_in(8) ? 62 + (size_t)below(5) : (size_t)below(12);
+    size_t length = areas[LENT_DATA].length;
+    uint64_t base = any_offset();
+    size_t i;
+    place(&areas[WRITES], 8 * (3 * count + (size_t)below(3)), at_end);
+    for (i = 0; i < areas[WRITES].length / 8; i++)
+        words(WRITES)[i] = any_word();
+    if (one_in(8))
+        return;
+    for (i = 0; i < count; i++) {
+        uint64_t start = below(length + 1);
+        uint64_t most = length - start + (length == start && one_in(16));
+        words(WRITES)[3 * i] = base + below(one_in(4) ? 2000 : 200);
+        words(WRITES)[3 * i + 1] = most == 0 ? 0 : start;
+        words(WRITES)[3 * i + 2] = most == 0 ? 1 : 1 + below(most < 40 ? most : 40);
+    }
+    if (count != 0 && one_in(4))
+        words(WRITES)[below(3 * count)] = any_word();
+}
+
+/* What joined writes are: ascending, with a gap between any two, packed in the output, no more than were given. */
+static void check_joined(const struct dock_words_reply *reply)
+{
+    const uint64_t *row = words(JOINED);
+    uint64_t bytes = 0;
+    uint64_t i;
+    check(reply->count == 2 && reply->value[2] == 0 && reply->value[3] == 0, "gave other values");
+    check(reply->value[0] <= areas[WRITES].length / 24 && reply->value[0] <= DOCK_SHEET_WRITES, "joined to more");
+    check(reply->value[1] <= areas[OUTPUT].length, "gave more bytes than fit");
+    for (i = 0; i < reply->value[0]; i++, row += 3) {
+        check(row[2] != 0 && row[0] <= UINT64_MAX - row[2], "a joined write of nothing, or past the last offset");
+        check(i == 0 || row[-3] + row[-1] < row[0], "two joined writes without a gap, or descending");
+        check(row[1] == bytes, "a joined write whose bytes are not packed");
+        bytes += row[2];
+    }
+    check(bytes == reply->value[1], "another number of bytes than the joined writes have");
+}
+
+/* What an accepted call writes depends on its arguments alone: the first rows of the list and bytes of the output. */
+static void check_join(const struct dock_words_reply *reply, const uint64_t *other_joined, const uint8_t *other_output)
+{
+    size_t rows = 24 * (size_t)reply->value[0];
+    size_t bytes = (size_t)reply->value[1];
+    int i;
+    check_joined(reply);
+    check(memcmp(words(JOINED), other_joined, rows) == 0 && memcmp(areas[OUTPUT].at, other_output, bytes) == 0,
+          "wrote what its arguments do not say");
+    check(same_but(JOINED, 0, rows), "wrote behind the joined writes");
+    check(same_but(OUTPUT, 0, bytes), "wrote behind their bytes");
+    for (i = 0; i < AREAS; i++)
+        check(i == JOINED || i == OUTPUT || same((enum area_index)i), "changed what is not its to change");
+}
+
+static struct dock_words_reply raw_join(size_t writes_len, uint8_t *output, uint64_t *joined)
+{
+    return dock_words_join(words(WRITES), writes_len, areas[LENT_DATA].at, areas[LENT_DATA].length, output,
+                           areas[OUTPUT].length, joined);
+}
+
+/* Over 64 writes none is looked at: their number may be any then. */
+static void try_join(void)
+{
+    static uint8_t other_output[OUTPUT_ROOM];
+    static uint64_t other_joined[192];
+    struct dock_words_reply reply;
+    struct dock_words_reply again;
+    size_t writes_len;
+    put_writes();
+    place(&areas[OUTPUT], one_in(2) ? (size_t)below(300) : (size_t)OUTPUT_ROOM, at_end);
+    put_bytes(areas[OUTPUT].room, OUTPUT_ROOM);
+    put_words(JOINED);
+    writes_len = one_in(32) ? 195 + (size_t)any_word() % (SIZE_MAX - 195) : areas[WRITES].length / 8;
+    keep();
+    at_call = JOIN;
+    reply = raw_join(writes_len, areas[OUTPUT].at, words(JOINED));
+    again = raw_join(writes_len, other_output, other_joined);
+    counts[at_call]++;
+    accepted[at_call] += reply.number == 0;
+    check_number(reply.number == 0 || reply.number == 219 || reply.number == 220);
+    check(memcmp(&reply, &again, sizeof reply) == 0, "answered by what its arguments do not say");
+    if (reply.number == 0) {
+        check_join(&reply, other_joined, other_output);
+        return;
+    }
+    check(all_same(), "was refused and has changed something");
+    check(reply.count == 0 && (reply.value[0] | reply.value[1] | reply.value[2] | reply.value[3]) == 0,
+          "was refused and gave values");
+}
+
 static struct dock_words_reply raw_begin(enum call call, uint64_t offset, uint64_t length)
 {
     const struct area *data = &areas[LENT_DATA];
@@ -646,8 +754,10 @@ static void place_all(uint64_t *args)
 {
     int i;
     at_end = !one_in(3);
-    for (i = 0; i <= TABLE; i++)
+    for (i = 0; i <= JOINED; i++)
         place(&areas[i], words_of[i] * 8, at_end);
+    for (; i < LENT_DATA; i++)
+        place(&areas[i], 0, at_end);
     place(&areas[LENT_DATA], one_in(16) ? 0 : (size_t)below(DATA_ROOM + 1), at_end);
     place(&areas[LENT_SCRATCH], (size_t)(8 * args[4]), at_end);
     put_bytes(areas[LENT_DATA].at, areas[LENT_DATA].length < 256 ? areas[LENT_DATA].length : 256);
@@ -708,11 +818,12 @@ static void run_episode(void)
     origin = (enum origin)below(ORIGINS);
     fit_settings(args);
     place_all(args);
-    place(&areas[TABLE_BYTES], 0, at_end);
     if (one_in(8))
         try_unfit_opening();
     if (one_in(4))
         try_table();
+    for (i = one_in(4) ? 4 : 0; i > 0; i--)
+        try_join();
     if (origin == MADE || origin == MUTATED)
         open_made(args);
     else
@@ -758,7 +869,8 @@ static void summary(void)
 
 int main(int argc, char **argv)
 {
-    static const size_t rooms[] = { 4096, 4096, 4096, 4096, 4096, 4096, TABLE_ROOM, DATA_ROOM, SCRATCH_ROOM };
+    static const size_t rooms[] = { 4096,        4096,        4096,       4096,      4096,        4096, 4096,
+                                    WRITES_ROOM, OUTPUT_ROOM, TABLE_ROOM, DATA_ROOM, SCRATCH_ROOM };
     long seconds = argc > 1 ? strtol(argv[1], NULL, 10) : 60;
     time_t start = time(NULL);
     time_t shown = start;
