@@ -28,7 +28,8 @@
 //!
 //! [`Runner::run_threads`] has up to eight requests carried out together. Jobs that are not known beforehand come from
 //! a [`Source`] of your own. [`MemoryStore`] and [`FileStore`] are stores, [`FaultyStore`] is one for tests. Drives that
-//! no built-in row describes are loaded as a [`Table`].
+//! no built-in row describes are loaded as a [`Table`]. Many small writes are joined to few by [`join`], so that they
+//! take one trip.
 //!
 //! # One step at a time
 //!
@@ -83,6 +84,7 @@ mod raw;
 mod refusal;
 mod room;
 mod runner;
+mod sheet;
 mod store;
 mod stores;
 mod table;
@@ -94,6 +96,7 @@ pub use dock::{aligned_part, DataError, Dock, Settings, SLOTS};
 pub use refusal::Refusal;
 pub use room::Room;
 pub use runner::{Ended, Job, JobList, Next, Order, Runner, Source, Tally, Told, Waiting};
+pub use sheet::{join, Joined, SheetWrite, SHEET_WRITES};
 pub use store::Store;
 pub use stores::{Carried, Faults, FaultyStore, FileStore, MemoryStore, Watcher};
 pub use table::{Table, TABLE_ROWS};

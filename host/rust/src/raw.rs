@@ -30,6 +30,7 @@
 use crate::answer::{Due, Kind, Piece, Request};
 use crate::dock::{DataError, Settings, SLOTS};
 use crate::refusal::Refusal;
+use crate::sheet::{SheetWrite, SHEET_WRITES};
 use crate::table::{Table, TABLE_ROWS};
 use crate::vector::Vector;
 use std::marker::PhantomData;
@@ -86,6 +87,10 @@ type VectorWords = [u64; 272];
 /// The words of a drive table: count, and the alignments of each row; 0 past the count.
 pub(crate) type TableWords = [u64; TABLE_WORDS];
 pub(crate) const TABLE_WORDS: usize = 1 + 4 * TABLE_ROWS;
+/// How many words a write of a sheet has.
+const WRITE_WORDS: usize = 3;
+/// Room for all writes that a sheet can be joined to, of three words each.
+pub(crate) type JoinedWrites = [SheetWrite; SHEET_WRITES];
 
 #[rustfmt::skip]
 extern "C" {
@@ -123,6 +128,8 @@ extern "C" {
         vectors: &mut VectorWords, slot: usize, data_len: usize, scratch_len: usize) -> u8;
     fn dock_words_chunks(settings: &SettingsWords, offset: u64, length: u64) -> Reply;
     fn dock_words_chunk(settings: &SettingsWords, offset: u64, length: u64, i: u64) -> Reply;
+    fn dock_words_join(writes: *const SheetWrite, writes_len: usize, data: *const u8, data_len: usize, output: *mut u8,
+        output_len: usize, joined: &mut JoinedWrites) -> Reply;
     #[cfg(test)]
     fn dock_words_vector_push(vector: &mut [u64; 34], start: usize, length: usize, data_len: usize) -> u8;
 }
@@ -379,6 +386,25 @@ pub(crate) fn load_table(table: &mut TableWords, bytes: &[u8]) -> u8 {
 pub(crate) fn table_row(table: &TableWords, row: usize) -> Reply {
     // SAFETY: the words are borrowed; the rest is a number.
     unsafe { dock_words_table_row(table, row) }
+}
+
+/// Joins the writes of a sheet: number 0 with how many ranges and bytes they come to, or a refusal's number, and then
+/// neither `output` nor `joined` has changed.
+pub(crate) fn join_sheet(writes: &[SheetWrite], data: &[u8], output: &mut [u8], joined: &mut JoinedWrites) -> Reply {
+    // SAFETY: a write is three words without padding, so the writes are three times as many words; no slice is so long
+    // that this is no number. Writes, data, output and joined are borrowed, the last two alone, and so they lie apart;
+    // the pointer of a slice is not null, and it has as many elements as are told.
+    unsafe {
+        dock_words_join(
+            writes.as_ptr(),
+            WRITE_WORDS * writes.len(),
+            data.as_ptr(),
+            data.len(),
+            output.as_mut_ptr(),
+            output.len(),
+            joined,
+        )
+    }
 }
 
 /// The library's own push on the words of a vector over data of that length: 0 or a refusal's number.

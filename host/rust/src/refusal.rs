@@ -4,7 +4,8 @@ use std::error::Error;
 use std::fmt;
 
 /// Why a call was refused. A refused call has changed nothing. From 211 on they are those of document 02's requests:
-/// [`crate::Table`] answers with 211 and 212, and no call of this crate answers with one from 213 on yet.
+/// [`crate::Table`] answers with 211 and 212, [`crate::join`] with 219 and 220, and no call of this crate answers with
+/// one of 213 to 218 yet.
 #[derive(Clone, Copy, Debug, PartialEq, Eq, Hash)]
 pub enum Refusal {
     /// 201: alignment, bounce buffer length or drive row unfit.
