@@ -1,6 +1,8 @@
-//! A run in place allocates nothing.
+//! A run in place allocates nothing, nor does a join.
 
-use pitch_dock::{Answer, Ended, Job, Kind, MemoryStore, Next, Order, Room, Runner, Settings, Source};
+use pitch_dock::{
+    join, Answer, Ended, Job, Kind, MemoryStore, Next, Order, Room, Runner, Settings, SheetWrite, Source,
+};
 use std::alloc::{GlobalAlloc, Layout, System};
 use std::cell::Cell;
 
@@ -77,4 +79,19 @@ fn a_run_in_place_allocates_nothing() {
         let after = COUNT.get();
         assert_eq!((after - before, jobs.done), (0, 2000), "{order:?}");
     }
+}
+
+#[test]
+fn a_join_allocates_nothing() {
+    let data = [7; 4096];
+    let mut output = [0; 64 * 64];
+    let writes: Vec<SheetWrite> =
+        (0..65).map(|i| SheetWrite { offset: i * 1000 % 1700, start: 60 * i, length: 64 }).collect();
+    let before = COUNT.get();
+    let joined = join(&writes[..64], &data, &mut output);
+    let short = join(&writes[..64], &data, &mut output[..63]);
+    let many = join(&writes, &data, &mut output);
+    let after = COUNT.get();
+    assert_eq!((after - before, joined.is_ok(), short.is_ok(), many.is_ok()), (0, true, false, false));
+    assert!(joined.is_ok_and(|joined| (1..64).contains(&joined.writes().len())));
 }
