@@ -3,8 +3,8 @@
 
 use crate::numbers::{self, Flaw};
 use crate::script::shown;
-use crate::table::{too_many, unfit, unfound, NAMES};
-use crate::trouble::{name_of, refused, Outcome};
+use crate::table::{too_many, unfit, NAMES};
+use crate::trouble::{name_of, refused, unfound, Outcome};
 use pitch_dock::{Refusal, Table, TABLE_ROWS};
 use std::path::Path;
 

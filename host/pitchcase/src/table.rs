@@ -9,7 +9,7 @@ use crate::out::Out;
 use crate::report::Report;
 use crate::rows::{self, Rows};
 use crate::system;
-use crate::trouble::{name_of, refused, Outcome, Trouble};
+use crate::trouble::{name_of, refused, unfound, Outcome, Trouble};
 use pitch_dock::{Refusal, Table, TABLE_ROWS};
 use serde_json::json;
 use std::path::Path;
@@ -40,11 +40,6 @@ fn loaded(name: &str, path: &Path, bytes: &[u8]) -> Outcome<Table> {
         let found = look_over(bytes).err().filter(|bad| bad.refusal == refusal);
         refused(format!("{name} {}: {}", name_of(path), found.map_or_else(|| unfound(refusal), |bad| bad.text())))
     })
-}
-
-/// A refusal of the library's, of which this program's own look does not find the place.
-pub fn unfound(refusal: Refusal) -> String {
-    format!("{refusal}; where is not known: pitchcase's own look comes to another end")
 }
 
 /// A record that is refused.
@@ -247,11 +242,5 @@ mod tests {
         assert_eq!(others_line(Some(0)), None);
         assert_eq!(others_line(Some(3)).unwrap(), "# passed over: 3 records of other kinds");
         assert!([Some(1), None].into_iter().all(|others| others_line(others).unwrap().starts_with("# ")));
-    }
-
-    #[test]
-    fn a_place_that_is_not_found_is_said_to_be_unknown() {
-        let text = unfound(Refusal::Row);
-        assert!(text.starts_with("refused with 212: ") && text.ends_with("own look comes to another end"));
     }
 }

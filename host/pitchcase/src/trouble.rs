@@ -93,6 +93,11 @@ pub fn refusal_text(refusal: Refusal) -> String {
     format!("{why} ({})", refusal.number())
 }
 
+/// A refusal of the library's, of which this program's own look does not find the place.
+pub fn unfound(refusal: Refusal) -> String {
+    format!("{refusal}; where is not known: pitchcase's own look comes to another end")
+}
+
 #[cfg(test)]
 mod tests {
     use super::*;
@@ -113,5 +118,11 @@ mod tests {
     fn a_reason_has_words_and_number() {
         assert_eq!(reason_of(28), "no space left on device (28)");
         assert_eq!(reason_of(5), "input/output error (5)");
+    }
+
+    #[test]
+    fn a_place_that_is_not_found_is_said_to_be_unknown() {
+        let text = unfound(Refusal::Row);
+        assert!(text.starts_with("refused with 212: ") && text.ends_with("own look comes to another end"));
     }
 }
