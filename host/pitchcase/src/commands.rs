@@ -6,8 +6,9 @@ use crate::input;
 use crate::numbers::{both, Range};
 use crate::options::{number, BytesWords, Command, Manner, Means, PlaceWords, RangeWords};
 use crate::out::say;
-use crate::report::{job_text, Report};
-use crate::script::{Entry, JobLine, Verb};
+use crate::report::{job_text, plural, Report};
+use crate::script::{Entry, Form, JobLine, Verb};
+use crate::sheet::{self, Sheet};
 use crate::system;
 use crate::table;
 use crate::trouble::{failed, name_of, reason, refusal_text, refused, Outcome, Trouble};
@@ -34,6 +35,7 @@ enum Name {
     Zero,
     Discard,
     Fleet,
+    Sheet,
 }
 
 impl Name {
@@ -44,7 +46,13 @@ impl Name {
             Name::Zero => "zero",
             Name::Discard => "discard",
             Name::Fleet => "fleet",
+            Name::Sheet => "sheet",
         }
+    }
+
+    /// Whether it has many jobs, of which it lists those done and not done where it stops, and gives their total.
+    fn is_list(self) -> bool {
+        matches!(self, Name::Fleet | Name::Sheet)
     }
 }
 
@@ -60,6 +68,8 @@ struct Asked {
     name: Name,
     image: PathBuf,
     entries: Vec<Entry>,
+    /// The lines of a sheet, which were joined to the entries; of other commands none.
+    lines: Vec<Entry>,
     bytes: Bytes,
     /// The file that bytes come from.
     from: Option<input::Identity>,
@@ -72,6 +82,19 @@ impl Asked {
     fn load_table(&self, is_stdin_closed: bool) -> Outcome<Option<Table>> {
         let path = self.manner.table()?;
         path.map(|path| table::load("--table", path, is_stdin_closed)).transpose()
+    }
+
+    /// How many bytes its jobs have together.
+    fn bytes_in_all(&self) -> u64 {
+        jobs(&self.entries).map(|job| job.range.length).sum()
+    }
+
+    /// The jobs as they were typed.
+    fn typed(&self) -> &[Entry] {
+        match self.name {
+            Name::Sheet => &self.lines,
+            _ => &self.entries,
+        }
     }
 }
 
@@ -102,13 +125,8 @@ pub fn run(command: Command, is_stdin_closed: bool) -> Outcome<()> {
             of_range(Name::Zero, verb, range, manner)?
         }
         Command::Discard { range, manner } => of_range(Name::Discard, Verb::Discard, range, manner)?,
-        Command::Fleet { image, script, manner } => {
-            check_input(&manner, "SCRIPT", Some(&script))?;
-            let mut script = input::script(&script, is_stdin_closed)?;
-            let entries = std::mem::take(&mut script.entries);
-            let (bytes, print) = (Bytes::Script(script), Print::Lines);
-            Asked { name: Name::Fleet, image, entries, bytes, from: None, print, manner }
-        }
+        Command::Fleet { image, script, manner } => fleet(image, &script, manner, is_stdin_closed)?,
+        Command::Sheet { image, sheet, manner } => joined(image, &sheet, manner, is_stdin_closed)?,
     };
     let table = asked.load_table(is_stdin_closed)?;
     carry_out(asked, table.as_ref())
@@ -125,7 +143,8 @@ fn of_range(name: Name, verb: Verb, range: RangeWords, manner: Manner) -> Outcom
     let length = number("LENGTH", &range.length)?;
     let entries = vec![single(verb, Range { offset, length })];
     let image = range.place.image;
-    Ok(Asked { name, image, entries, bytes: Bytes::None, from: None, print: Print::Rows, manner })
+    let (lines, bytes, print) = (Vec::new(), Bytes::None, Print::Rows);
+    Ok(Asked { name, image, entries, lines, bytes, from: None, print, manner })
 }
 
 fn edit(place: PlaceWords, words: &BytesWords, manner: Manner, is_stdin_closed: bool) -> Outcome<Asked> {
@@ -133,8 +152,26 @@ fn edit(place: PlaceWords, words: &BytesWords, manner: Manner, is_stdin_closed: 
     check_input(&manner, "--from", words.from.as_deref())?;
     let edit = input::edit_bytes(words, is_stdin_closed)?;
     let entries = vec![single(Verb::Write, Range { offset, length: edit.length })];
-    let (image, bytes, from) = (place.image, edit.bytes, edit.from);
-    Ok(Asked { name: Name::Edit, image, entries, bytes, from, print: Print::Rows, manner })
+    let (image, lines, bytes, from) = (place.image, Vec::new(), edit.bytes, edit.from);
+    Ok(Asked { name: Name::Edit, image, entries, lines, bytes, from, print: Print::Rows, manner })
+}
+
+/// The jobs of a script.
+fn fleet(image: PathBuf, path: &Path, manner: Manner, is_stdin_closed: bool) -> Outcome<Asked> {
+    check_input(&manner, Form::Script.name(), Some(path))?;
+    let mut script = input::script(Form::Script, path, is_stdin_closed)?;
+    let (entries, lines) = (std::mem::take(&mut script.entries), Vec::new());
+    let (bytes, print) = (Bytes::Script(script), Print::Lines);
+    Ok(Asked { name: Name::Fleet, image, entries, lines, bytes, from: None, print, manner })
+}
+
+/// The ranges that the writes of a sheet are joined to.
+fn joined(image: PathBuf, path: &Path, manner: Manner, is_stdin_closed: bool) -> Outcome<Asked> {
+    check_input(&manner, Form::Sheet.name(), Some(path))?;
+    let script = input::script(Form::Sheet, path, is_stdin_closed)?;
+    let Sheet { lines, ranges: entries, bytes } = Sheet::join(script, path)?;
+    let (bytes, print) = (Bytes::Memory(bytes), Print::Lines);
+    Ok(Asked { name: Name::Sheet, image, entries, lines, bytes, from: None, print, manner })
 }
 
 /// Standard input has the table or the other file that a command reads, not both.
@@ -147,7 +184,7 @@ fn check_input(manner: &Manner, name: &str, path: Option<&Path>) -> Outcome<()> 
 }
 
 fn single(verb: Verb, range: Range) -> Entry {
-    Entry::Job { verb, range, line: 0, digits: 0 }
+    Entry::Job { verb, range, line: 0, start: 0 }
 }
 
 /// The jobs of a list of entries.
@@ -164,7 +201,7 @@ impl Opened {
         let lock = !manner.no_lock && !manner.plan;
         let image = image::open(&asked.image, Access { change: is_change, direct: manner.direct, lock })?;
         check_apart(asked, &image)?;
-        let end = end_after(&asked.entries, &image, manner.grow)?;
+        let end = end_after(asked.typed(), &image, manner.grow)?;
         let settings = settings_of(&means, &image.found);
         if manner.direct {
             check_direct(&image, &settings, end)?;
@@ -317,7 +354,8 @@ fn carry_out(asked: Asked, table: Option<&Table>) -> Outcome<()> {
 
 /// Runs the jobs, and says what they came to. An edit shows its bytes before and after.
 fn run_jobs(asked: &Asked, opened: &Opened, runner: &mut Runner<'_>) -> Outcome<()> {
-    let mut report = Report::new(asked.manner.json, asked.manner.trace, opened.plan);
+    let report = Report::new(asked.manner.json, asked.manner.trace, opened.plan);
+    let mut report = if asked.name == Name::Sheet { report.of_ranges() } else { report };
     announce(asked, opened, &mut report);
     let is_edit = asked.name == Name::Edit && !opened.plan;
     let edited = jobs(&asked.entries).next().filter(|_| is_edit).map(|job| job.range);
@@ -340,28 +378,43 @@ fn run_jobs(asked: &Asked, opened: &Opened, runner: &mut Runner<'_>) -> Outcome<
     conclude(asked, &mut report, end, tally, synced.and(shown))
 }
 
-/// The first line or object.
+/// The first line or object; of a sheet also its ranges.
 fn announce(asked: &Asked, opened: &Opened, report: &mut Report) {
+    if asked.print == Print::Raw {
+        return;
+    }
     let count = jobs(&asked.entries).count();
-    let text = match asked.name {
-        Name::Fleet => {
-            Some(format!("fleet {}: {count} job{}", name_of(&asked.image), if count == 1 { "" } else { "s" }))
+    let Settings { mem, req, zero, discard, bounce } = opened.settings;
+    let mut fields = json!({
+        "command": asked.name.word(), "image": asked.image.to_string_lossy(), "kind": opened.image.kind.word(),
+        "size": opened.image.size, "align": [mem, req, zero, discard], "share": bounce, "out": opened.out,
+        "jobs": count, "plan": opened.plan,
+    });
+    if asked.name == Name::Sheet {
+        fields["lines"] = asked.lines.len().into();
+        fields["bytes"] = asked.bytes_in_all().into();
+    }
+    report.start(first_line(asked, opened, report).as_deref(), fields);
+    if asked.name == Name::Sheet {
+        jobs(&asked.entries).for_each(|job| report.joined(job, &sheet::lines_in(&asked.lines, job.range)));
+    }
+}
+
+/// The first line of a run that will change something, or has many jobs.
+fn first_line(asked: &Asked, opened: &Opened, report: &Report) -> Option<String> {
+    let image = name_of(&asked.image);
+    let count = report.counted(jobs(&asked.entries).count() as u64);
+    match asked.name {
+        Name::Fleet => Some(format!("fleet {image}: {count}")),
+        Name::Sheet => {
+            let (lines, bytes) = (asked.lines.len() as u64, asked.bytes_in_all());
+            Some(format!("sheet {image}: {lines} line{}, {count}, {bytes} byte{}", plural(lines), plural(bytes)))
         }
         Name::Zero | Name::Discard if !opened.plan => {
             jobs(&asked.entries).next().map(|job| format!("{}: begun", job_text(job)))
         }
         _ => None,
-    };
-    if asked.print == Print::Raw {
-        return;
     }
-    let Settings { mem, req, zero, discard, bounce } = opened.settings;
-    let fields = json!({
-        "command": asked.name.word(), "image": asked.image.to_string_lossy(), "kind": opened.image.kind.word(),
-        "size": opened.image.size, "align": [mem, req, zero, discard], "share": bounce, "out": opened.out,
-        "jobs": count, "plan": opened.plan,
-    });
-    report.start(text.as_deref(), fields);
 }
 
 /// What was changed reaches the drive.
@@ -375,27 +428,27 @@ fn sync(asked: &Asked, opened: &Opened) -> Outcome<()> {
 
 /// The end of a run: its last lines, and its outcome.
 fn conclude(asked: &Asked, report: &mut Report, end: End, tally: Tally, synced: Outcome<()>) -> Outcome<()> {
-    let is_fleet = asked.name == Name::Fleet;
-    if !end.is_whole && (is_fleet || !end.lines.partly.is_empty()) {
+    let is_list = asked.name.is_list();
+    if !end.is_whole && (is_list || !end.lines.partly.is_empty()) {
         report.lines(&end.lines);
     }
-    if is_fleet {
+    if is_list {
         report.total(end.ended, tally);
     }
     let outcome = match (&end.failure, end.is_whole) {
         (Some(why), _) => failed(why.clone()),
         (None, true) => synced,
         (None, false) if report.out.is_broken() => Ok(()),
-        (None, false) => synced.and_then(|()| Err(Trouble::Interrupted(interrupted(&end)))),
+        (None, false) => synced.and_then(|()| Err(Trouble::Interrupted(interrupted(report, &end)))),
     };
     report.end(outcome.as_ref().err().map_or(0, Trouble::status), end.ended, tally);
     let after = if end.is_whole { "all jobs were done" } else { "not all jobs were done" };
     outcome.and(report.out.settle(after))
 }
 
-fn interrupted(end: &End) -> String {
-    let plural = if end.ended == 1 { "" } else { "s" };
-    format!("{} job{plural} done, {} partly, {} not begun", end.ended, end.lines.partly.len(), end.lines.unbegun.len())
+fn interrupted(report: &Report, end: &End) -> String {
+    let done = report.counted(end.ended);
+    format!("{done} done, {} partly, {} not begun", end.lines.partly.len(), end.lines.unbegun.len())
 }
 
 /// Prints what is found of an image, and which row of the table has its alignments, or which built-in one where no

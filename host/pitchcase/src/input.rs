@@ -1,7 +1,7 @@
-//! What is read beside the image: scripts, drive tables and their texts, and the bytes of an edit.
+//! What is read beside the image: scripts, sheets, drive tables and their texts, and the bytes of an edit.
 
 use crate::options::{hex, BytesWords};
-use crate::script::Script;
+use crate::script::{Form, Script};
 use crate::system;
 use crate::trouble::{name_of, reason, refused, Outcome, Trouble};
 use crate::work::Bytes;
@@ -11,7 +11,7 @@ use std::os::unix::ffi::OsStringExt;
 use std::os::unix::fs::MetadataExt;
 use std::path::Path;
 
-/// What is held in memory at most: a script, a table, or bytes from a pipe.
+/// What is held in memory at most: a script, a sheet, a table, or bytes from a pipe.
 const MOST: u64 = 1 << 30;
 const MOST_TEXT: &str = "has more than 1G, which is all that is held in memory";
 
@@ -62,10 +62,10 @@ fn read_whole(name: &str, path: &Path, mut file: File) -> Outcome<Vec<u8>> {
     }
 }
 
-/// A script, looked over.
-pub fn script(path: &Path, is_stdin_closed: bool) -> Outcome<Script> {
-    let file = open("SCRIPT", path, is_stdin_closed)?;
-    Script::parse(read_whole("SCRIPT", path, file)?)
+/// A script or a sheet, looked over.
+pub fn script(form: Form, path: &Path, is_stdin_closed: bool) -> Outcome<Script> {
+    let file = open(form.name(), path, is_stdin_closed)?;
+    Script::parse(form, read_whole(form.name(), path, file)?)
 }
 
 /// All bytes of a file, which is called `name` where it was typed, and which file that is; of standard input for `-`.

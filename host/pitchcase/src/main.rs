@@ -21,6 +21,7 @@ mod progress;
 mod report;
 mod rows;
 mod script;
+mod sheet;
 #[allow(unsafe_code)]
 mod system;
 mod table;

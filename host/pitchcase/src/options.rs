@@ -52,6 +52,17 @@ Examples:
   pitchcase fleet drive.img angles.txt
   printf 'write 596 2b30\\nbarrier\\nread 596 10\\n' | pitchcase fleet drive.img - --trace";
 
+const SHEET_END: &str = "\
+A sheet has one write to a line, at most 64; empty lines and those that start with # say nothing:
+  write OFFSET HEXBYTES
+All are joined before any is made: where two lines cover a byte the later one wins, and ranges that touch become one.
+The ranges are written up to eight at once, in any order. After one has failed none is begun any more. The bytes are
+not shown; look does that.
+
+Examples:
+  pitchcase sheet drive.img pitch.sheet --plan  how many requests it would take; fleet --plan: without joining
+  printf 'write 660 2b\\nwrite 661 303032\\n' | pitchcase sheet drive.img - --trace";
+
 const INFO_END: &str = "\
 Examples:
   pitchcase info /dev/sdb --direct
@@ -135,6 +146,16 @@ pub enum Command {
         image: PathBuf,
         /// File of jobs; - is standard input
         script: PathBuf,
+        #[command(flatten)]
+        manner: Manner,
+    },
+    /// Makes the writes of a sheet in one trip, joined to as few ranges as they can be
+    #[command(after_help = SHEET_END)]
+    Sheet {
+        /// Drive image: a regular file or a block device
+        image: PathBuf,
+        /// File of writes; - is standard input
+        sheet: PathBuf,
         #[command(flatten)]
         manner: Manner,
     },
@@ -388,7 +409,7 @@ pub fn parse(words: impl IntoIterator<Item = OsString>) -> Outcome<Said> {
 fn commands_of(words: &[OsString]) -> &'static str {
     match words.get(1).is_some_and(|word| word == "table") {
         true => "show, make",
-        false => "look, edit, zero, discard, fleet, info, table",
+        false => "look, edit, zero, discard, fleet, sheet, info, table",
     }
 }
 
@@ -454,14 +475,16 @@ mod tests {
 
     #[test]
     fn each_refusal_is_one_line() {
+        let commands = "look, edit, zero, discard, fleet, sheet, info, table";
         let bad = [
-            ("", "refused: a command is missing (look, edit, zero, discard, fleet, info, table; --help says more)"),
-            ("lok a 0 1", "refused: 'lok': no such command (look, edit, zero, discard, fleet, info, table)"),
+            ("", "refused: a command is missing (COMMANDS; --help says more)"),
+            ("lok a 0 1", "refused: 'lok': no such command (COMMANDS)"),
             ("table", "refused: a command is missing (show, make; --help says more)"),
             ("table look a", "refused: 'look': no such command (show, make)"),
             ("table help", "refused: 'help': no such command (show, make)"),
             ("table make a", "refused: a word is missing: <TABLE>"),
             ("table show a --replace", "refused: '--replace': no such option (--help lists them)"),
+            ("sheet a", "refused: a word is missing: <SHEET>"),
             ("look a 0", "refused: a word is missing: <LENGTH>"),
             ("look a 0 1 5", "refused: '5': a word too many"),
             ("look a 0 1 --trce", "refused: '--trce': no such option (--help lists them)"),
@@ -469,7 +492,7 @@ mod tests {
             ("look a 0 1 --drive 1 --align 1,1,1,1", "refused: '--drive <ROW>': does not go with '--align <M,R,Z,D>'"),
         ];
         for (words, line) in bad {
-            assert_eq!(refusal(words), line, "{words}");
+            assert_eq!(refusal(words), line.replace("COMMANDS", commands), "{words}");
         }
     }
 

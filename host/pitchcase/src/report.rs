@@ -10,6 +10,9 @@ use std::fmt::Write;
 
 /// How many bytes a row of a dump has.
 const ROW: usize = 16;
+/// What jobs are numbered by.
+const LINE: &str = "line";
+const RANGE: &str = "range";
 
 /// Prints what happens.
 pub struct Report {
@@ -18,11 +21,13 @@ pub struct Report {
     json: bool,
     trace: bool,
     plan: bool,
+    /// What its jobs are numbered by: lines of a script, or ranges of a sheet.
+    noun: &'static str,
     /// A row of a dump that is not full yet, and its offset.
     row: (u64, Vec<u8>),
 }
 
-/// Which lines of a script came to what.
+/// Which lines of a script came to what, or which ranges of a sheet.
 #[derive(Debug, Default)]
 pub struct Lines {
     pub done: Vec<u64>,
@@ -35,7 +40,12 @@ pub struct Lines {
 impl Report {
     /// A report as the options say.
     pub fn new(json: bool, trace: bool, plan: bool) -> Report {
-        Report { out: Out::new(), json, trace, plan, row: (0, Vec::with_capacity(ROW)) }
+        Report { out: Out::new(), json, trace, plan, noun: LINE, row: (0, Vec::with_capacity(ROW)) }
+    }
+
+    /// The same report, of the ranges of a sheet.
+    pub fn of_ranges(self) -> Report {
+        Report { noun: RANGE, ..self }
     }
 
     /// The first line of a run that will change something, or the first object of any.
@@ -64,14 +74,15 @@ impl Report {
     pub fn request(&mut self, line: u64, request: &Request, code: Code, waiting: &[u64]) {
         let range = Range { offset: request.offset, length: request.length };
         if self.json {
-            let mut fields = ranged(line, "kind", kind_word(request.kind), range);
+            let mut fields = self.ranged(line, "kind", kind_word(request.kind), range);
             fields["code"] = code.number().into();
             fields["waiting"] = waiting.into();
             return self.object("request", fields);
         }
-        let mut text = format!("  {}{} {range}: {}", at_line(line), kind_word(request.kind), self.said(code));
+        let place = at(self.noun, line);
+        let mut text = format!("  {place}{} {range}: {}", kind_word(request.kind), self.said(code));
         for (i, line) in waiting.iter().enumerate() {
-            let _ = write!(text, "{}line {line}", if i == 0 { "; waiting: " } else { ", " });
+            let _ = write!(text, "{}{} {line}", if i == 0 { "; waiting: " } else { ", " }, self.noun);
         }
         self.out.line(&text);
     }
@@ -88,7 +99,7 @@ impl Report {
     /// A job that has ended. Text says so in a trace or a plan, where it failed, and where `is_told`.
     pub fn ended(&mut self, job: JobLine, answer: Result<(), &str>, number: u8, tally: Tally, is_told: bool) {
         if self.json {
-            let mut fields = ranged(job.line, "verb", job.verb.word(), job.range);
+            let mut fields = self.ranged(job.line, "verb", job.verb.word(), job.range);
             fields["code"] = number.into();
             if let Err(why) = answer {
                 fields["reason"] = why.into();
@@ -103,13 +114,28 @@ impl Report {
             Ok(()) if self.plan => ": would make ".into(),
             Ok(()) => ": done: ".into(),
         };
-        self.out.line(&format!("{}{said}{}", job_text(job), cost(tally)));
+        self.out.line(&format!("{}{said}{}", self.job_text(job), cost(tally)));
+    }
+
+    /// A job: its line or number, what, and which range.
+    pub fn job_text(&self, job: JobLine) -> String {
+        numbered_text(self.noun, job)
+    }
+
+    /// A range that lines of a sheet were joined to.
+    pub fn joined(&mut self, job: JobLine, lines: &[u64]) {
+        if self.json {
+            let mut fields = self.ranged(job.line, "verb", job.verb.word(), job.range);
+            fields["lines"] = json!(runs(lines));
+            return self.object("range", fields);
+        }
+        self.out.line(&format!("{}: {}", self.job_text(job), runs_text(LINE, lines)));
     }
 
     /// The bytes that a line of a script has read, or a part of them.
     pub fn script_bytes(&mut self, job: JobLine, bytes: &[u8]) {
         if !self.json {
-            self.out.line(&job_text(job));
+            self.out.line(&self.job_text(job));
         }
         self.bytes(job.line, job.range.offset, bytes);
         self.end_bytes();
@@ -118,7 +144,7 @@ impl Report {
     /// Bytes from `offset` on: rows of 16 that start where the first call began, until `end_bytes`.
     pub fn bytes(&mut self, line: u64, offset: u64, bytes: &[u8]) {
         if self.json {
-            let mut fields = ranged(line, "verb", "read", Range { offset, length: bytes.len() as u64 });
+            let mut fields = self.ranged(line, "verb", "read", Range { offset, length: bytes.len() as u64 });
             fields["hex"] = hex(bytes).into();
             return self.object("bytes", fields);
         }
@@ -162,26 +188,31 @@ impl Report {
         if self.json {
             let partly: Vec<_> = lines.partly.iter().map(|(line, done, of)| json!([line, done, of])).collect();
             let (done, failed, unbegun) = (runs(&lines.done), runs(&lines.failed), runs(&lines.unbegun));
-            return self
-                .object("lines", json!({ "done": done, "failed": failed, "partly": partly, "not_begun": unbegun }));
+            let fields = json!({ "done": done, "failed": failed, "partly": partly, "not_begun": unbegun });
+            return self.object(&format!("{}s", self.noun), fields);
         }
         for (what, numbers) in [("done", &lines.done), ("failed", &lines.failed), ("not begun", &lines.unbegun)] {
             if !numbers.is_empty() {
-                self.out.line(&format!("{what}: {}", runs_text(numbers)));
+                self.out.line(&format!("{what}: {}", runs_text(self.noun, numbers)));
             }
         }
         for (line, done, of) in &lines.partly {
-            let which = if *line == 0 { String::new() } else { format!("line {line}: ") };
-            self.out.line(&format!("partly done: {which}{done} of {of} bytes"));
+            self.out.line(&format!("partly done: {}{done} of {of} bytes", at(self.noun, *line)));
         }
     }
 
-    /// What all jobs of a script took or would take.
+    /// What all jobs of a script, or ranges of a sheet, took or would take.
     pub fn total(&mut self, jobs: u64, tally: Tally) {
         if !self.json {
             let what = if self.plan { "would make " } else { "" };
-            self.out.line(&format!("{jobs} job{} ended: {what}{}", plural(jobs), cost(tally)));
+            self.out.line(&format!("{} ended: {what}{}", self.counted(jobs), cost(tally)));
         }
+    }
+
+    /// So many jobs of a script, or ranges of a sheet.
+    pub fn counted(&self, jobs: u64) -> String {
+        let noun = if self.noun == RANGE { RANGE } else { "job" };
+        format!("{jobs} {noun}{}", plural(jobs))
     }
 
     /// The last object of a run.
@@ -200,17 +231,17 @@ impl Report {
         }
         self.out.line(&Value::Object(all).to_string());
     }
-}
 
-fn ranged(line: u64, name: &str, word: &str, range: Range) -> Value {
-    let mut fields = Map::new();
-    if line != 0 {
-        fields.insert("line".into(), line.into());
+    fn ranged(&self, line: u64, name: &str, word: &str, range: Range) -> Value {
+        let mut fields = Map::new();
+        if line != 0 {
+            fields.insert(self.noun.into(), line.into());
+        }
+        fields.insert(name.into(), word.into());
+        fields.insert("offset".into(), range.offset.into());
+        fields.insert("length".into(), range.length.into());
+        Value::Object(fields)
     }
-    fields.insert(name.into(), word.into());
-    fields.insert("offset".into(), range.offset.into());
-    fields.insert("length".into(), range.length.into());
-    Value::Object(fields)
 }
 
 fn tallied(mut fields: Value, tally: Tally) -> Value {
@@ -230,16 +261,20 @@ fn kind_word(kind: Kind) -> &'static str {
     }
 }
 
-fn at_line(line: u64) -> String {
-    if line == 0 {
+fn at(noun: &str, number: u64) -> String {
+    if number == 0 {
         return String::new();
     }
-    format!("line {line}: ")
+    format!("{noun} {number}: ")
 }
 
-/// A job: its line, what, and which range.
+fn numbered_text(noun: &str, job: JobLine) -> String {
+    format!("{}{} {}", at(noun, job.line), job.verb.word(), job.range)
+}
+
+/// A job as it was typed: its line, what, and which range.
 pub fn job_text(job: JobLine) -> String {
-    format!("{}{} {}", at_line(job.line), job.verb.word(), job.range)
+    numbered_text(LINE, job)
 }
 
 /// What an answer that is not 0 means.
@@ -252,7 +287,8 @@ pub fn answer_text(answer: Answer) -> String {
     }
 }
 
-fn plural(count: u64) -> &'static str {
+/// What a word has at its end where there are so many.
+pub fn plural(count: u64) -> &'static str {
     if count == 1 {
         return "";
     }
@@ -301,12 +337,12 @@ fn runs(numbers: &[u64]) -> Vec<[u64; 2]> {
     runs
 }
 
-fn runs_text(numbers: &[u64]) -> String {
+fn runs_text(noun: &str, numbers: &[u64]) -> String {
     let texts: Vec<String> = runs(numbers)
         .into_iter()
         .map(|[first, last]| if first == last { first.to_string() } else { format!("{first}-{last}") })
         .collect();
-    format!("line{} {}", plural(numbers.len() as u64), texts.join(", "))
+    format!("{noun}{} {}", plural(numbers.len() as u64), texts.join(", "))
 }
 
 #[cfg(test)]
@@ -323,8 +359,9 @@ mod tests {
 
     #[test]
     fn lines_are_told_in_runs() {
-        assert_eq!(runs_text(&[3]), "line 3");
-        assert_eq!(runs_text(&[1, 2, 3, 7, 9, 10]), "lines 1-3, 7, 9-10");
+        assert_eq!(runs_text(LINE, &[3]), "line 3");
+        assert_eq!(runs_text(LINE, &[1, 2, 3, 7, 9, 10]), "lines 1-3, 7, 9-10");
+        assert_eq!(runs_text(RANGE, &[1, 2]), "ranges 1-2");
     }
 
     #[test]

@@ -1,4 +1,4 @@
-//! Scripts: one job to a line, looked over whole before any is begun.
+//! Scripts and sheets: one job to a line, looked over whole before any is begun. A sheet has writes alone.
 
 use crate::numbers::{self, Flaw, Range};
 use crate::trouble::{refused, Outcome};
@@ -46,13 +46,45 @@ impl Verb {
 /// A line that says something.
 #[derive(Clone, Debug, PartialEq, Eq)]
 pub enum Entry {
-    /// A job, with where the hex digits of a write lie in the script.
-    Job { verb: Verb, range: Range, line: u64, digits: usize },
+    /// A job, with its line, and where the bytes of a write start in what they come from: of a script its hex digits.
+    Job { verb: Verb, range: Range, line: u64, start: usize },
     /// Nothing after it begins before all before it are done.
     Barrier,
 }
 
-/// A job as it was asked for: its line in the script, 0 where it has none, what, and which range.
+/// What the lines of a text may ask for.
+#[derive(Clone, Copy, Debug, PartialEq, Eq)]
+pub enum Form {
+    /// Any job, and barriers.
+    Script,
+    /// Writes.
+    Sheet,
+}
+
+impl Form {
+    /// What the text is called where it was typed.
+    pub fn name(self) -> &'static str {
+        match self {
+            Form::Script => "SCRIPT",
+            Form::Sheet => "SHEET",
+        }
+    }
+
+    fn takes(self, verb: Verb) -> bool {
+        self == Form::Script || verb == Verb::Write
+    }
+
+    /// What is said of another word than those that it takes.
+    fn unknown(self) -> &'static str {
+        match self {
+            Form::Script => "no job has this name (read, write, zero, alloc, discard, barrier)",
+            Form::Sheet => "a sheet has writes alone (write OFFSET HEXBYTES)",
+        }
+    }
+}
+
+/// A job as it was asked for: its line in the script, 0 where it has none, what, and which range. The ranges that a
+/// sheet is joined to have their numbers, from 1 on, in the place of lines.
 #[derive(Clone, Copy, Debug, PartialEq, Eq)]
 pub struct JobLine {
     pub line: u64,
@@ -79,17 +111,23 @@ pub struct Script {
 }
 
 impl Script {
-    /// Looks over a script; the first flaw in it is the refusal.
-    pub fn parse(text: Vec<u8>) -> Outcome<Script> {
+    /// Looks over a text; the first flaw in it is the refusal.
+    pub fn parse(form: Form, text: Vec<u8>) -> Outcome<Script> {
         let mut entries = Vec::new();
         let mut start = 0;
         for (i, line) in text.split(|&b| b == b'\n').enumerate() {
-            if let Some(entry) = parse_line(line, start, i as u64 + 1)? {
+            if let Some(entry) = parse_line(form, line, start, i as u64 + 1)? {
                 entries.push(entry);
             }
             start += line.len() + 1;
         }
         Ok(Script { text, entries })
+    }
+
+    /// A line that says something is refused, by its first word.
+    pub fn refuse_line<T>(&self, number: u64, what: &str) -> Outcome<T> {
+        let line = self.text.split(|&b| b == b'\n').nth(number as usize - 1).unwrap_or_default();
+        wrong(number, words(line).next().unwrap_or_default(), what)
     }
 
     /// Puts the bytes `from`.. of a write whose digits start at `digits` into `bytes`.
@@ -113,7 +151,7 @@ fn words(line: &[u8]) -> impl Iterator<Item = Word<'_>> {
 }
 
 /// What a line says, which starts at `start` of the script; None where it is empty or a comment.
-fn parse_line(line: &[u8], start: usize, number: u64) -> Outcome<Option<Entry>> {
+fn parse_line(form: Form, line: &[u8], start: usize, number: u64) -> Outcome<Option<Entry>> {
     let mut words = words(line);
     let verb = match words.next() {
         None => return Ok(None),
@@ -121,14 +159,14 @@ fn parse_line(line: &[u8], start: usize, number: u64) -> Outcome<Option<Entry>> 
         Some(word) => word,
     };
     let operands = [words.next(), words.next()];
-    if verb.1 == b"barrier" {
+    if verb.1 == b"barrier" && form == Form::Script {
         return match operands[0] {
             None => Ok(Some(Entry::Barrier)),
             Some(word) => wrong(number, word, "a word too many: a barrier stands alone"),
         };
     }
-    let Some(job) = Verb::of(verb.1) else {
-        return wrong(number, verb, "no job has this name (read, write, zero, alloc, discard, barrier)");
+    let Some(job) = Verb::of(verb.1).filter(|verb| form.takes(*verb)) else {
+        return wrong(number, verb, form.unknown());
     };
     let takes = || format!("{} takes OFFSET and {}", job.word(), last_name(job));
     if let Some(word) = words.next() {
@@ -138,7 +176,7 @@ fn parse_line(line: &[u8], start: usize, number: u64) -> Outcome<Option<Entry>> 
         return wrong(number, verb, &format!("a word is missing: {}", takes()));
     };
     let range = parse_range(job, offset, last, number)?;
-    Ok(Some(Entry::Job { verb: job, range, line: number, digits: start + last.0 }))
+    Ok(Some(Entry::Job { verb: job, range, line: number, start: start + last.0 }))
 }
 
 /// What the last word of a job is called.
@@ -183,13 +221,13 @@ mod tests {
     use super::*;
 
     fn refusal(text: &str) -> String {
-        Script::parse(text.into()).unwrap_err().to_string()
+        Script::parse(Form::Script, text.into()).unwrap_err().to_string()
     }
 
     #[test]
     fn each_job_and_a_barrier() {
         let text = "# blades\n\nread 0 1K\r\n  write 0x10 aaBB \nbarrier\nzero 1 2\nalloc 3 4\n\tdiscard 5 6";
-        let script = Script::parse(text.into()).unwrap();
+        let script = Script::parse(Form::Script, text.into()).unwrap();
         let jobs: Vec<_> = script
             .entries
             .iter()
@@ -211,10 +249,10 @@ mod tests {
 
     #[test]
     fn a_write_has_the_bytes_of_its_digits() {
-        let script = Script::parse(b"read 0 1\nwrite 5 00112233\n".to_vec()).unwrap();
-        let Entry::Job { digits, .. } = script.entries[1] else { panic!("no job") };
+        let script = Script::parse(Form::Script, b"read 0 1\nwrite 5 00112233\n".to_vec()).unwrap();
+        let Entry::Job { start, .. } = script.entries[1] else { panic!("no job") };
         let mut bytes = [9; 2];
-        script.put_bytes(digits, 1, &mut bytes);
+        script.put_bytes(start, 1, &mut bytes);
         assert_eq!(bytes, [0x11, 0x22]);
     }
 
@@ -235,6 +273,26 @@ mod tests {
             assert_eq!(refusal(text), format!("refused: line {wanted}"));
         }
         assert!(refusal("read 1x 1").starts_with("refused: line 1, byte 7: OFFSET '1x': no number"));
+    }
+
+    #[test]
+    fn a_sheet_has_writes_alone() {
+        let sheet = |text: &str| Script::parse(Form::Sheet, text.into());
+        assert_eq!(sheet("# fields\r\n\r\n write 0x10 aaBB \r\nwrite 5 00").unwrap().entries.len(), 2);
+        for (text, wanted) in [
+            ("write 0 aa\n read 0 1", "2, byte 2: 'read': a sheet has writes alone (write OFFSET HEXBYTES)"),
+            ("barrier", "1, byte 1: 'barrier': a sheet has writes alone (write OFFSET HEXBYTES)"),
+            ("write 0\nread 0 1", "1, byte 1: 'write': a word is missing: write takes OFFSET and HEXBYTES"),
+        ] {
+            assert_eq!(sheet(text).unwrap_err().to_string(), format!("refused: line {wanted}"));
+        }
+    }
+
+    #[test]
+    fn a_line_is_refused_by_its_first_word() {
+        let script = Script::parse(Form::Sheet, b"\n \twrite 5 00\n".to_vec()).unwrap();
+        let said = script.refuse_line::<()>(2, "no").unwrap_err().to_string();
+        assert_eq!(said, "refused: line 2, byte 3: 'write': no");
     }
 
     #[test]

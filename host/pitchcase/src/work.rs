@@ -2,7 +2,7 @@
 
 use crate::numbers::Range;
 use crate::progress::Progress;
-use crate::report::{answer_text, job_text, Lines, Report};
+use crate::report::{answer_text, Lines, Report};
 use crate::script::{Entry, JobLine, Script, Verb};
 use crate::system;
 use crate::trouble::{reason, refusal_text};
@@ -25,20 +25,20 @@ pub enum Bytes {
     None,
     /// The hex digits of a script.
     Script(Script),
-    /// The bytes themselves.
+    /// The bytes themselves: of one write, or of several one after the other.
     Memory(Vec<u8>),
     /// A file, from an offset on.
     File(File, u64),
 }
 
 impl Bytes {
-    /// Puts bytes `from`.. of a write into `bytes`.
-    fn put(&self, digits: usize, from: u64, bytes: &mut [u8]) -> io::Result<()> {
+    /// Puts bytes `from`.. of a write, which starts at `start`, into `bytes`.
+    fn put(&self, start: usize, from: u64, bytes: &mut [u8]) -> io::Result<()> {
         match self {
             Bytes::None => {}
-            Bytes::Script(script) => script.put_bytes(digits, from, bytes),
-            Bytes::Memory(all) => bytes.copy_from_slice(&all[from as usize..][..bytes.len()]),
-            Bytes::File(file, start) => file.read_exact_at(bytes, start + from)?,
+            Bytes::Script(script) => script.put_bytes(start, from, bytes),
+            Bytes::Memory(all) => bytes.copy_from_slice(&all[start + from as usize..][..bytes.len()]),
+            Bytes::File(file, first) => file.read_exact_at(bytes, first + from)?,
         }
         Ok(())
     }
@@ -57,7 +57,7 @@ pub enum Print {
     Nothing,
 }
 
-/// What was asked for at once and is neither done nor given up: a line of a script, or a command.
+/// What was asked for at once and is neither done nor given up: a line of a script, a range of a sheet, or a command.
 struct Open {
     entry: usize,
     /// How many of its jobs are in flight, and whether all were handed out.
@@ -120,9 +120,9 @@ pub struct End {
     pub failure: Option<String>,
     /// Whether every entry is done.
     pub is_whole: bool,
-    /// How many jobs of the script have ended.
+    /// How many entries have ended.
     pub ended: u64,
-    /// Which lines came to what.
+    /// Which of them came to what.
     pub lines: Lines,
 }
 
@@ -175,7 +175,7 @@ impl<'a> Work<'a> {
     }
 
     /// Hands out the next part of a job.
-    fn hand_out(&mut self, job: JobLine, digits: usize) -> Next {
+    fn hand_out(&mut self, job: JobLine, start: usize) -> Next {
         let unit = if matches!(job.verb, Verb::Read | Verb::Write) { self.longest } else { LONGEST_ZERO };
         if job.verb == Verb::Read && self.is_ordered() && self.from >= self.printed + AHEAD * self.longest {
             return Next::Later;
@@ -183,7 +183,7 @@ impl<'a> Work<'a> {
         let part = part(job.range, self.from, unit);
         if job.verb == Verb::Write && matches!(self.bytes, Bytes::File(..)) {
             self.ready.resize(part.length as usize, 0);
-            if let Err(error) = self.bytes.put(digits, self.from, &mut self.ready) {
+            if let Err(error) = self.bytes.put(start, self.from, &mut self.ready) {
                 let why = match error.kind() {
                     io::ErrorKind::UnexpectedEof => "the file has become shorter".into(),
                     _ => reason(&error),
@@ -272,7 +272,7 @@ impl<'a> Work<'a> {
             Some((number, why)) => {
                 self.states[open.entry] = State::Failed;
                 self.progress.aside(|| report.ended(job, Err(&why), number, open.tally, true));
-                self.failure.get_or_insert_with(|| format!("{}: {why}", job_text(job)));
+                self.failure.get_or_insert_with(|| format!("{}: {why}", self.report.job_text(job)));
             }
         }
     }
@@ -344,7 +344,7 @@ impl Source for Work<'_> {
                 self.at += 1;
                 Next::Barrier
             }
-            Some(&Entry::Job { verb, range, line, digits }) => self.hand_out(JobLine { line, verb, range }, digits),
+            Some(&Entry::Job { verb, range, line, start }) => self.hand_out(JobLine { line, verb, range }, start),
         }
     }
 
@@ -353,9 +353,9 @@ impl Source for Work<'_> {
             return bytes.copy_from_slice(&self.ready);
         }
         let Some(seat) = self.seats.iter().find(|seat| seat.number == number) else { return };
-        let Entry::Job { digits, .. } = self.entries[seat.entry] else { return };
+        let Entry::Job { start, .. } = self.entries[seat.entry] else { return };
         // Bytes that are in memory are there: only those of a file may fail, and these were put before.
-        let _ = self.bytes.put(digits, seat.from, bytes);
+        let _ = self.bytes.put(start, seat.from, bytes);
     }
 
     fn ended(&mut self, ended: &Ended, bytes: &[u8]) {
@@ -398,6 +398,7 @@ impl Source for Work<'_> {
 #[cfg(test)]
 mod tests {
     use super::*;
+    use crate::script::Form;
 
     #[test]
     fn parts_end_at_multiples_and_cover_the_range() {
@@ -424,7 +425,9 @@ mod tests {
         let mut bytes = [0; 2];
         Bytes::Memory(vec![1, 2, 3, 4]).put(0, 1, &mut bytes).unwrap();
         assert_eq!(bytes, [2, 3]);
-        let script = Script::parse(b"write 0 0a0b0c0d".to_vec()).unwrap();
+        Bytes::Memory(vec![1, 2, 3, 4]).put(1, 1, &mut bytes).unwrap();
+        assert_eq!(bytes, [3, 4]);
+        let script = Script::parse(Form::Script, b"write 0 0a0b0c0d".to_vec()).unwrap();
         Bytes::Script(script).put(8, 2, &mut bytes).unwrap();
         assert_eq!(bytes, [0x0c, 0x0d]);
         let path = std::env::temp_dir().join(format!("pitchcase-work-{}", std::process::id()));
