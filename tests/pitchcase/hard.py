@@ -69,6 +69,8 @@ CHANGES = {
     "discard": ("discard", "image", 512, 512),
     "fleet": ("fleet", "image", "script"),
     "bad fleet": ("fleet", "image", "bad"),
+    "sheet": ("sheet", "image", "sheet"),
+    "bad sheet": ("sheet", "image", "bad"),
     "look": ("look", "image", 0, 100),
     "info": ("info", "image"),
 }
@@ -76,7 +78,7 @@ CHANGES = {
 
 def edited(name):
     """What the image may be afterwards."""
-    if name in ("edit", "fleet"):
+    if name in ("edit", "fleet", "sheet"):
         return [IMAGE[:600] + b"\xff\xff" + IMAGE[602:]]
     if name == "zero":
         return [IMAGE[:600] + bytes(2) + IMAGE[602:]]
@@ -89,13 +91,14 @@ def closed_descriptors():
     """Each combination of 0, 1 and 2 closed: the image never gets one of their numbers."""
     write("script", b"write 600 ffff\nread 0 64\n")
     write("bad", b"write 600 ffff\nwipe 0 1\n")
+    write("sheet", b"write 601 ff\nwrite 600 ff\n")
     for closed in itertools.chain.from_iterable(itertools.combinations((0, 1, 2), n) for n in range(4)):
         for name, words in CHANGES.items():
             write("image", IMAGE)
-            status = 1 if 1 in closed else 2 if name == "bad fleet" else 0
+            status = 1 if 1 in closed else 2 if name.startswith("bad") else 0
             pitchcase(*words, status=status, preexec_fn=lambda: [os.close(d) for d in closed])
             check(read("image") in ([IMAGE] if status else edited(name)), name, "with", closed, "closed left other bytes")
-    for words in (("fleet", "image", "-"), ("edit", "image", 0, "--from", "-")):
+    for words in (("fleet", "image", "-"), ("sheet", "image", "-"), ("edit", "image", 0, "--from", "-")):
         write("image", IMAGE)
         ran = pitchcase(*words, status=2, preexec_fn=lambda: os.close(0))
         check(b"standard input is closed" in ran.stderr and read("image") == IMAGE, words, ran.stderr)
@@ -104,7 +107,7 @@ def closed_descriptors():
 def full_output():
     """A standard output that takes nothing ends a run before it touches anything."""
     for name, words in CHANGES.items():
-        if name == "bad fleet":
+        if name.startswith("bad"):
             continue
         write("image", IMAGE)
         with open("/dev/full", "wb") as full:
@@ -198,6 +201,10 @@ def locks():
     ran = pitchcase("edit", "image", 0, "--hex", "aa", status=2)
     check(b"another process has it open under a lock" in ran.stderr, ran.stderr)
     pitchcase("edit", "image", 0, "--hex", "aa", "--plan")
+    ran = pitchcase("sheet", "image", "-", text=b"write 0 aa\n", status=2)
+    check(b"another process has it open under a lock" in ran.stderr, ran.stderr)
+    pitchcase("sheet", "image", "-", "--plan", text=b"write 0 aa\n")
+    pitchcase("sheet", "image", "-", text=b"# nothing to change\n")
     end(reader)
     changer = started("edit", "image", 1, "--hex", "bb", faults=slow)
     wait_until(lambda: lock_of("image") == "held to change", "no lock to change")
@@ -206,6 +213,12 @@ def locks():
     pitchcase("edit", "image", 0, "--hex", "aa", status=2)
     ran = pitchcase("look", "image", 0, 1, "--no-lock")
     check(b"either's edits may be lost" in ran.stderr, ran.stderr)
+    end(changer)
+    write("sheet", b"write 1 bb\nwrite 100 cc\n")
+    changer = started("sheet", "image", "sheet", faults=slow)
+    wait_until(lambda: lock_of("image") == "held to change", "no lock to change")
+    ran = pitchcase("sheet", "image", "-", text=b"write 0 aa\n", status=2)
+    check(b"another process has it open under a lock" in ran.stderr and ran.stderr.count(b"\n") == 1, ran.stderr)
     end(changer)
     check(lock_of("image") == "free" and read("image") == bytes(512), "a lock is left, or a byte has changed")
 
@@ -252,6 +265,9 @@ def direct_files():
         plain[at:at + len(new)] = new
         check(read("image") == plain, "a direct edit", n, "at", at, options)
         check(pitchcase("look", "image", at, len(new), "--raw", "--direct", *options).stdout == new, "a direct look", n)
+    for options in ((), ("--drive", 3), ("--out", 1)):
+        save_sheet(rng, "image", plain, "--direct", *options)
+        check(read("image") == plain, "a direct sheet", options)
     for words in (("--drive", 0), ("--align", "1,512,512,512")):
         ran = pitchcase("edit", "image", 0, "--hex", "aa", "--direct", *words, status=2 if align[0] > 1 else (0, 2))
         check(ran.returncode == 0 or b"--direct: needs alignments" in ran.stderr, ran.stderr)
@@ -270,7 +286,8 @@ def odd_words():
         check(ran.returncode == 0, words, ran.stderr)
     check(read(name) == b"\xff\x80x" + IMAGE[3:], "a text that is no UTF-8")
     for words in ((b"look", b"no\nsuch\xff", b"0", b"1"), (b"look", name, b"0\n1", b"1"), (b"lo\nok",), (b"look", name, b"0", b"1", b"--a\nb"),
-                  (b"look", name, b"0", b"1", b"\xff\n"), (b"fleet", name, b"no\nsuch"), (b"edit", name, b"0", b"--from", b"no\nsuch")):
+                  (b"look", name, b"0", b"1", b"\xff\n"), (b"fleet", name, b"no\nsuch"), (b"sheet", name, b"no\nsuch"),
+                  (b"edit", name, b"0", b"--from", b"no\nsuch")):
         ran = subprocess.run([PROGRAM, *words], stdout=subprocess.PIPE, stderr=subprocess.PIPE)
         check(ran.returncode == 2 and ran.stderr.count(b"\n") == 1 and ran.stderr.endswith(b"\n"), words, ran.stderr)
     os.unlink(name)
@@ -326,10 +343,10 @@ def killed():
     return "%d of 12 in the middle" % middle
 
 
-def lines_of(text, what):
-    """The line numbers of `what: lines 1-3, 5`."""
+def lines_of(text, what, noun="line"):
+    """The numbers of `what: lines 1-3, 5`."""
     for line in text.decode().splitlines():
-        if line.startswith(what + ": line"):
+        if line.startswith("%s: %s" % (what, noun)):
             numbers = set()
             for run in line.split(" ", len(what.split()) + 1)[-1].split(", "):
                 first, _, last = run.partition("-")
@@ -634,6 +651,299 @@ def random_fleets():
         wrong = [i for i in range(end) if left[i] != plain[i] and i not in unknown]
         check(not wrong, "run", n, "left other bytes at", wrong[:5], words)
     return "120 fleets"
+
+
+# --- Sheets ---
+
+
+class Refused(Exception):
+    """A sheet is refused."""
+
+
+def joined(writes):
+    """The request's sentences, byte by byte, read once more and by themselves: the ranges, as offset, bytes and lines.
+
+    A write is line, offset and bytes."""
+    if len(writes) > 64 or any(not new or at + len(new) > 2 ** 64 - 1 for _, at, new in writes):
+        raise Refused
+    content, lines = {}, {}
+    for line, at, new in writes:
+        for i, byte in enumerate(new):
+            content[at + i] = byte
+            lines.setdefault(at + i, set()).add(line)
+    ranges = []
+    for at in sorted(content):
+        if not ranges or ranges[-1][0] + len(ranges[-1][1]) != at:
+            ranges.append((at, bytearray(), set()))
+        ranges[-1][1].append(content[at])
+        ranges[-1][2].update(lines[at])
+    return ranges
+
+
+def typed(rng, writes, end):
+    """The text of writes, with lines that say nothing between them; and the writes with the lines that they got."""
+    text, placed = [], []
+    for at, new in writes:
+        while rng.random() < 0.2:
+            text.append(rng.choice(("", "# a comment: write 0 00", " \t")))
+        digits = rng.choice((new.hex(), new.hex().upper()))
+        text.append(rng.choice(("write %s %s", "  write  %s\t%s ")) % (rng.choice((str(at), hex(at))), digits))
+        placed.append((len(text), at, new))
+    return end.join(text) + rng.choice(("", end)), placed
+
+
+def runs_of(numbers):
+    """Numbers that follow each other, as first and last."""
+    runs = []
+    for number in sorted(numbers):
+        if runs and runs[-1][1] + 1 == number:
+            runs[-1][1] = number
+        else:
+            runs.append([number, number])
+    return runs
+
+
+def drawn_writes(rng, size):
+    """Offsets and bytes of writes, most of which overlap or touch others."""
+    writes, at = [], 0
+    longest = rng.choice((3, 20, 300, 5000))
+    for _ in range(rng.choice((0, 1, 2, 10, 40, 64, 64))):
+        length = min(1 + rng.randrange(longest), size)
+        if length == 0:
+            break
+        near = rng.choice((at, at + 1, at - length, at - length // 2, rng.randrange(size - length + 1)))
+        start = max(0, min(near, size - length))
+        writes.append((start, random_bytes(rng, length)))
+        at = start + length
+    return writes
+
+
+def save_sheet(rng, image, plain, *options):
+    """Writes a random sheet on an image and on its plain bytes."""
+    writes = drawn_writes(rng, len(plain))
+    write_script("sheet", writes)
+    pitchcase("sheet", image, "sheet", *options)
+    for at, new in writes:
+        plain[at:at + len(new)] = new
+
+
+def events_of(ran):
+    return [json.loads(line) for line in ran.stdout.splitlines()]
+
+
+def sheet_is(rng, n, plain, most, options):
+    """Writes a random sheet on the image, which has the bytes of `plain`, and compares ranges, requests and bytes."""
+    text, writes = typed(rng, drawn_writes(rng, most), rng.choice(("\n", "\r\n")))
+    wanted = joined(writes)
+    write("sheet", text.encode())
+    given = {"text": text.encode()} if rng.random() < 0.3 else {}
+    plan = events_of(pitchcase("sheet", "image", "sheet", "--plan", "--json", *options))
+    alone = events_of(pitchcase("fleet", "image", "sheet", "--plan", "--json", *options))[-1]["requests"]
+    check(read("image") == plain, "run", n, "a plan changed the image")
+    events = events_of(pitchcase("sheet", "image", "-" if given else "sheet", "--json", "--trace", *options, **given))
+    told = [{"event": "range", "range": i, "verb": "write", "offset": at, "length": len(new), "lines": runs_of(lines)}
+            for i, (at, new, lines) in enumerate(wanted, 1)]
+    for said in (events, plan):
+        ranges = [e for e in said if e["event"] == "range"]
+        check(ranges == told, "run", n, ranges, "instead of", told)
+    start, last = events[0], events[-1]
+    total = sum(len(new) for _, new, _ in wanted)
+    check((start["lines"], start["jobs"], start["bytes"]) == (len(writes), len(wanted), total), "run", n, start)
+    check(last["status"] == 0 and last["jobs"] == len(wanted) and last["requests"] <= alone, "run", n, last, alone)
+    made = sum(e["event"] == "request" for e in events)
+    check(last["requests"] == made == plan[-1]["requests"], "run", n, last, made, plan[-1])
+    for _, at, new in writes:
+        plain.extend(bytes(max(0, at + len(new) - len(plain))))
+        plain[at:at + len(new)] = new
+    check(read("image") == plain, "run", n, "left other bytes", options)
+    return alone, last["requests"]
+
+
+def random_sheets():
+    """Random sheets on images of any length, beside plain bytes that get the lines one after the other."""
+    rng = random.Random(14)
+    requests = [0, 0]
+    for n in range(150):
+        size = rng.choice((0, 1, 511, 513, 2048, 10000, 65537, rng.randrange(200000)))
+        plain = bytearray(random_bytes(rng, size))
+        write("image", bytes(plain))
+        row = rng.randrange(6)
+        grow = rng.random() < 0.3
+        options = ["--drive", row, "--share", drawn_share(rng, row), *(["--grow"] if grow else [])]
+        options += rng.choice(([], ["--out", 8], ["--order", "round"], ["--order", n]))
+        took = sheet_is(rng, n, plain, size + rng.randrange(5000) if grow else size, options)
+        requests = [sum(pair) for pair in zip(requests, took)]
+    check(requests[1] * 2 < requests[0], "requests with and without joining:", requests)
+    return "%d requests joined, %d without" % (requests[1], requests[0])
+
+
+def sheets_of_65():
+    """63, 64 and 65 lines, apart, touching and at one place; a bad line at any place of 64."""
+    rng = random.Random(65)
+    before = random_bytes(rng, 4096)
+    for lines, step in itertools.product((63, 64, 65, 66, 200), (2, 1, 0)):
+        write("image", before)
+        writes = [(i + 1, 100 + step * i, random_bytes(rng, 1)) for i in range(lines)]
+        text = b"".join(b"write %d %s\n" % (at, new.hex().encode()) for _, at, new in writes)
+        ran = pitchcase("sheet", "image", "-", text=text, status=0 if lines <= 64 else 2)
+        plain = bytearray(before)
+        if lines <= 64:
+            for _, at, new in writes:
+                plain[at:at + 1] = new
+            first = b"sheet image: %d lines, %d range" % (lines, len(joined(writes)))
+            check(ran.stdout.startswith(first), lines, step, ran.stdout)
+        else:
+            said = b"pitchcase: refused: line 65, byte 1: 'write': is write 65, and a sheet has at most 64 (220)\n"
+            check(ran.stderr == said and ran.stdout == b"", lines, step, ran.stderr)
+        check(read("image") == plain, lines, "lines", step, "apart left other bytes")
+    unfit = ((b"write 18446744073709551615 00", b"line %d: "), (b"write 5 ", b"line %d, byte 1: "),
+             (b"wipe", b"line %d, byte 1: "))
+    for place, (bad, why) in itertools.product((1, 2, 33, 64), unfit):
+        text = b"".join(b"%s\n" % (bad if i == place else b"write %d 00" % i) for i in range(1, 65))
+        ran = pitchcase("sheet", "image", "-", text=text, status=2)
+        check(ran.stderr.startswith(b"pitchcase: refused: " + why % place), place, bad, ran.stderr)
+        check(ran.stderr.count(b"\n") == 1 and ran.stdout == b"", place, bad, ran.stderr, ran.stdout)
+    check(read("image") == plain, "a sheet that is refused changed the image")
+
+
+def spread(n=64, step=512):
+    """A sheet of n fields of two lines each that touch, with gaps of a block between the fields."""
+    return [(step * i + at, bytes([1 + i])) for at in (7, 8) for i in range(n // 2)]
+
+
+def sheets_that_fail():
+    """After a failure no range is begun any more; those out are finished, and the ranges are listed."""
+    before = bytes(65536)
+    write_script("sheet", spread())
+    for out, which in itertools.product((1, 8), (1, 10, 32)):
+        write("image", before)
+        words = ("sheet", "image", "sheet", "--drive", 1, "--out", out)
+        ran = pitchcase(*words, status=1, faults={"FAULT_WRITE": "%d,28" % which})
+        done, failed, unbegun = (lines_of(ran.stdout, w, "range") for w in ("done", "failed", "not begun"))
+        check(len(failed) == 1 and done | failed | unbegun == set(range(1, 33)), out, which, ran.stdout)
+        check(which == 32 or unbegun, "a sheet that failed went on", ran.stdout)
+        at = 512 * (min(failed) - 1) + 7
+        said = b"range %d: write %d+2 (0x%x): " % (min(failed), at, at)
+        check(ran.stderr == b"pitchcase: failed: " + said + b"no space left on device (28)\n", ran.stderr)
+        check(said + b"failed: no space left on device (28): " in ran.stdout, ran.stdout)
+        left = read("image")
+        check({i + 1 for i in range(32) if left[512 * i + 7]} == done, "a sheet that fails left other bytes")
+        old_or_new(before, left, spread())
+    write("image", before)
+    ran = pitchcase("sheet", "image", "sheet", "--json", status=1, faults={"FAULT_READ": "1,5"})
+    events = {e["event"]: e for e in events_of(ran)}
+    check(events["ranges"]["failed"] == [[1, 1]] and events["end"]["status"] == 1, events)
+    left = read("image")
+    check(runs_of(i + 1 for i in range(32) if left[512 * i + 7]) == events["ranges"]["done"], "another range is done")
+    ran = pitchcase("sheet", "image", "sheet", status=1, faults={"FAULT_FSYNC": "1,5"})
+    check(ran.stderr == b"pitchcase: failed: fsync: input/output error (5)\n", ran.stderr)
+
+
+def sheets_interrupted():
+    """On a signal nothing new is begun, what is out is finished, and the ranges done and not done are listed."""
+    before = bytes(65536)
+    write_script("sheet", spread())
+    for sign, out in itertools.product(SIGNALS, (1, 8)):
+        write("image", before)
+        process = started("sheet", "image", "sheet", "--drive", 1, "--out", out, faults={"FAULT_DELAY_US": "20000"},
+                          stdout=subprocess.PIPE, stderr=subprocess.PIPE)
+        wait_until(lambda: read("image") != before, "nothing was written")
+        process.send_signal(sign)
+        said, messages = process.communicate(timeout=30)
+        done, unbegun = lines_of(said, "done", "range"), lines_of(said, "not begun", "range")
+        check(process.returncode == 130 and done and unbegun, process.returncode, said)
+        check(not done & unbegun and len(done | unbegun) == 32, said)
+        what = b"%d range%s done, 0 partly, %d not begun\n" % (len(done), b"" if len(done) == 1 else b"s", len(unbegun))
+        check(messages == b"pitchcase: interrupted: " + what, messages)
+        left = read("image")
+        there = {i for i in range(1, 33) if left[512 * i - 505:512 * i - 503] == bytes([i, i])}
+        check(there == done, "there are", there, "and done are", done)
+        old_or_new(before, left, [edit for i, edit in enumerate(spread()) if i % 32 + 1 in done])
+    process = started("sheet", "image", "-", stdin=subprocess.PIPE, stderr=subprocess.PIPE)
+    process.stdin.write(b"write 0 ff\n")
+    process.stdin.flush()
+    wait_until(lambda: is_waiting(process), "it does not wait")
+    process.send_signal(signal.SIGINT)
+    said = process.stderr.read()
+    check(process.wait() == 130 and b"nothing was begun" in said, "SIGINT while a sheet is typed:", said)
+    check(read("image") == left, "SIGINT while a sheet is typed changed the image")
+    process.stdin.close()
+
+
+def long_sheets():
+    """A range longer than the share is made in several jobs; also where transfers are short, and where one fails."""
+    rng = random.Random(7)
+    before = random_bytes(rng, 3 << 20)
+    writes = [(999 + 40000 * i, random_bytes(rng, 50000)) for i in range(64)]
+    write_script("sheet", writes)
+    plain = bytearray(before)
+    for at, new in writes:
+        plain[at:at + len(new)] = new
+    length = 40000 * 63 + 50000
+    for options, faults in (((), None), (("--share", "4K", "--out", 8), None), (("--drive", 3, "--order", 5), None),
+                            ((), {"FAULT_SHORT": "1", "FAULT_EINTR": "1"}), (("--out", 8), {"FAULT_SHORT": "1"})):
+        if faults and not FAULTS:
+            continue
+        write("image", before)
+        ran = pitchcase("sheet", "image", "sheet", *options, faults=faults)
+        check(b"sheet image: 64 lines, 1 range, %d bytes\n" % length in ran.stdout, ran.stdout)
+        check(b"\n1 range ended: " in ran.stdout, ran.stdout)
+        check(read("image") == plain, "a long sheet with", options, faults, "left other bytes")
+
+
+def long_sheets_that_stop():
+    """Of a long range that failed each byte is old or new; one that was interrupted is partly done."""
+    rng = random.Random(8)
+    before = random_bytes(rng, 3 << 20)
+    new = random_bytes(rng, 2 << 20)
+    write_script("sheet", [(999, new[:1 << 20]), (999 + (1 << 20), new[1 << 20:])])
+    for out in (1, 8):
+        write("image", before)
+        ran = pitchcase("sheet", "image", "sheet", "--out", out, status=1, faults={"FAULT_WRITE": "3,5"})
+        said = b"pitchcase: failed: range 1: write 999+2097152 (0x3e7): input/output error (5)\n"
+        check(ran.stderr == said and b"\nfailed: range 1\n" in ran.stdout, ran.stderr, ran.stdout)
+        left = read("image")
+        old_or_new(before, left, [(999, new)])
+        check(left[999:999 + len(new)] != new, "a long sheet went on after a failure")
+    write("image", before)
+    process = started("sheet", "image", "sheet", "--share", "4K", faults={"FAULT_DELAY_US": "3000"},
+                      stdout=subprocess.PIPE, stderr=subprocess.PIPE)
+    wait_until(lambda: read("image") != before, "nothing was written")
+    process.send_signal(signal.SIGINT)
+    said, messages = process.communicate(timeout=30)
+    check(process.returncode == 130 and b"\npartly done: range 1: " in said, process.returncode, said)
+    check(messages == b"pitchcase: interrupted: 0 ranges done, 1 partly, 0 not begun\n", messages)
+    old_or_new(before, read("image"), [(999, new)])
+
+
+def sheets_from_pipes():
+    """A sheet that comes through a pipe, a byte at a time; one that is the image itself is no sheet."""
+    write("image", IMAGE)
+    os.mkfifo("sheet.pipe")
+    process = subprocess.Popen([PROGRAM, "sheet", "image", "sheet.pipe"], stdout=subprocess.PIPE)
+    with open("sheet.pipe", "wb", buffering=0) as pipe:
+        for byte in b"# two\r\nwrite 601 ff\r\n\r\nwrite 600 ff\r\n":
+            pipe.write(bytes([byte]))
+    said = process.communicate()[0]
+    os.unlink("sheet.pipe")
+    check(process.returncode == 0 and b"range 1: write 600+2 (0x258): lines 2, 4\n" in said, said)
+    check(read("image") == edited("sheet")[0], "a sheet through a pipe left other bytes")
+    ran = pitchcase("sheet", "image", "image", status=2)
+    check(ran.stderr.count(b"\n") == 1 and read("image") == edited("sheet")[0], ran.stderr)
+
+
+def sheet_reader_that_ends():
+    """A reader who goes away while a sheet is written is missed at its end: all is done, and the status is 1."""
+    write("image", bytes(65536))
+    write_script("sheet", spread())
+    process = started("sheet", "image", "sheet", "--drive", 1, faults={"FAULT_DELAY_US": "2000"},
+                      stdout=subprocess.PIPE, stderr=subprocess.PIPE, bufsize=0)
+    check(process.stdout.read(6) == b"sheet ", "the first line is not written at once")
+    process.stdout.close()
+    said = process.stderr.read()
+    check(process.wait() == 1 and b"broken pipe (32); all jobs were done\n" in said, process.returncode, said)
+    left = read("image")
+    check(all(left[at:at + 1] == new for at, new in spread()) and sum(map(bool, left)) == 64, "it left other bytes")
 
 
 # --- Drive tables ---
@@ -1073,6 +1383,7 @@ def one_device(rng, device, block, plain):
             at = rng.randrange(len(plain) - length)
             pitchcase("zero", device, at, length, *options, *rng.choice(((), ("--alloc",))))
             plain[at:at + length] = bytes(length)
+            save_sheet(rng, device, plain, *options)
             check(pitchcase("look", device, 0, len(plain), "--raw", *options).stdout == plain, device, options, "has other bytes")
     pitchcase("edit", device, len(plain) - 1, "--hex", "5a", "--direct")
     plain[-1] = 0x5A
@@ -1103,12 +1414,15 @@ def json_lines():
         "start": {"command", "image", "kind", "size", "align", "share", "out", "jobs", "plan"}, "show": {"when"},
         "request": {"kind", "offset", "length", "code", "waiting"}, "bytes": {"verb", "offset", "length", "hex"},
         "job": {"verb", "offset", "length", "code", "requests", "bytes_read", "bytes_written"},
+        "range": {"range", "verb", "offset", "length", "lines"},
         "lines": {"done", "failed", "partly", "not_begun"}, "end": {"status", "jobs", "requests", "bytes_read", "bytes_written"},
     }
     write("script", b"write 600 ffff\nread 0 64\nzero 512 512\nbarrier\nread 600 2\n")
     seen = set()
-    for words in (CHANGES["edit"], CHANGES["zero"], CHANGES["fleet"], CHANGES["look"], CHANGES["fleet"] + ("--plan",)):
+    for words in (CHANGES["edit"], CHANGES["zero"], CHANGES["sheet"], CHANGES["sheet"] + ("--plan",), CHANGES["fleet"],
+                  CHANGES["look"], CHANGES["fleet"] + ("--plan",)):
         write("image", IMAGE)
+        write("sheet", b"write 601 ff\nwrite 600 ff\nwrite 700 00\n")
         events = [json.loads(line) for line in pitchcase(*words, "--json", "--trace").stdout.splitlines()]
         check(events[0]["event"] == "start" and events[-1]["event"] == "end" and events[-1]["status"] == 0, words, events)
         for event in events:
@@ -1180,6 +1494,14 @@ TESTS = (
     ("a full disk", full_disk, False),
     ("images of 0, 1 and 2^32 + 1 bytes", sizes, False),
     ("random fleets", random_fleets, False),
+    ("random sheets", random_sheets, False),
+    ("sheets of 63 to 200 lines", sheets_of_65, False),
+    ("sheets that fail", sheets_that_fail, True),
+    ("interrupted sheets", sheets_interrupted, True),
+    ("sheets longer than the share", long_sheets, False),
+    ("long sheets that stop", long_sheets_that_stop, True),
+    ("sheets from a pipe", sheets_from_pipes, False),
+    ("a sheet whose reader goes away", sheet_reader_that_ends, True),
     ("drive tables, cut and changed", tables_cut_and_changed, False),
     ("random drive tables", random_tables, False),
     ("edits by rows of a table", edits_by_tables, False),
