@@ -82,8 +82,8 @@ fn compared(writes: &[SheetWrite], data: &[u8], output_length: usize) -> Result<
 /// The same call, on a list of joined writes that holds something before it.
 fn compare_rows(writes: &[SheetWrite], data: &[u8], output_length: usize, wanted: &Result<Sheet, u8>) {
     let old = write(u64::MAX, u64::MAX, u64::MAX);
-    let (mut rows, mut output) = ([old; SHEET_WRITES], vec![OLD; output_length]);
-    let reply = raw::join_sheet(writes, data, &mut output, &mut rows);
+    let (mut rows, mut buffer) = ([old; SHEET_WRITES], vec![OLD; output_length + AROUND]);
+    let reply = raw::join_sheet(writes, data, &mut buffer[..output_length], &mut rows);
     assert_eq!((reply.number, reply.count, reply.value), reply_words(wanted));
     let joined = wanted.as_ref().map_or(&[][..], |sheet| &sheet.0);
     assert_eq!(rows[..joined.len()], *joined);
