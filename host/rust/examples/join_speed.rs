@@ -170,11 +170,11 @@ fn time(writes: &[SheetWrite], data: &[u8], output: &mut [u8]) -> [f64; 3] {
         }
         calls
     });
-    let mut times = [[0.0; ROUNDS]; 3];
-    for round in 0..ROUNDS {
+    let mut times: [Vec<f64>; 3] = Default::default();
+    for _ in 0..ROUNDS {
         for (i, joiner) in JOINERS.into_iter().enumerate() {
             let taken = calls_take(calls[i], joiner, writes, data, output);
-            times[i][round] = taken.as_nanos() as f64 / f64::from(calls[i]);
+            times[i].push(taken.as_nanos() as f64 / f64::from(calls[i]));
         }
     }
     times.map(|mut times| {
