@@ -5,7 +5,8 @@
 //! calls ask for in turn: arrays of the declared lengths, and for data and scratch a pointer that is not null to as
 //! many bytes as the call is told. The arrays are fields of [`Words`], and of [`Table`] where a call takes one. Data and
 //! scratch are borrowed for `'buf` at opening and held as pointers from then on, so that pieces can be out with other
-//! threads while calls run: a reference to a whole buffer would claim those bytes too.
+//! threads while calls run: a reference to a whole buffer would claim those bytes too. What a sheet is joined of and
+//! into is no dock's, and borrowed for that one call.
 //!
 //! **Who touches which bytes when.** A piece that is out ([`Loan`]) is its holder's: filled for a read, looked at for a
 //! write. Meanwhile calls for other slots run, and pieces of other slots are out. No two of these touch the same byte
