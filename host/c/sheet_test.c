@@ -7,9 +7,9 @@
  * Besides, of each sheet that is taken: the joined writes, made in any order, leave what the writes leave in theirs;
  * joined with their output they give themselves.
  */
-#include "guard.h"
-
-#include "draw.h"
+#define TEST "sheet_test"
+#define CASE "sheet"
+#include "cases.h"
 
 enum size {
     WINDOWS = 3,
@@ -23,36 +23,6 @@ enum size {
     JOINED_WORDS = 192,
     ORDERS = 3
 };
-
-/* So many sheets reach all that is counted; fewer need not. */
-static const uint64_t usual = 20000;
-
-static uint64_t seed = 1;
-static uint64_t number;
-static const char *at_case = "random";
-
-/* ---- Failures ---- */
-
-static void check(int holds, const char *what)
-{
-    if (holds)
-        return;
-    printf("sheet_test: %s: %s (seed %llu, sheet %llu)\n", at_case, what, (unsigned long long)seed,
-           (unsigned long long)number);
-    exit(EXIT_FAILURE);
-}
-
-/* A touch of a guard page or of what is not to be written, or a call that does not return. */
-static void on_signal(int signal)
-{
-    char line[200];
-    int n = snprintf(line, sizeof line, "sheet_test: %s: %s (seed %llu, sheet %llu)\n", at_case,
-                     signal == SIGALRM ? "a call has not returned" : "a call touched what is not its own",
-                     (unsigned long long)seed, (unsigned long long)number);
-    if (write(STDOUT_FILENO, line, (size_t)n) < 0)
-        _exit(2);
-    _exit(EXIT_FAILURE);
-}
 
 /* ---- What the sheets reach ---- */
 
@@ -1049,23 +1019,8 @@ static void run_sheet(void)
 
 int main(int argc, char **argv)
 {
-    uint64_t sheets = argc > 1 ? strtoull(argv[1], NULL, 10) : usual;
-    int i;
-    seed = argc > 2 ? strtoull(argv[2], NULL, 10) : 1;
+    struct reaches all = { names, reached, REACHES };
     make_rooms(&usual_rooms, ROOM);
     make_rooms(&long_rooms, LONG_ROOM);
-    catch_signals(on_signal);
-    random_state = seed;
-    alarm(30);
-    test_fixed();
-    memset(reached, 0, sizeof reached);
-    for (number = 0; number < sheets; number++)
-        run_sheet();
-    at_case = "the run";
-    for (i = 0; i < REACHES; i++) {
-        printf("  %-34s %8llu\n", names[i], (unsigned long long)reached[i]);
-        check(reached[i] > 0 || sheets < usual, "something was never reached");
-    }
-    printf("%llu random sheets, after the fixed ones; no difference\n", (unsigned long long)sheets);
-    return EXIT_SUCCESS;
+    return run_cases(argc, argv, test_fixed, run_sheet, all);
 }

@@ -5,41 +5,11 @@
  * written then. Rows, and rows that there are not, are read and opened, of loaded tables and of any words; opening
  * gives the number and the words of dock_open with the same alignments, or 201 where there is no such row.
  */
-#include "guard.h"
-
-#include "draw.h"
+#define TEST "table_test"
+#define CASE "table"
+#include "cases.h"
 
 enum size { ROOM = 131072, LAST_ROW = 70, PAGE = 65536, MOST_SHARE = DOCK_LONGEST_BOUNCE + PAGE };
-
-/* So many tables reach all that is counted; fewer need not. */
-static const uint64_t usual = 20000;
-
-static uint64_t seed = 1;
-static uint64_t number;
-static const char *at_case = "random";
-
-/* ---- Failures ---- */
-
-static void check(int holds, const char *what)
-{
-    if (holds)
-        return;
-    printf("table_test: %s: %s (seed %llu, table %llu)\n", at_case, what, (unsigned long long)seed,
-           (unsigned long long)number);
-    exit(EXIT_FAILURE);
-}
-
-/* A touch of a guard page or of what is not to be written, or a call that does not return. */
-static void on_signal(int signal)
-{
-    char line[200];
-    int n = snprintf(line, sizeof line, "table_test: %s: %s (seed %llu, table %llu)\n", at_case,
-                     signal == SIGALRM ? "a call has not returned" : "a call touched what is not its own",
-                     (unsigned long long)seed, (unsigned long long)number);
-    if (write(STDOUT_FILENO, line, (size_t)n) < 0)
-        _exit(2);
-    _exit(EXIT_FAILURE);
-}
 
 /* ---- What the tables reach ---- */
 
@@ -801,23 +771,8 @@ static void run_table(void)
 
 int main(int argc, char **argv)
 {
-    uint64_t tables = argc > 1 ? strtoull(argv[1], NULL, 10) : usual;
-    int i;
-    seed = argc > 2 ? strtoull(argv[2], NULL, 10) : 1;
+    struct reaches all = { names, reached, REACHES };
     make_area(&bytes_area, ROOM);
     make_area(&table_area, sizeof(struct dock_table));
-    catch_signals(on_signal);
-    random_state = seed;
-    alarm(30);
-    test_fixed();
-    memset(reached, 0, sizeof reached);
-    for (number = 0; number < tables; number++)
-        run_table();
-    at_case = "the run";
-    for (i = 0; i < REACHES; i++) {
-        printf("  %-34s %8llu\n", names[i], (unsigned long long)reached[i]);
-        check(reached[i] > 0 || tables < usual, "something was never reached");
-    }
-    printf("%llu random tables, after the fixed ones; no difference\n", (unsigned long long)tables);
-    return EXIT_SUCCESS;
+    return run_cases(argc, argv, test_fixed, run_table, all);
 }
