@@ -20,7 +20,7 @@ use Rattle.sheets.specs.Sheets.{placed, inFront}
 use Rattle.sheets.specs.Stretches.{Owned, Lies, PacksAs}
 use Rattle.sheets.specs.OneTrip.{Ascends, inRanges}
 use Rattle.sheets.specs.RangeLaws.{Ends, total-most}
-use Rattle.sheets.specs.SheetLaws.{sheet-fits, sound-at, owned-covered, owner-covers, ranges-covered, ranges-end, ranged}
+use Rattle.sheets.specs.SheetLaws.{top, sheet-fits, sound-at, owned-covered, owner-covers, ranges-covered, ranges-end, ranged}
 use Rattle.sheets.specs.TripLaws.{packed-length, words-length}
 use Rattle.sheets.proofs.Clipped.{clipped, clipped-ascends, clipped-ends, clipped-few, clipped-total, clipped-none, clipped-all}
 use Rattle.sheets.proofs.Clipped.{swept-past, swept-over, total-more, packed-more, Below, below-more, below-last}
@@ -28,9 +28,6 @@ use Rattle.sheets.proofs.Clipped.{insert-behind, insert-onto, row-behin
 use Rattle.sheets.specs.declared.sheet.SheetWrite.{SheetWrite}
 use Rattle.sheets.specs.declared.joining.Stretch.{Stretch}
 use Rattle.sheets.specs.declared.joining.Size.{Size}
-
-abbrev pub top : ℕ
-top = 18446744073709551615
 
 -- the ranges before `at`
 abbrev pub So-far : List SheetWrite → ℕ → List Range

@@ -128,7 +128,8 @@ or-none : (a : Bool) → a ≡ (a || false)
 or-none true = refl
 or-none false = refl
 
-abbrev top : ℕ
+-- no write covers it
+abbrev pub top : ℕ
 top = 18446744073709551615
 
 record Collected (rs : List Range) (ws : List SheetWrite) : Type 0 where
@@ -164,7 +165,7 @@ module _ (n : ℕ) (ws : List SheetWrite) (fit : sheetFits n ws ≡ true) where
   all-collected : Collected [] ws
   all-collected = collected n ws [] (sheet-fits n ws fit .all) tt tt
 
-  pub ranges-end : Ends 18446744073709551615 (rangesOf ws)
+  pub ranges-end : Ends top (rangesOf ws)
   ranges-end = all-collected .ends
 
   -- joined they are no longer than the writes in all

@@ -21,7 +21,7 @@ use Rattle.sheets.specs.Sheets.{ownerFrom, ownerOf, byteOf, joinedByte, 
 use Rattle.sheets.specs.Sheets.{refusedAs, joinedAs, joinOf}
 use Rattle.sheets.specs.OneTrip.{bytesOf, made, inOrder, Ascends, inRanges, isCovered, Reordered, as-is, keep, swap, both}
 use Rattle.sheets.specs.OneTrip.{EveryTrip, LaterWins, Fronts}
-use Rattle.sheets.specs.RangeLaws.{never}
+use Rattle.sheets.specs.RangeLaws.{never, or-swap}
 use Rattle.sheets.specs.SheetLaws.{or-left-false, or-right-false, owner-none, owner-last}
 use Rattle.sheets.specs.SheetLaws.{ranges-covered, ranged}
 use Rattle.sheets.specs.declared.sheet.SheetWrite.{SheetWrite}
@@ -128,11 +128,6 @@ agreed memory v (w ∷ ws) s k h e = go (isCovered ws k) refl (agreed memory v w
     go false p f =
         let c = or-first (covers w k) (rw p at e) in
         stays memory ws (made memory s w) k p ∙ made-on memory s w k c ∙ h .0 k c
-
-or-swap : (a b c : Bool) → (a || (b || c)) ≡ (b || (a || c))
-or-swap true true c = refl
-or-swap true false c = refl
-or-swap false b c = refl
 
 reordered-covers : {xs ys : List SheetWrite} → Reordered xs ys → (k : ℕ) → isCovered xs k ≡ isCovered ys k
 unfolding isCovered

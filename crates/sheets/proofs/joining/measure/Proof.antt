@@ -4,7 +4,8 @@ use Prim.Native.Nat.{_-_, _≤_}
 use lib.ListN.{length}
 use Rattle.sheets.specs.Sheets.{writesIn, totalOf}
 use Rattle.sheets.proofs.Words.{writes-length}
-use Rattle.sheets.proofs.Sweep.{top, So-far, none-total, all-now, past, total-over, over-most}
+use Rattle.sheets.specs.SheetLaws.{top}
+use Rattle.sheets.proofs.Sweep.{So-far, none-total, all-now, past, total-over, over-most}
 use borrow.Author.Needs.{needs}
 use Rattle.sheets.proofs.joining.measure.Statement.{statement}
 use Rattle.sheets.proofs.joining.measure.Tie as tie

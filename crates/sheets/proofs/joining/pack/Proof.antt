@@ -7,7 +7,8 @@ use lib.ListN.{length}
 use borrow.Author.Tests.{not-true, not-false}
 use Rattle.sheets.specs.Sheets.{writesIn}
 use Rattle.sheets.proofs.Words.{writes-length}
-use Rattle.sheets.proofs.Sweep.{top, Packing, packing-none, out-long, rows-long, packing-past, its-room, its-most, its-lies}
+use Rattle.sheets.specs.SheetLaws.{top}
+use Rattle.sheets.proofs.Sweep.{Packing, packing-none, out-long, rows-long, packing-past, its-room, its-most, its-lies}
 use Rattle.sheets.proofs.Sweep.{packing-new, packing-on, its-row, packing-over, packing-all, count-most}
 use borrow.Author.Needs.{needs}
 use Rattle.sheets.proofs.joining.pack.Statement.{statement}
