@@ -7,9 +7,10 @@ use Prim.Native.Nat.{ℕ, suc, _+_, _*_, _^_, _<_, _≤_}
 use lib.ListN.{length, take, drop, getD}
 use Rattle.arithmetic.specs.Content.{Bytes, inRange, changed, laidAt}
 use Rattle.arithmetic.specs.declared.offsets.Range.{Range}
+use Rattle.arithmetic.specs.declared.refusals.Refusal.{Refusal}
 use Rattle.sheets.specs.Sheets.{rangeFor, covers, sheetFits, rangesOf, totalOf, joinedOf, joinOf}
 use Rattle.sheets.specs.declared.sheet.SheetWrite.{SheetWrite}
-use Rattle.sheets.specs.declared.joining.Joined.the-variants.{Into}
+use Rattle.sheets.specs.declared.joining.Joined.the-variants.{Into, Refused}
 use Rattle.sheets.specs.declared.joining.Size.{Size}
 
 -- ---- writes on the plain byte store
@@ -81,9 +82,11 @@ LaterWins =
     → covers w k ≡ true → isCovered vs k ≡ false
     → inOrder memory s (us ++ w ∷ vs) k ≡ laidAt (w .offset .0) (bytesOf memory w) k
 
--- what the call leaves of the output and of the words: the front, and the rest as it was; all of it where it is refused
+-- what the call leaves as it was of the output and of the words: what is behind the front, and all of it where it is refused
 pub record Fronts (ws : List SheetWrite) (memory output words : List ℕ) : Type 0 where
   pub output-long : length (joinOf ws memory output words .output) ≡ length output
   pub output-rest : (i : ℕ) → totalOf (rangesOf ws) ≤ i → getD (joinOf ws memory output words .output) i 0 ≡ getD output i 0
   pub words-rest : (i : ℕ) → 3 * length (rangesOf ws) ≤ i
       → getD (joinOf ws memory output words .joined) i 0 ≡ getD words i 0
+  pub all-left : (r : Refusal) → joinOf ws memory output words .answer ≡ Refused r
+      → (joinOf ws memory output words .output ≡ output) × (joinOf ws memory output words .joined ≡ words)

@@ -3,7 +3,8 @@
 use mathlib.Core.Path.{_≡_, refl, sym, ap, _∙_, subst}
 use mathlib.Core.Bool.{Bool, true, false, _||_}
 use mathlib.Core.List.{List, [], _∷_, _++_, append-assoc}
-use Prim.Native.Nat.{ℕ, suc, _+_, _-_, _*_, _<_, _≤_}
+use Prim.Native.Nat.{ℕ, suc, _+_, _-_, _*_, _/_, _<_, _≤_}
+use native.Mathlib.Nat.{mul-div-cancel}
 use native.Mathlib.Omega.{arith}
 use lib.Dec.{ltb, leb}
 use lib.ListN.{length, take, drop, getD, length-append, length-drop}
@@ -11,12 +12,13 @@ use lib.Seq.{take-at, drop-at, getD-append-add, getD-drop, getD-take}
 use borrow.Author.Tests.{ltb-true, leb-true}
 use Rattle.arithmetic.specs.Loops.{or-first}
 use Rattle.arithmetic.specs.Rounding.{pick}
+use Rattle.arithmetic.specs.Rows.{rows}
 use Rattle.arithmetic.specs.SettingsLaws.{and-left, and-right}
 use Rattle.arithmetic.specs.Content.{Bytes, changed, window, laidAt, changed-off, window-length, window-at}
 use Rattle.arithmetic.specs.declared.offsets.Range.{Range}
 use Rattle.arithmetic.specs.declared.refusals.Refusal.the-variants.{Output as NoRoom, Sheet as BadSheet}
 use Rattle.vectors.specs.Vectors.{put}
-use Rattle.sheets.specs.Sheets.{noWrite, writeAs, rangeFor, covers, sheetFits, rangesOf, sizeOf, totalOf}
+use Rattle.sheets.specs.Sheets.{noWrite, writeAs, writeFrom, writesIn, rangeFor, covers, sheetFits, rangesOf, sizeOf, totalOf}
 use Rattle.sheets.specs.Sheets.{ownerFrom, ownerOf, byteOf, joinedByte, packed, placed, wordsOf, inFront}
 use Rattle.sheets.specs.Sheets.{refusedAs, joinedAs, joinOf}
 use Rattle.sheets.specs.OneTrip.{bytesOf, made, inOrder, Ascends, inRanges, isCovered, Reordered, as-is, keep, swap, both}
@@ -256,6 +258,23 @@ unfolding wordsOf placed
 words-length [] at = refl
 words-length (r ∷ rs) at = omega (arith, words-length rs (at + sizeOf r))
 
+-- rows are the writes that they were written for
+rows-back : (ws : List SheetWrite) → rows writeFrom 3 (length ws) (wordsOf ws) ≡ ws
+unfolding rows wordsOf
+rows-back [] = refl
+rows-back (w ∷ ws) = ap (λ (l : List SheetWrite). w ∷ l) (rows-back ws)
+
+row-words : (ws : List SheetWrite) → length (wordsOf ws) ≡ length ws * 3
+unfolding wordsOf
+row-words [] = refl
+row-words (w ∷ ws) = omega (arith, row-words ws)
+
+pub words-back : (ws : List SheetWrite) → writesIn (wordsOf ws) ≡ ws
+unfolding writesIn
+words-back ws =
+    let n : length (wordsOf ws) / 3 ≡ length ws = ap (λ (m : ℕ). m / 3) (row-words ws) ∙ mul-div-cancel (length ws) (omega arith) in
+    rw n (rows-back ws)
+
 module _ (new old : List ℕ) where
   front-length : length new ≤ length old → length (inFront new old) ≡ length old
   unfolding put
@@ -289,6 +308,17 @@ every-front ws memory output words = go (sheetFits (length memory) ws) (leb (tot
           output-long = rw (p, q) (front-length (packed v rs) output (omega (arith, l, n)));
           output-rest = λ i h. rw (p, q) (front-rest (packed v rs) output i (omega (arith, h, n)));
           words-rest = λ i h. rw (p, q) (front-rest (wordsOf (placed 0 rs)) words i (omega (arith, h, m)));
+          all-left = λ r e. never (ap isRefused (rw (p, q) at e));
         }
-    go true false p q = record { output-long = rw (p, q); output-rest = λ i h. rw (p, q); words-rest = λ i h. rw (p, q) }
-    go false b p q = record { output-long = rw p; output-rest = λ i h. rw p; words-rest = λ i h. rw p }
+    go true false p q = record {
+      output-long = rw (p, q);
+      output-rest = λ i h. rw (p, q);
+      words-rest = λ i h. rw (p, q);
+      all-left = λ r e. rw (p, q) (refl, refl);
+    }
+    go false b p q = record {
+      output-long = rw p;
+      output-rest = λ i h. rw p;
+      words-rest = λ i h. rw p;
+      all-left = λ r e. rw p (refl, refl);
+    }
