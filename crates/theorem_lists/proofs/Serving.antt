@@ -1,6 +1,6 @@
 -- Each request, carried out with any code, does on the real store and on the plain byte store the same; by which request is out. Assumes nothing.
 use mathlib.Core.Path.{_≡_, refl, sym, ap, _∙_, subst}
-use mathlib.Core.Bool.{Bool, true, false, _&&_, and-false}
+use mathlib.Core.Bool.{Bool, true, false, _&&_}
 use mathlib.Core.Logic.{_⊎_, inl, inr, ⊎-elim, _≢_}
 use mathlib.Core.List.{List, [], _∷_, _++_}
 use mathlib.Core.Option.{Option, none, some}
@@ -10,7 +10,7 @@ use native.Mathlib.Decide.{decLt}
 use lib.Dec.{leb, eqb}
 use lib.ListN.{length, getD, take, drop, length-drop, List·getD-append}
 use lib.Seq.{take-length, length-take-le, getD-take, getD-drop}
-use borrow.Author.Tests.{lt-ltb, le-leb, le-ltb, lt-leb, ltb-true, leb-true, eq-eqb}
+use borrow.Author.Tests.{le-leb, ltb-true, leb-true, eq-eqb}
 use Rattle.arithmetic.specs.Rounding.{pick}
 use Rattle.arithmetic.specs.SettingsLaws.{and-left, and-right}
 use Rattle.arithmetic.specs.Offsets.{rangeOf}

@@ -1,5 +1,5 @@
 -- `sheets::joining::has_room` meets its contract: by the lengths of the writes, or else by the joined ranges. Assumes nothing.
-use mathlib.Core.Path.{_≡_, sym, ap, _∙_}
+use mathlib.Core.Path.{sym, ap, _∙_}
 use lib.Dec.{leb}
 use Rattle.sheets.proofs.Answering.{room-for-all}
 use borrow.Author.Needs.{needs}

@@ -1,6 +1,5 @@
 -- `sheets::joining::join` meets its contract, test by test. Assumes nothing.
 use mathlib.Core.Path.{sym, _∙_}
-use lib.Dec.{leb}
 use denote.Ref.{now}
 use borrow.Author.Tests.{leb-true, not-true, not-false}
 use Rattle.sheets.specs.Sheets.{writesIn}
