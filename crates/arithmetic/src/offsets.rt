@@ -1,7 +1,7 @@
 // Offsets that count from different zeros, ranges of the store, sums that fit 64 bits, rounding.
 use crate::refusals::Refusal;
 ghost use mathlib.Core.Path.{_≡_};
-ghost use Prim.Native.Nat.{min};
+ghost use Prim.Native.Nat.{_%_, min};
 ghost use Rattle.arithmetic.specs.Rounding.{sumOf, isMultiple, roundDown, upOf};
 ghost use Rattle.arithmetic.specs.Offsets.{inBufferOf, onStoreOf};
 
@@ -72,14 +72,25 @@ pub fn add(a: u64, b: u64) -> Sum
     Sum::Fits(a + b)
 }
 
+// x modulo r, by a mask where r is a power of two, as every alignment is. Modulo 0 it is x.
+pub fn remainder(x: u64, r: u64) -> u64
+    ensures { λ y. ⌜ y ≡ x % r ⌝ }
+{
+    if r == 0 {
+        return x;
+    }
+    let mask = r - 1;
+    if r & mask == 0 {
+        return x & mask;
+    }
+    x % r
+}
+
 // The greatest multiple of r that is at most x.
 pub fn round_down(x: u64, r: u64) -> u64
     ensures { λ y. ⌜ y ≡ roundDown x r ⌝ }
 {
-    if r == 0 {
-        return 0;
-    }
-    x - x % r
+    x - remainder(x, r)
 }
 
 // The least multiple of r that is at least x.
@@ -104,8 +115,5 @@ pub fn lesser(a: u64, b: u64) -> u64
 pub fn is_multiple(x: u64, r: u64) -> bool
     ensures { λ t. ⌜ t ≡ isMultiple x r ⌝ }
 {
-    if r == 0 {
-        return x == 0;
-    }
-    x % r == 0
+    remainder(x, r) == 0
 }

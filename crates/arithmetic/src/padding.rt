@@ -5,6 +5,7 @@ use crate::offsets::Range;
 use crate::offsets::StoreOffset;
 use crate::offsets::Sum;
 use crate::offsets::add;
+use crate::offsets::is_multiple;
 use crate::offsets::round_down;
 use crate::offsets::round_up;
 use crate::refusals::Refusal;
@@ -100,7 +101,9 @@ fn is_direct(at: u64, length: u64, r: u64, aligned: bool) -> bool
     requires { ⌜ 0 < r ⌝ }
     ensures { λ t. ⌜ t ≡ isDirect r at length aligned ⌝ }
 {
-    aligned & (at % r == 0) & (length % r == 0)
+    let starts = is_multiple(at, r);
+    let ends = is_multiple(length, r);
+    aligned & starts & ends
 }
 
 // Direct or padded, for a vector of `length` bytes that is or is not aligned.

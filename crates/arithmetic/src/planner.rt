@@ -2,6 +2,7 @@
 use crate::offsets::LARGEST;
 use crate::offsets::Range;
 use crate::offsets::StoreOffset;
+use crate::offsets::is_multiple;
 use crate::offsets::lesser;
 use crate::refusals::Outcome;
 use crate::refusals::Refusal;
@@ -32,7 +33,9 @@ fn check(offset: StoreOffset, length: u64, settings: Settings) -> Outcome
     let align = settings.align;
     let r = align.req;
     let at = offset.0;
-    if !((at % r == 0) & (length % r == 0)) {
+    let starts = is_multiple(at, r);
+    let ends = is_multiple(length, r);
+    if !(starts & ends) {
         return Outcome::Refused(Refusal::Unaligned);
     }
     if !(length <= LARGEST - at) {

@@ -8,6 +8,7 @@ ghost use Rattle.arithmetic.specs.Rounding.{fits};
 ghost use Rattle.arithmetic.specs.Settings.{isAlignment, lengthAlign, alignmentsFit, settingsFit, buffersFit, openingOf, alignments};
 ghost use Rattle.arithmetic.specs.Settings.{profileOf};
 use crate::offsets::LARGEST;
+use crate::offsets::is_multiple;
 
 // Document 01's mem, req, zero, discard: M, R, Z, D.
 pub struct Alignments {
@@ -41,17 +42,20 @@ pub enum Profile {
     Refused(Refusal),
 }
 
+const MAX_ALIGNMENT: u64 = 65536;
+
 const MAX_BOUNCE: u64 = 1048576;
 
 const SLOTS: u64 = 8;
 
+// Whether x is a power of two, which has no digit in common with the number before it, and at most 65,536.
 fn is_alignment(x: u64) -> bool
     ensures { λ r. ⌜ r ≡ isAlignment x ⌝ }
 {
     if x == 0 {
         return false;
     }
-    65536 % x == 0
+    (x & (x - 1) == 0) & (x <= MAX_ALIGNMENT)
 }
 
 impl Alignments {
@@ -88,7 +92,8 @@ impl Settings {
             return false;
         }
         let l = align.length_align();
-        (len % l == 0) & (2 * align.zero + 2 * l <= len) & (len <= MAX_BOUNCE)
+        let whole = is_multiple(len, l);
+        whole & (2 * align.zero + 2 * l <= len) & (len <= MAX_BOUNCE)
     }
 }
 
@@ -111,10 +116,8 @@ impl Buffers {
         let scratch = self.scratch;
         let data_ends = data.has_end();
         let scratch_ends = scratch.has_end();
-        data_ends
-            & scratch_ends
-            & (SLOTS * s.bounce <= scratch.length)
-            & (scratch.address % align.mem == 0)
+        let starts = is_multiple(scratch.address, align.mem);
+        data_ends & scratch_ends & (SLOTS * s.bounce <= scratch.length) & starts
     }
 }
 

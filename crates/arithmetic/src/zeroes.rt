@@ -4,6 +4,7 @@ use crate::offsets::LARGEST;
 use crate::offsets::Range;
 use crate::offsets::StoreOffset;
 use crate::offsets::lesser;
+use crate::offsets::remainder;
 use crate::offsets::round_down;
 use crate::refusals::Refusal;
 use crate::settings::Alignments;
@@ -133,7 +134,7 @@ fn chunk_length(at: u64, n: u64, r: u64, bounce: u64) -> u64
     requires { ⌜ 0 < r ⌝ }
     ensures { λ c. ⌜ c ≡ chunkLength r bounce at n ⌝ }
 {
-    let off = at % r;
+    let off = remainder(at, r);
     if off == 0 {
         return lesser(n, bounce);
     }

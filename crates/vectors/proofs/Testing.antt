@@ -1,12 +1,12 @@
 -- The loops that test segments: overlap and alignment. Assumes nothing.
 use mathlib.Core.Path.{_≡_, refl, sym, ap, _∙_, subst}
 use mathlib.Core.Bool.{Bool, true, false, _&&_, _||_, and-false}
-use Prim.Native.Nat.{ℕ, _+_, _-_, _%_, _≤_, _<_, max, min}
+use Prim.Native.Nat.{ℕ, _+_, _-_, _≤_, _<_, max, min}
 use native.Mathlib.Decide.{decLt}
 use native.Mathlib.Omega.{arith}
 use lib.Dec.{ltb, eqb}
 use lib.ListN.{length, drop, getD, length-take}
-use borrow.Author.Tests.{lt-ltb, le-ltb, eq-eqb, ne-eqb}
+use borrow.Author.Tests.{lt-ltb, le-ltb}
 use Rattle.arithmetic.specs.Rounding.{isMultiple}
 use Rattle.arithmetic.specs.RoundingLaws.{fits-true, fits-false}
 use Rattle.arithmetic.specs.Settings.{alignmentsFit, lengthAlign}
@@ -149,17 +149,14 @@ module _ (v : IoVector) (address m l i : ℕ) (g : Lined v address m l i) where
     unfolding allAligned
     more-lined = g .is ∙ all-more v (g .wide) i within (λ p. isMultiple (address + p .start) m && isMultiple (p .length) l)
 
-    pub off-start : ((address + nth v i .start) % m ≡ 0 → ⊥) → false ≡ allAligned address m l (segmentsOf v)
-    unfolding isMultiple
-    off-start z = sym (more-lined ∙ (rw (ne-eqb _ 0 z)))
+    pub off-start : isMultiple (address + nth v i .start) m ≡ false → false ≡ allAligned address m l (segmentsOf v)
+    off-start z = sym (more-lined ∙ (rw z))
 
-    pub off-length : (nth v i .length % l ≡ 0 → ⊥) → false ≡ allAligned address m l (segmentsOf v)
-    unfolding isMultiple
-    off-length z = sym (more-lined ∙ (rw (ne-eqb (nth v i .length % l) 0 z, and-false)))
+    pub off-length : isMultiple (nth v i .length) l ≡ false → false ≡ allAligned address m l (segmentsOf v)
+    off-length z = sym (more-lined ∙ (rw (z, and-false)))
 
-    pub lined-next : (address + nth v i .start) % m ≡ 0 → nth v i .length % l ≡ 0 → Lined v address m l (i + 1)
-    unfolding isMultiple
-    lined-next a b = record { wide = g .wide; asked = g .asked; is = more-lined ∙ (rw (eq-eqb _ 0 a, eq-eqb (nth v i .length % l) 0 b)) }
+    pub lined-next : isMultiple (address + nth v i .start) m ≡ true → isMultiple (nth v i .length) l ≡ true → Lined v address m l (i + 1)
+    lined-next a b = record { wide = g .wide; asked = g .asked; is = more-lined ∙ (rw (a, b)) }
 
 -- ---- what `is_aligned` returns
 

@@ -2,6 +2,7 @@
 use crate::vector::Alignment;
 use crate::vector::IoVector;
 use arithmetic::offsets::LARGEST;
+use arithmetic::offsets::is_multiple;
 use arithmetic::refusals::Refusal;
 use arithmetic::settings::Alignments;
 use arithmetic::settings::Lent;
@@ -43,10 +44,10 @@ impl IoVector {
         let mut i = 0usize;
         while i < n {
             let p = self.segments[i];
-            if (address + p.start as u64) % mem != 0 {
+            if !is_multiple(address + p.start as u64, mem) {
                 return false;
             }
-            if p.length as u64 % len != 0 {
+            if !is_multiple(p.length as u64, len) {
                 return false;
             }
             i += 1;

@@ -1,20 +1,18 @@
 -- `arithmetic::padding::is_direct` meets its contract: by definition. Assumes nothing.
 use Rattle.arithmetic.specs.Padding.{isDirect}
-use Rattle.arithmetic.specs.Rounding.{isMultiple}
-use mathlib.Core.Path.{refl}
 use borrow.Author.Needs.{needs}
 use Rattle.arithmetic.proofs.padding.is_direct.Statement.{statement}
 use Rattle.arithmetic.proofs.padding.is_direct.Tie as tie
 
-rem-result : tie.Need-rem-result
-rem-result c = search needs
+is-multiple-requires : tie.Need-is-multiple-requires
+is-multiple-requires c κs = search needs
 
-rem-result-2 : tie.Need-rem-result-2
-rem-result-2 c = search needs
+is-multiple-requires-2 : tie.Need-is-multiple-requires-2
+is-multiple-requires-2 c κs = search needs
 
 returns : tie.Need-returns
-unfolding isDirect isMultiple
-returns c = refl
+unfolding isDirect
+returns c = simp (c .before .is-multiple .ensures, c .is-multiple2 .ensures)
 
 pub is-direct-spec : {M : Type 1} → statement M
-is-direct-spec = tie.close (tie.spec rem-result rem-result-2 returns)
+is-direct-spec = tie.close (tie.spec is-multiple-requires is-multiple-requires-2 returns)

@@ -1,6 +1,5 @@
--- `arithmetic::settings::Buffers::is_fit` meets its contract: settings that fit bound the shares, and M is no 0. Assumes nothing.
+-- `arithmetic::settings::Buffers::is_fit` meets its contract: settings that fit bound the shares. Assumes nothing.
 use native.Mathlib.Omega.{arith}
-use Rattle.arithmetic.specs.Rounding.{isMultiple}
 use Rattle.arithmetic.specs.Settings.{buffersFit}
 use Rattle.arithmetic.specs.SettingsLaws.{accepted}
 use borrow.Author.Needs.{needs}
@@ -13,15 +12,19 @@ has-end-requires c κs = search needs
 has-end-requires-2 : tie.Need-has-end-requires-2
 has-end-requires-2 c κs = search needs
 
-mul-result : tie.Need-mul-result
-mul-result c = let a = c .before .before .before .before .before .before in omega (arith, accepted (a .args .s) (a .pre) .most)
+is-multiple-requires : tie.Need-is-multiple-requires
+is-multiple-requires c κs = search needs
 
-rem-result : tie.Need-rem-result
-rem-result c = let a = c .before .before .before .before .before .before .before .before .before in omega (arith, accepted (a .args .s) (a .pre) .align .mem .positive)
+mul-result : tie.Need-mul-result
+mul-result c = let a = c .before .before .before .before .before .before .before in omega (arith, accepted (a .args .s) (a .pre) .most)
 
 returns : tie.Need-returns
-unfolding buffersFit isMultiple
-returns c = let b = c .before .before .before .before in simp (b .before .has-end .ensures, b .has-end2 .ensures)
+unfolding buffersFit
+returns c = let m = c .before .before in
+    let b = m .before in
+    simp (b .before .has-end .ensures, b .has-end2 .ensures, m .is-multiple .ensures)
 
 pub is-fit-spec : {M : Type 1} → statement M
-is-fit-spec = tie.close (tie.spec has-end-requires has-end-requires-2 mul-result rem-result returns)
+is-fit-spec =
+    tie.close
+    (tie.spec has-end-requires has-end-requires-2 is-multiple-requires mul-result returns)

@@ -1,6 +1,7 @@
 -- `vectors::vector::IoVector::has_aligned_segments` meets its contract: whether all are aligned is whether those from segment i on are. Assumes nothing.
 use borrow.Author.Needs.{needs}
-use mathlib.Core.Path.{_≡_, refl}
+use borrow.Author.Tests.{not-true, not-false}
+use mathlib.Core.Path.{_≡_, refl, sym, _∙_}
 use Prim.Native.Nat.{_-_}
 use native.Mathlib.Omega.{arith}
 use lib.ListN.{length}
@@ -24,29 +25,36 @@ mul-p c = omega (arith, few _ _ _ _ _ (c .before .loop .inv))
 element-copy-out-p : tie.Need-element-copy-out-p Inv-loop μ-loop
 element-copy-out-p c = omega (arith, few _ _ _ _ _ (c .before .loop .inv))
 
-add-if1 : tie.Need-add-if1 Inv-loop μ-loop
-add-if1 c = omega (arith, lined-fits _ _ _ _ _ (c .before .before .loop .inv) (c .before .loop-test .taken))
+add-is-multiple : tie.Need-add-is-multiple Inv-loop μ-loop
+add-is-multiple c = omega (arith, lined-fits _ _ _ _ _ (c .before .before .loop .inv) (c .before .loop-test .taken))
 
-rem-if1 : tie.Need-rem-if1 Inv-loop μ-loop
-rem-if1 c = omega (arith, c .before .before .loop .inv .asked .mem)
+is-multiple-requires : tie.Need-is-multiple-requires Inv-loop μ-loop
+is-multiple-requires c κs = search needs
 
 returns : tie.Need-returns Inv-loop μ-loop
-returns c = off-start _ _ _ _ _ (c .before .before .before .loop .inv) (c .before .before .loop-test .taken) (c .if1 .taken)
+returns c = let t = c .before in
+    let b = t .before .before in
+    off-start _ _ _ _ _ (b .before .loop .inv) (b .loop-test .taken) (sym (t .is-multiple .ensures) ∙ not-true _ (c .if1 .taken))
 
-rem-if2 : tie.Need-rem-if2 Inv-loop μ-loop
-rem-if2 c = omega (arith, c .before .before .before .loop .inv .asked .len)
+is-multiple-requires-2 : tie.Need-is-multiple-requires-2 Inv-loop μ-loop
+is-multiple-requires-2 c κs = search needs
 
 returns-2 : tie.Need-returns-2 Inv-loop μ-loop
-returns-2 c = off-length _ _ _ _ _ (c .before .before .before .before .loop .inv) (c .before .before .before .loop-test .taken) (c .if2 .taken)
+returns-2 c = let t = c .before in
+    let b = t .before .before .before .before in
+    off-length _ _ _ _ _ (b .before .loop .inv) (b .loop-test .taken) (sym (t .is-multiple2 .ensures) ∙ not-true _ (c .if2 .taken))
 
 add-i : tie.Need-add-i Inv-loop μ-loop
-add-i c = omega (arith, c .before .before .before .loop-test .taken, few _ _ _ _ _ (c .before .before .before .before .loop .inv))
+add-i c = let b = c .before .before .before .before .before in omega (arith, b .loop-test .taken, few _ _ _ _ _ (b .before .loop .inv))
 
 loop-less : tie.Need-loop-less Inv-loop μ-loop
-loop-less c = omega (arith, c .before .before .before .loop-test .taken)
+loop-less c = omega (arith, c .before .before .before .before .before .loop-test .taken)
 
 loop-again : tie.Need-loop-again Inv-loop μ-loop
-loop-again c = lined-next _ _ _ _ _ (c .before .before .before .before .loop .inv) (c .before .before .before .loop-test .taken) (c .before .if1 .left) (c .if2 .left)
+loop-again c = let t = c .before in
+    let u = t .before in
+    let b = u .before .before .before in
+    lined-next _ _ _ _ _ (b .before .loop .inv) (b .loop-test .taken) (sym (u .before .is-multiple .ensures) ∙ not-false _ (u .if1 .left)) (sym (t .is-multiple2 .ensures) ∙ not-false _ (c .if2 .left))
 
 returns-3 : tie.Need-returns-3 Inv-loop μ-loop
 returns-3 c = lined-end _ _ _ _ _ (c .before .loop .inv) (c .loop-test .left)
@@ -60,10 +68,10 @@ has-aligned-segments-spec =
     loop-holds
     mul-p
     element-copy-out-p
-    add-if1
-    rem-if1
+    add-is-multiple
+    is-multiple-requires
     returns
-    rem-if2
+    is-multiple-requires-2
     returns-2
     add-i
     loop-less
