@@ -1,5 +1,6 @@
 -- What the contracts of vectors cite, and the laws on it.
 pub mod Vectors
+pub mod Words
 pub mod Joining
 pub mod Positions
 pub mod Aligning
@@ -12,3 +13,4 @@ pub mod RunLaws
 pub mod EditLaws
 pub mod OverlapLaws
 pub mod ByteLaws
+pub mod WordLaws

@@ -4,3 +4,4 @@ pub mod split; // split_at, split_tail_at
 pub mod bytes; // copies into and out of a vector's segments, fill
 pub mod overlap; // which vectors share a byte
 pub mod alignment; // whether a vector is aligned
+pub mod words; // a vector in 34 words

@@ -9,7 +9,7 @@ ghost use Rattle.vectors.specs.Vectors.{segmentsOf, shares, anySegment, 
 
 impl Segment {
     // The start of one lies in the other, and neither is empty. No end is computed, which may not fit.
-    fn shares(self, other: Segment) -> bool
+    pub(crate) fn shares(self, other: Segment) -> bool
         ensures { λ r. ⌜ r ≡ shares self other ⌝ }
     {
         if self.start <= other.start {

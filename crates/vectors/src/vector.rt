@@ -72,11 +72,11 @@ pub enum Alignment {
 
 pub(crate) const MAX_COUNT: usize = 16;
 
-const MAX_TOTAL: u64 = 1048576;
+pub(crate) const MAX_TOTAL: u64 = 1048576;
 
 impl Segment {
     // Whether it is not empty, and inside data of that length.
-    fn lies_in(self, data_len: usize) -> bool
+    pub(crate) fn lies_in(self, data_len: usize) -> bool
         ensures { λ r. ⌜ r ≡ liesIn data_len self ⌝ }
     {
         if data_len < self.start {
