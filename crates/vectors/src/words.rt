@@ -87,6 +87,14 @@ pub fn get_vector(words: &[u64; 34]) -> IoVector
 pub fn put_vector(words: &mut [u64; 34], v: IoVector)
     ensures { λ _. ⌜ now (words .exit) ≡ vectorWords v ⌝ }
 {
+    put_words(words, v);
+}
+
+// As a slice the words tell how many they are.
+fn put_words(words: &mut [u64], v: IoVector)
+    requires { ⌜ length (now words) ≡ 34 ⌝ }
+    ensures { λ _. ⌜ now (words .exit) ≡ vectorWords v ⌝ }
+{
     words[0] = size_word(v.count);
     words[1] = v.total;
     let mut i = 0usize;

@@ -1,0 +1,61 @@
+-- `vectors::words::shares_from` meets its contract: what is sought is what is sought from segment i on. Assumes nothing.
+use borrow.Author.Needs.{needs}
+use native.Mathlib.Omega.{arith}
+use mathlib.Core.Path.{sym, ap, _∙_}
+use Prim.Native.Nat.{_-_}
+use lib.ListN.{drop}
+use Rattle.vectors.specs.Vectors.{segmentsOf, shares, anySegment}
+use Rattle.vectors.specs.Words.{vectorFrom}
+use Rattle.vectors.specs.WordLaws.{vector-wide}
+use Rattle.vectors.proofs.Testing.{Sought, sought-start, sought-here, sought-next, sought-end}
+use Rattle.vectors.proofs.words.shares_from.Statement.{statement}
+use Rattle.vectors.proofs.words.shares_from.Tie as tie
+
+abbrev Inv-loop : tie.InvT-loop
+Inv-loop words start segment n i₀ i = Sought (vectorFrom words) (shares segment) (anySegment (shares segment) (drop start (segmentsOf (vectorFrom words)))) n i
+
+abbrev μ-loop : tie.MeasureT-loop
+μ-loop words start segment n i₀ i = n - i
+
+used-count-requires : tie.Need-used-count-requires Inv-loop μ-loop
+used-count-requires c κs = search needs
+
+loop-holds : tie.Need-loop-holds Inv-loop μ-loop
+loop-holds c = sought-start _ _ _ _ (vector-wide _) (c .used-count .ensures)
+
+segment-at-requires : tie.Need-segment-at-requires Inv-loop μ-loop
+segment-at-requires c κs = search needs
+
+shares-requires : tie.Need-shares-requires Inv-loop μ-loop
+shares-requires c κs = search needs
+
+returns : tie.Need-returns Inv-loop μ-loop
+returns c = sought-here _ _ _ _ _ (c .before .before .before .before .loop .inv) (c .before .before .before .loop-test .taken) (ap (shares _) (sym (c .before .before .segment-at .ensures)) ∙ sym (c .before .shares .ensures) ∙ c .if1 .taken)
+
+add-i : tie.Need-add-i Inv-loop μ-loop
+add-i c = omega (arith, c .before .before .before .loop-test .taken, c .before .before .before .before .loop .inv .most)
+
+loop-less : tie.Need-loop-less Inv-loop μ-loop
+loop-less c = omega (arith, c .before .before .before .loop-test .taken)
+
+loop-again : tie.Need-loop-again Inv-loop μ-loop
+loop-again c = sought-next _ _ _ _ _ (c .before .before .before .before .loop .inv) (c .before .before .before .loop-test .taken) (ap (shares _) (sym (c .before .before .segment-at .ensures)) ∙ sym (c .before .shares .ensures) ∙ c .if1 .left)
+
+returns-2 : tie.Need-returns-2 Inv-loop μ-loop
+returns-2 c = sought-end _ _ _ _ _ (c .before .loop .inv) (c .loop-test .left)
+
+pub shares-from-spec : {M : Type 1} → statement M
+shares-from-spec =
+    tie.close
+    (tie.spec
+    Inv-loop
+    μ-loop
+    used-count-requires
+    loop-holds
+    segment-at-requires
+    shares-requires
+    returns
+    add-i
+    loop-less
+    loop-again
+    returns-2)
