@@ -1,7 +1,6 @@
 -- `vectors::words::gather` meets its contract: the bytes gathered and those of the segments from i on are the vector's. Assumes nothing.
 use borrow.Author.Needs.{needs}
 use native.Mathlib.Omega.{arith}
-use mathlib.Core.Path.{_≡_}
 use Prim.Native.Nat.{_+_, _-_, _≤_, _<_}
 use lib.ListN.{length}
 use denote.Ref.{now}

@@ -1,6 +1,6 @@
 -- `vectors::words::get_vector` meets its contract: after i turns the first i segments are read. Assumes nothing.
 use Prim.Native.Nat.{_≤_, _-_}
-use mathlib.Core.Path.{_≡_, refl, sym, _∙_}
+use mathlib.Core.Path.{refl, sym}
 use borrow.Author.Needs.{needs}
 use Rattle.arithmetic.specs.Loops.{Like, like-more, like-all}
 use Rattle.vectors.specs.Vectors.{none}

@@ -1,8 +1,8 @@
 -- `vectors::words::is_valid` meets its contract: the segments before i lie in the data and sum up to what was added, which stays at most 1,048,576. Assumes nothing.
 use borrow.Author.Needs.{needs}
 use native.Mathlib.Omega.{arith}
-use mathlib.Core.Path.{_≡_, sym, ap, _∙_}
-use Prim.Native.Nat.{_-_, _≤_, _<_}
+use mathlib.Core.Path.{sym, ap, _∙_}
+use Prim.Native.Nat.{_-_, _<_}
 use borrow.Author.Tests.{not-true, not-false, lt-leb}
 use Rattle.vectors.specs.Vectors.{isValid, liesIn}
 use Rattle.vectors.specs.Words.{vectorFrom}

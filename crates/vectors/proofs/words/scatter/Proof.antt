@@ -1,7 +1,6 @@
 -- `vectors::words::scatter` meets its contract: what is to be scattered is what is to be scattered from segment i on. Assumes nothing.
 use borrow.Author.Needs.{needs}
 use native.Mathlib.Omega.{arith}
-use mathlib.Core.Path.{_≡_}
 use Prim.Native.Nat.{_+_, _-_, _≤_, _<_}
 use lib.ListN.{length}
 use denote.Ref.{now}

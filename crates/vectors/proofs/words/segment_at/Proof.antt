@@ -1,6 +1,6 @@
 -- `vectors::words::segment_at` meets its contract: segment i stands in the two words from 2 + 2 i on, and there are 16. Assumes nothing.
 use Prim.Native.Nat.{_≤_}
-use mathlib.Core.Path.{_≡_, sym}
+use mathlib.Core.Path.{sym}
 use lib.ListN.{length, List·getD-eq-default}
 use native.Mathlib.Omega.{arith}
 use borrow.Author.Needs.{needs}
