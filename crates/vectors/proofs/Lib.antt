@@ -5,5 +5,6 @@ pub mod Gluing
 pub mod Editing
 pub mod Walking
 pub mod Splitting
+pub mod Copying
 pub mod Moving
 pub mod Testing

@@ -2,13 +2,10 @@
 use mathlib.Core.Path.{_≡_, refl, sym, ap, _∙_, subst}
 use mathlib.Core.Bool.{Bool, true, false, and-false}
 use mathlib.Core.List.{List, [], _∷_, _++_, append-assoc, append-nil}
-use Prim.Native.Nat.{ℕ, zero, suc, _+_, _-_, _≤_, _<_, min}
-use native.Mathlib.Nat.{not-suc-le-zero, le-of-suc-le-suc}
-use native.Mathlib.Numerals.{add-one}
-use native.Mathlib.Decide.{decLt}
+use Prim.Native.Nat.{ℕ, _+_, _-_, _≤_, _<_}
 use native.Mathlib.Omega.{arith}
 use lib.Dec.{eqb}
-use lib.ListN.{length, take, drop, getD, set, replicate, length-drop, length-replicate, drop-of-length-le}
+use lib.ListN.{length, take, drop, getD, replicate, length-drop, length-replicate, drop-of-length-le}
 use lib.Seq.{drop-drop, take-all, length-take-le}
 use borrow.Author.Tests.{eqb-true, eq-eqb, ne-eqb}
 use borrow.Rule.Slice.PartMut.{putMid}
@@ -23,27 +20,7 @@ use Rattle.vectors.specs.SegmentLaws.{all-at, lies, Valid, valid}
 use Rattle.vectors.specs.ByteLaws.{length-put, take-put, bytes-length}
 use Rattle.vectors.proofs.Pass.{nth, in-use, same, first, size, none-left}
 
--- ---- the inner loops: after i turns the front is done, and the rest is as it was
-
-copy-suc : (i : ℕ) (s d : List ℕ) → i < length s → i < length d → set (take i s ++ drop i d) i (getD s i 0) ≡ take (suc i) s ++ drop (suc i) d
-copy-suc i [] d h k = absurd (not-suc-le-zero h)
-copy-suc i (a ∷ s) [] h k = absurd (not-suc-le-zero k)
-copy-suc zero (a ∷ s) (b ∷ d) h k = refl
-copy-suc (suc i) (a ∷ s) (b ∷ d) h k = ap (λ (t : List ℕ). a ∷ t) (copy-suc i s d (le-of-suc-le-suc h) (le-of-suc-le-suc k))
-
-pub copy-more : (i : ℕ) (s d : List ℕ) → i < length s → i < length d → set (take i s ++ drop i d) i (getD s i 0) ≡ take (i + 1) s ++ drop (i + 1) d
-copy-more i s d h k = rw add-one (copy-suc i s d h k)
-
--- as many as both have are done
-pub copy-done : (i : ℕ) (s d : List ℕ) → i ≡ min (length d) (length s) → take i s ++ drop i d ≡ take (length d) s ++ drop (length s) d
-copy-done i s d e = elim (decLt (length s) (length d)) [
-  | yes l ↦
-      let z : i ≡ length s = omega arith in
-      rw (z, take-all (length s) s (omega arith), take-all (length d) s (omega arith))
-  | no l ↦
-      let z : i ≡ length d = omega arith in
-      rw (z, drop-of-length-le d {i = length d} (omega arith), drop-of-length-le d {i = length s} (omega arith))
-]
+-- ---- the inner loop that fills: after i turns the front is done, and the rest is as it was
 
 pub fill-done : (i v : ℕ) (d : List ℕ) → i ≤ length d → length d ≤ i → replicate i v ++ drop i d ≡ replicate (length d) v
 fill-done i v d h k =

@@ -6,9 +6,53 @@ use arithmetic::refusals::Refusal;
 ghost use mathlib.Core.Path.{_≡_};
 ghost use mathlib.Core.Bool.{true};
 ghost use mathlib.Core.List.{_++_};
+ghost use Prim.Native.Nat.{_+_, _≤_};
 ghost use lib.ListN.{length, take, drop, replicate};
+ghost use lib.Seq.{paste};
 ghost use Rattle.vectors.specs.Vectors.{segmentsOf, isValid, bytesOf, scatterOf, fillOf, copies, outcomeOf};
 ghost use Rattle.vectors.specs.Vectors.{copiedInto, copiedFrom, filledWith};
+
+// Copies go by blocks, then by words, then byte by byte. Blocks and words are read into an array and written from it: the compiler is not
+// told that a part and its source are apart, but makes one move of each block and word.
+const BLOCK: usize = 4096;
+
+const WORD: usize = 8;
+
+// The block of `source` at `at` goes to the same place of `part`.
+fn copy_block(part: &mut [u8], source: &[u8], at: usize)
+    requires { ⌜ (at + 4096 ≤ length (now part)) × (at + 4096 ≤ length (now source)) ⌝ }
+    ensures { λ _. ⌜ now (part .exit) ≡ paste (now (part .entry)) at (drop at (now (source .entry))) 4096 ⌝ }
+{
+    let mut bytes = [0u8; BLOCK];
+    let mut i = 0usize;
+    while i < BLOCK {
+        bytes[i] = source[at + i];
+        i += 1;
+    }
+    let mut j = 0usize;
+    while j < BLOCK {
+        part[at + j] = bytes[j];
+        j += 1;
+    }
+}
+
+// The word of `source` at `at` goes to the same place of `part`.
+fn copy_word(part: &mut [u8], source: &[u8], at: usize)
+    requires { ⌜ (at + 8 ≤ length (now part)) × (at + 8 ≤ length (now source)) ⌝ }
+    ensures { λ _. ⌜ now (part .exit) ≡ paste (now (part .entry)) at (drop at (now (source .entry))) 8 ⌝ }
+{
+    let mut bytes = [0u8; WORD];
+    let mut i = 0usize;
+    while i < WORD {
+        bytes[i] = source[at + i];
+        i += 1;
+    }
+    let mut j = 0usize;
+    while j < WORD {
+        part[at + j] = bytes[j];
+        j += 1;
+    }
+}
 
 // The front of `part` becomes that of `source`: as many bytes as both have.
 pub fn copy_bytes(part: &mut [u8], source: &[u8])
@@ -16,7 +60,15 @@ pub fn copy_bytes(part: &mut [u8], source: &[u8])
         ++ drop (length (now (source .entry))) (now (part .entry)) ⌝ }
 {
     let n = lesser(part.len() as u64, source.len() as u64) as usize;
-    let mut i = 0;
+    let mut i = 0usize;
+    while BLOCK <= n - i {
+        copy_block(part, source, i);
+        i += BLOCK;
+    }
+    while WORD <= n - i {
+        copy_word(part, source, i);
+        i += WORD;
+    }
     while i < n {
         part[i] = source[i];
         i += 1;
