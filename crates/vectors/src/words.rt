@@ -7,6 +7,7 @@ use crate::vector::MAX_COUNT;
 use crate::vector::MAX_TOTAL;
 use crate::vector::Segment;
 use arithmetic::offsets::LARGEST;
+use arithmetic::offsets::is_multiple;
 use arithmetic::refusals::Outcome;
 use arithmetic::refusals::Refusal;
 use arithmetic::settings::Alignments;
@@ -163,10 +164,10 @@ fn has_aligned_segments(words: &[u64; 34], address: u64, mem: u64, len: u64) -> 
     let mut i = 0usize;
     while i < n {
         let p = segment_at(words, i);
-        if (address + p.start as u64) % mem != 0 {
+        if !is_multiple(address + p.start as u64, mem) {
             return false;
         }
-        if p.length as u64 % len != 0 {
+        if !is_multiple(p.length as u64, len) {
             return false;
         }
         i += 1;
