@@ -3,3 +3,5 @@ pub mod View
 pub mod Laws
 pub mod CallWords
 pub mod CallWordsLaws
+pub mod Shown
+pub mod ShownLaws
