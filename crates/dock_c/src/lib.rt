@@ -4,6 +4,7 @@ mod replies; // answers, as they cross
 pub mod parts; // vectors and blockers alone
 pub mod drive_tables; // loading a drive table, and its rows
 pub mod parameter_sheets; // many writes joined to few
+pub mod combined; // the calls that also show what is next
 
 use crate::replies::Reply;
 use crate::replies::begun_reply;

@@ -6,9 +6,9 @@ use arithmetic::settings::Profile;
 use dock::begin::Begun;
 use dock::next::Due;
 use dock::next::Piece;
+use dock::numbers::kind_number;
 use dock::tell::Collected;
 use sheets::joining::Joined;
-use stages::state::Kind;
 use stages::state::Request;
 use stages::state::size;
 use vectors::vector::Alignment;
@@ -54,18 +54,6 @@ fn reply_values(count: u64, first: u64, second: u64, third: u64, fourth: u64) ->
         second,
         third,
         fourth,
-    }
-}
-
-fn kind_number(k: Kind) -> u64
-    ensures { λ n. ⌜ n ≡ kindNumber k ⌝ }
-{
-    match k {
-        Kind::Read => 0,
-        Kind::Write => 1,
-        Kind::Zero => 2,
-        Kind::AllocatedZero => 3,
-        Kind::Discard => 4,
     }
 }
 

@@ -57,16 +57,18 @@ module _ (begun z : Begun) (e : begun ≡ z) (d : Dock) (m n : ℕ) (words : Lis
   -- one that took no slot leaves every word
   pub begun-kept : shownBegun z d m n .dock ≡ d → (x v : List ℕ)
       → ShowsAs (shownBegun begun d m n) words d × sameTwo (isAdmitted begun) x v x v
-  begun-kept k x v =
-      ((w ∙ sym (ap (λ (b : Begun). shownWords (shownBegun b d m n .answer)) e), sym k ∙ sym (ap (λ (b : Begun). shownBegun b d m n .dock) e)),
-      (same-words _ _, same-words _ _))
+  begun-kept k x v = (
+    (w ∙ sym (ap (λ (b : Begun). shownWords (shownBegun b d m n .answer)) e), sym k ∙ sym (ap (λ (b : Begun). shownBegun b d m n .dock) e)),
+    (same-words _ _, same-words _ _),
+  )
 
   pub begun-shown : isAdmitted z ≡ true → (d′ : Dock) → d′ ≡ shownBegun z d m n .dock → (x v x′ v′ : List ℕ)
       → ShowsAs (shownBegun begun d m n) words d′ × sameTwo (isAdmitted begun) x v x′ v′
   begun-shown t d′ k x v x′ v′ =
-      let u = ap isAdmitted e ∙ t in
-      ((w ∙ sym (ap (λ (b : Begun). shownWords (shownBegun b d m n .answer)) e), k ∙ sym (ap (λ (b : Begun). shownBegun b d m n .dock) e)),
-      (done-words _ _ _ u, done-words _ _ _ u))
+      let u = ap isAdmitted e ∙ t in (
+        (w ∙ sym (ap (λ (b : Begun). shownWords (shownBegun b d m n .answer)) e), k ∙ sym (ap (λ (b : Begun). shownBegun b d m n .dock) e)),
+        (done-words _ _ _ u, done-words _ _ _ u),
+      )
 
 -- ---- submit
 
@@ -98,11 +100,11 @@ module _ (d : Dock) (p code : ℕ) (memory scratch : List ℕ) (t : Told) (e : t
   unfolding completeOf
   completed-refused r o words w =
       let k : whenDone (t .outcome) (showOf (t .dock) p (length memory) (length scratch)) (λ z. record { answer = NotShown z; dock = t .dock })
-              ≡ completeOf d p code memory scratch
-            = ap (λ (z : Told). whenDone (z .outcome) (showOf (z .dock) p (length memory) (length scratch))
-                (λ y. record { answer = NotShown y; dock = z .dock })) e in
+      ≡ completeOf d p code memory scratch
+      = ap (λ (z : Told). whenDone (z .outcome) (showOf (z .dock) p (length memory) (length scratch))
+      (λ y. record { answer = NotShown y; dock = z .dock })) e in
       let j = sym (ap (λ (z : Outcome). whenDone z (showOf (t .dock) p (length memory) (length scratch))
-              (λ y. record { answer = NotShown y; dock = t .dock })) o) ∙ k in
+      (λ y. record { answer = NotShown y; dock = t .dock })) o) ∙ k in
       (w ∙ ap (λ (z : Shows). shownWords (z .answer)) j, ap (λ (z : Shows). z .dock) j)
 
   pub completed : t .outcome ≡ Done → (words : List ℕ) (d′ : Dock) → ShowsAs (showOf (t .dock) p (length memory) (length scratch)) words d′
@@ -110,11 +112,11 @@ module _ (d : Dock) (p code : ℕ) (memory scratch : List ℕ) (t : Told) (e : t
   unfolding completeOf
   completed o words d′ s =
       let k : whenDone (t .outcome) (showOf (t .dock) p (length memory) (length scratch)) (λ z. record { answer = NotShown z; dock = t .dock })
-              ≡ completeOf d p code memory scratch
-            = ap (λ (z : Told). whenDone (z .outcome) (showOf (z .dock) p (length memory) (length scratch))
-                (λ y. record { answer = NotShown y; dock = z .dock })) e in
+      ≡ completeOf d p code memory scratch
+      = ap (λ (z : Told). whenDone (z .outcome) (showOf (z .dock) p (length memory) (length scratch))
+      (λ y. record { answer = NotShown y; dock = z .dock })) e in
       let j = sym (ap (λ (z : Outcome). whenDone z (showOf (t .dock) p (length memory) (length scratch))
-              (λ y. record { answer = NotShown y; dock = t .dock })) o) ∙ k in
+      (λ y. record { answer = NotShown y; dock = t .dock })) o) ∙ k in
       (s .0 ∙ ap (λ (z : Shows). shownWords (z .answer)) j, s .1 ∙ ap (λ (z : Shows). z .dock) j)
 
   -- a refusal leaves every word

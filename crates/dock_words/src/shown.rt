@@ -48,10 +48,30 @@ fn put_request(reply: &mut [u64; 9], slot: usize, q: Request, p: Piece)
     let slot = size_word(slot);
     match p {
         Piece::InData(s) => {
-            *reply = [3, slot, kind, offset.0, q.length, pieces, 0, size_word(s.start), size_word(s.length)];
+            *reply = [
+                3,
+                slot,
+                kind,
+                offset.0,
+                q.length,
+                pieces,
+                0,
+                size_word(s.start),
+                size_word(s.length),
+            ];
         }
         Piece::InScratch(s) => {
-            *reply = [3, slot, kind, offset.0, q.length, pieces, 1, size_word(s.start), size_word(s.length)];
+            *reply = [
+                3,
+                slot,
+                kind,
+                offset.0,
+                q.length,
+                pieces,
+                1,
+                size_word(s.start),
+                size_word(s.length),
+            ];
         }
         Piece::Refused(_) => {
             *reply = [3, slot, kind, offset.0, q.length, pieces, 0, 0, 0];
@@ -77,16 +97,41 @@ pub fn show(
         slot data_len «scratch_len» .answer)) (now (states .entry)) (now (vectors .entry)) (now (states .exit))
         (now (vectors .exit)) ⌝ }
 {
-    let due = next(settings, blockers, states, vectors, slot, data_len, scratch_len);
+    let due = next(
+        settings,
+        blockers,
+        states,
+        vectors,
+        slot,
+        data_len,
+        scratch_len,
+    );
     match due {
         Due::Refused(r) => put_refusal(reply, r),
         Due::Waiting => put_short(reply, 2, size_word(slot)),
         Due::Answer(code) => {
-            collect(settings, blockers, states, vectors, slot, data_len, scratch_len);
+            collect(
+                settings,
+                blockers,
+                states,
+                vectors,
+                slot,
+                data_len,
+                scratch_len,
+            );
             put_short(reply, 1, byte_word(code));
         }
         Due::Make(q) => {
-            let p = piece(settings, blockers, states, vectors, slot, 0, data_len, scratch_len);
+            let p = piece(
+                settings,
+                blockers,
+                states,
+                vectors,
+                slot,
+                0,
+                data_len,
+                scratch_len,
+            );
             put_request(reply, slot, q, p);
         }
     }
@@ -111,7 +156,16 @@ fn show_begun(
     match begun {
         Begun::Done => put_short(reply, 1, 0),
         Begun::Refused(r) => put_refusal(reply, r),
-        Begun::Admitted(slot) => show(settings, blockers, states, vectors, slot, data_len, scratch_len, reply),
+        Begun::Admitted(slot) => show(
+            settings,
+            blockers,
+            states,
+            vectors,
+            slot,
+            data_len,
+            scratch_len,
+            reply,
+        ),
     }
 }
 
@@ -139,7 +193,16 @@ pub fn submit(
     let data_len = data.len();
     let scratch_len = scratch.len();
     let begun = begin(settings, blockers, states, vectors, asked, data, scratch);
-    show_begun(settings, blockers, states, vectors, begun, data_len, scratch_len, reply);
+    show_begun(
+        settings,
+        blockers,
+        states,
+        vectors,
+        begun,
+        data_len,
+        scratch_len,
+        reply,
+    );
 }
 
 // Hand in the code of the request that is out in `slot`, and show the slot where the code was accepted.
@@ -168,9 +231,27 @@ pub fn complete(
 {
     let data_len = data.len();
     let scratch_len = scratch.len();
-    let outcome = tell(settings, blockers, states, vectors, slot, code, data, scratch);
+    let outcome = tell(
+        settings,
+        blockers,
+        states,
+        vectors,
+        slot,
+        code,
+        data,
+        scratch,
+    );
     if let Outcome::Refused(r) = outcome {
         return put_refusal(reply, r);
     }
-    show(settings, blockers, states, vectors, slot, data_len, scratch_len, reply);
+    show(
+        settings,
+        blockers,
+        states,
+        vectors,
+        slot,
+        data_len,
+        scratch_len,
+        reply,
+    );
 }

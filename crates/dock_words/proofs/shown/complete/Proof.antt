@@ -24,12 +24,15 @@ same-length-2 : tie.Need-same-length-2
 same-length-2 c = search needs
 
 returns : tie.Need-returns
-returns c = 
+returns c =
     let a = c .before .before .before .before .before .before .before .before .before .before .before .before .before .before .before .before .before .args in
-    let e = c .before .before .before .before .before .before .before .before .before .tell .ensures .0 in
-    (completed-refused (dockOf (now (a .settings)) (now (a .blockers)) (now (a .states)) (now (a .vectors))) (a .slot) (a .code) (now (a .«data»)) (now (a .scratch)) _ e _ (c .before .before .before .outcome .given .1) _ (c .put-refusal .ensures),
-    ((ap (λ (z : Told). z .memory) e, ap (λ (z : Told). z .scratch) e),
-    complete-words (dockOf (now (a .settings)) (now (a .blockers)) (now (a .states)) (now (a .vectors))) (a .slot) (a .code) (now (a .«data»)) (now (a .scratch)) _ e _ _ _ _ _ (c .before .before .before .before .before .before .before .before .before .tell .ensures .1)))
+    let e = c .before .before .before .before .before .before .before .before .before .tell .ensures .0 in (
+      completed-refused (dockOf (now (a .settings)) (now (a .blockers)) (now (a .states)) (now (a .vectors))) (a .slot) (a .code) (now (a .«data»)) (now (a .scratch)) _ e _ (c .before .before .before .outcome .given .1) _ (c .put-refusal .ensures),
+      (
+        (ap (λ (z : Told). z .memory) e, ap (λ (z : Told). z .scratch) e),
+        complete-words (dockOf (now (a .settings)) (now (a .blockers)) (now (a .states)) (now (a .vectors))) (a .slot) (a .code) (now (a .«data»)) (now (a .scratch)) _ e _ _ _ _ _ (c .before .before .before .before .before .before .before .before .before .tell .ensures .1),
+      ),
+    )
 
 enum-told : tie.Need-enum-told
 enum-told c = search needs
@@ -44,13 +47,16 @@ same-length-4 : tie.Need-same-length-4
 same-length-4 c = search needs
 
 returns-2 : tie.Need-returns-2
-returns-2 c = 
+returns-2 c =
     let a = c .before .before .before .before .before .before .before .before .before .before .before .before .before .before .before .before .before .before .before .args in
     let e = c .before .before .before .before .before .before .before .before .before .before .before .tell .ensures .0 in
-    let o = c .before .before .before .before .before .enum-told .given .1 in
-    (completed (dockOf (now (a .settings)) (now (a .blockers)) (now (a .states)) (now (a .vectors))) (a .slot) (a .code) (now (a .«data»)) (now (a .scratch)) _ e o _ _ (c .show .ensures .0),
-    ((ap (λ (z : Told). z .memory) e, ap (λ (z : Told). z .scratch) e),
-    complete-done (dockOf (now (a .settings)) (now (a .blockers)) (now (a .states)) (now (a .vectors))) (a .slot) (a .code) (now (a .«data»)) (now (a .scratch)) _ e o _ _ _ _ _ _))
+    let o = c .before .before .before .before .before .enum-told .given .1 in (
+      completed (dockOf (now (a .settings)) (now (a .blockers)) (now (a .states)) (now (a .vectors))) (a .slot) (a .code) (now (a .«data»)) (now (a .scratch)) _ e o _ _ (c .show .ensures .0),
+      (
+        (ap (λ (z : Told). z .memory) e, ap (λ (z : Told). z .scratch) e),
+        complete-done (dockOf (now (a .settings)) (now (a .blockers)) (now (a .states)) (now (a .vectors))) (a .slot) (a .code) (now (a .«data»)) (now (a .scratch)) _ e o _ _ _ _ _ _,
+      ),
+    )
 
 pub complete-spec : {M : Type 1} → statement M
 complete-spec =
