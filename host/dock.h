@@ -7,6 +7,10 @@
  * "document 02" has the change requests to it; their numbers are the constants below. dock_serve.h has that loop ready,
  * over a store of callbacks.
  *
+ * The combined calls do the same with one call for each request: dock_submit_read and its like begin a job and show it,
+ * dock_complete tells a code and shows the job again. What is shown is the request that is out and its first piece, or
+ * that the job waits, or its final answer, which is then collected. Separate and combined calls may be mixed on a dock.
+ *
  * Who owns what, and when bytes may change:
  *
  * - Data and scratch are the caller's memory, lent at opening. They must not overlap, and must stay at their address
@@ -18,6 +22,8 @@
  * - A piece belongs to the store from the call after which dock_next shows its request until the tell of that request.
  *   The store changes bytes only in the pieces of a read; it reads the pieces of a write and leaves them as they are.
  * - A request is carried out once, and its tell hands in the code of that.
+ * - Of the combined calls a submit counts as a begin, a complete as a tell, and one that gives a final answer as a
+ *   collect.
  * - `struct dock` is the caller's. It holds no pointer into itself, so it may be moved or copied as bytes between
  *   calls; from then on only the copy that the newest call was made with counts. Two threads must not be in calls on
  *   one dock at once.
@@ -29,8 +35,9 @@
  *
  * A call that refuses changes nothing: not a word of the dock, not the vector, not the table, not the lent bytes, not
  * the joined writes and their output. Nor does a refused opening: a dock that was open stays open with its jobs, and
- * memory that was no dock is none after it. Zeroes count as a dock that refuses all: every begin with 201, next, piece,
- * tell and collect with 205 or 208. As a table they are one without rows, each row of which is refused with 201.
+ * memory that was no dock is none after it. Zeroes count as a dock that refuses all: every begin and submit with 201,
+ * next, piece, tell, collect, complete and show with 205 or 208. As a table they are one without rows, each row of
+ * which is refused with 201.
  *
  * Null pointers: a buffer of length 0 may be null. One that is null and has a length is refused with 205; at opening
  * 201 comes before it, in other calls nothing does. Null for the bytes of a table counts as no record, whatever the
@@ -205,6 +212,23 @@ struct dock_part {
     uint8_t refusal; /* 0 where there is a piece */
 };
 
+enum dock_shown_tag {
+    DOCK_SHOWN_REFUSED, /* `refusal` says why */
+    DOCK_SHOWN_ANSWER,  /* ended with `answer`: 0, 1 to 199, or 207. It is collected: the slot is free */
+    DOCK_SHOWN_WAITING, /* the job in `slot`, for one that must end its stage first: show it after a tell or complete */
+    DOCK_SHOWN_REQUEST  /* `request` is out for the job in `slot` */
+};
+
+/* What a combined call gives. Fields that the tag does not name are 0, and `first` is then null with 208. */
+struct dock_shown {
+    enum dock_shown_tag tag;
+    size_t slot;
+    struct dock_request request;
+    struct dock_part first; /* its piece 0, as dock_piece gives it: null with 208 where the request has no piece */
+    uint8_t answer;
+    uint8_t refusal;
+};
+
 /* The alignments of a table's row: `refusal` is 0 where the others count. */
 struct dock_row {
     uint64_t mem;
@@ -241,6 +265,20 @@ struct dock_words_reply {
     uint64_t number; /* 256: no number, only values */
     uint64_t count;
     uint64_t value[4];
+};
+
+/* The words that a combined call writes into its reply: all of them, 0 where there is nothing to say. */
+enum dock_words_shown {
+    DOCK_WORDS_WHAT,         /* 0 refused, 1 the final answer, 2 waiting, 3 a request is out */
+    DOCK_WORDS_NUMBER,       /* the refusal or the answer; where it waits or has a request out, the slot */
+    DOCK_WORDS_KIND,         /* of the request, as are offset, length and pieces */
+    DOCK_WORDS_OFFSET,
+    DOCK_WORDS_LENGTH,
+    DOCK_WORDS_PIECES,
+    DOCK_WORDS_BUFFER,       /* of its first piece: 0 data, 1 scratch */
+    DOCK_WORDS_START,
+    DOCK_WORDS_PIECE_LENGTH, /* 0 where the request has no piece */
+    DOCK_WORDS_SHOWN         /* how many they are */
 };
 
 uint8_t dock_words_open(uint64_t *settings, uint64_t *blockers, uint64_t *states, uint64_t *vectors, uint64_t mem,
@@ -282,6 +320,23 @@ uint8_t dock_words_tell(const uint64_t *settings, uint64_t *blockers, uint64_t *
                         size_t scratch_len);
 uint8_t dock_words_collect(const uint64_t *settings, const uint64_t *blockers, uint64_t *states, uint64_t *vectors,
                            size_t slot, size_t data_len, size_t scratch_len);
+void dock_words_submit_read(const uint64_t *settings, uint64_t *blockers, uint64_t *states, uint64_t *vectors,
+                            uint64_t offset, const uint64_t *vector, const uint8_t *data, size_t data_len,
+                            uint8_t *scratch, size_t scratch_len, uint64_t *reply);
+void dock_words_submit_write(const uint64_t *settings, uint64_t *blockers, uint64_t *states, uint64_t *vectors,
+                             uint64_t offset, const uint64_t *vector, const uint8_t *data, size_t data_len,
+                             uint8_t *scratch, size_t scratch_len, uint64_t *reply);
+void dock_words_submit_zeroes(const uint64_t *settings, uint64_t *blockers, uint64_t *states, uint64_t *vectors,
+                              uint8_t allocate, uint64_t offset, uint64_t length, const uint8_t *data, size_t data_len,
+                              uint8_t *scratch, size_t scratch_len, uint64_t *reply);
+void dock_words_submit_discard(const uint64_t *settings, uint64_t *blockers, uint64_t *states, uint64_t *vectors,
+                               uint64_t offset, uint64_t length, const uint8_t *data, size_t data_len, uint8_t *scratch,
+                               size_t scratch_len, uint64_t *reply);
+void dock_words_complete(const uint64_t *settings, uint64_t *blockers, uint64_t *states, uint64_t *vectors, size_t slot,
+                         uint8_t code, uint8_t *data, size_t data_len, uint8_t *scratch, size_t scratch_len,
+                         uint64_t *reply);
+void dock_words_show(const uint64_t *settings, const uint64_t *blockers, uint64_t *states, uint64_t *vectors,
+                     size_t slot, size_t data_len, size_t scratch_len, uint64_t *reply);
 struct dock_words_reply dock_words_chunks(const uint64_t *settings, uint64_t offset, uint64_t length);
 struct dock_words_reply dock_words_chunk(const uint64_t *settings, uint64_t offset, uint64_t length, uint64_t i);
 
@@ -570,6 +625,116 @@ static inline uint8_t dock_collect(struct dock *dock, size_t slot, const struct 
         return DOCK_BUFFER;
     return dock_words_collect(dock->settings, dock->blockers, dock->states, dock->vectors, slot, lent->data_len,
                               lent->scratch_len);
+}
+
+/* ---- The combined calls: one for each request ---- */
+
+static inline struct dock_shown dock_shown_refused(uint8_t refusal)
+{
+    struct dock_shown shown = { DOCK_SHOWN_REFUSED, 0, { DOCK_READ, 0, 0, 0 }, { NULL, 0, DOCK_SLOT }, 0, 0 };
+    shown.refusal = refusal;
+    return shown;
+}
+
+static inline struct dock_shown dock_shown_of(const uint64_t *reply, const struct dock_lent *lent)
+{
+    struct dock_shown shown = dock_shown_refused(0);
+    shown.tag = (enum dock_shown_tag)reply[DOCK_WORDS_WHAT];
+    if (shown.tag == DOCK_SHOWN_REFUSED)
+        shown.refusal = (uint8_t)reply[DOCK_WORDS_NUMBER];
+    else if (shown.tag == DOCK_SHOWN_ANSWER)
+        shown.answer = (uint8_t)reply[DOCK_WORDS_NUMBER];
+    else
+        shown.slot = (size_t)reply[DOCK_WORDS_NUMBER];
+    shown.request.kind = (enum dock_kind)reply[DOCK_WORDS_KIND];
+    shown.request.offset = reply[DOCK_WORDS_OFFSET];
+    shown.request.length = reply[DOCK_WORDS_LENGTH];
+    shown.request.pieces = (size_t)reply[DOCK_WORDS_PIECES];
+    if (reply[DOCK_WORDS_PIECE_LENGTH] != 0) {
+        shown.first.bytes = (reply[DOCK_WORDS_BUFFER] == 0 ? lent->data : lent->scratch) + reply[DOCK_WORDS_START];
+        shown.first.length = (size_t)reply[DOCK_WORDS_PIECE_LENGTH];
+        shown.first.refusal = 0;
+    }
+    return shown;
+}
+
+/* Begins a read as dock_begin_read does and shows it. Where there is nothing to do, the answer is 0 and no slot was
+ * taken. Refused with what begin refuses with, 201 to 207; so are the other three. */
+static inline struct dock_shown dock_submit_read(struct dock *dock, uint64_t offset, const struct dock_vector *vector,
+                                                 const struct dock_lent *lent)
+{
+    uint64_t reply[DOCK_WORDS_SHOWN];
+    if (dock_lent_lacks(lent))
+        return dock_shown_refused(DOCK_BUFFER);
+    dock_words_submit_read(dock->settings, dock->blockers, dock->states, dock->vectors, offset, vector->words,
+                           dock_not_null(lent->data), lent->data_len, dock_not_null(lent->scratch), lent->scratch_len,
+                           reply);
+    return dock_shown_of(reply, lent);
+}
+
+/* The same for dock_begin_write. */
+static inline struct dock_shown dock_submit_write(struct dock *dock, uint64_t offset, const struct dock_vector *vector,
+                                                  const struct dock_lent *lent)
+{
+    uint64_t reply[DOCK_WORDS_SHOWN];
+    if (dock_lent_lacks(lent))
+        return dock_shown_refused(DOCK_BUFFER);
+    dock_words_submit_write(dock->settings, dock->blockers, dock->states, dock->vectors, offset, vector->words,
+                            dock_not_null(lent->data), lent->data_len, dock_not_null(lent->scratch), lent->scratch_len,
+                            reply);
+    return dock_shown_of(reply, lent);
+}
+
+/* The same for dock_begin_zeroes. */
+static inline struct dock_shown dock_submit_zeroes(struct dock *dock, int allocate, uint64_t offset, uint64_t length,
+                                                   const struct dock_lent *lent)
+{
+    uint64_t reply[DOCK_WORDS_SHOWN];
+    if (dock_lent_lacks(lent))
+        return dock_shown_refused(DOCK_BUFFER);
+    dock_words_submit_zeroes(dock->settings, dock->blockers, dock->states, dock->vectors, allocate != 0, offset, length,
+                             dock_not_null(lent->data), lent->data_len, dock_not_null(lent->scratch), lent->scratch_len,
+                             reply);
+    return dock_shown_of(reply, lent);
+}
+
+/* The same for dock_begin_discard. */
+static inline struct dock_shown dock_submit_discard(struct dock *dock, uint64_t offset, uint64_t length,
+                                                    const struct dock_lent *lent)
+{
+    uint64_t reply[DOCK_WORDS_SHOWN];
+    if (dock_lent_lacks(lent))
+        return dock_shown_refused(DOCK_BUFFER);
+    dock_words_submit_discard(dock->settings, dock->blockers, dock->states, dock->vectors, offset, length,
+                              dock_not_null(lent->data), lent->data_len, dock_not_null(lent->scratch),
+                              lent->scratch_len, reply);
+    return dock_shown_of(reply, lent);
+}
+
+/* Hands in the code of the request that is out for `slot` as dock_tell does, and shows what the job needs then. Refused
+ * with 205, 208 or 209, as a tell is. Other jobs that waited for this one are shown by dock_show. */
+static inline struct dock_shown dock_complete(struct dock *dock, size_t slot, uint8_t code,
+                                              const struct dock_lent *lent)
+{
+    uint64_t reply[DOCK_WORDS_SHOWN];
+    if (dock_lent_lacks(lent))
+        return dock_shown_refused(DOCK_BUFFER);
+    dock_words_complete(dock->settings, dock->blockers, dock->states, dock->vectors, slot, code,
+                        dock_not_null(lent->data), lent->data_len, dock_not_null(lent->scratch), lent->scratch_len,
+                        reply);
+    return dock_shown_of(reply, lent);
+}
+
+/* What the job in `slot` needs now, as dock_next says it, and the first piece of its request. A final answer is
+ * collected; where there is none yet, nothing changes. Refused with 205 or 208. */
+static inline struct dock_shown dock_show(struct dock *dock, size_t slot, const struct dock_lent *lent)
+{
+    uint64_t reply[DOCK_WORDS_SHOWN];
+    if (dock_lent_lacks(lent))
+        return dock_shown_refused(DOCK_BUFFER);
+    dock_words_show(dock->settings, dock->blockers, dock->states, dock->vectors, slot, lent->data_len,
+                    lent->scratch_len, reply);
+    return dock_shown_of(reply, lent);
 }
 
 /* ---- The planner, by the dock's settings: refused with 201, 207, 210 ---- */
