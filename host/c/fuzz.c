@@ -2,11 +2,13 @@
  * Random words, arguments and buffers against the raw calls of libdock_c.a: fuzz [SECONDS [SEED [EPISODE]]], 60
  * seconds and seed 1 unless said. Each array and buffer lies between two pages that nobody may touch, its end (or its
  * start) right at one of them. After each call: it has returned; where it refuses, no word and no byte has changed;
- * where it does not, only what is the call's to change; its number is one of the documents' for the call. An episode
- * depends on seed and number alone: a failure names both.
+ * where it does not, only what is the call's to change; its number is one of the documents' for the call. Combined
+ * calls are made among the separate ones: they leave the words and bytes that the separate ones leave on copies, and
+ * all nine words of a reply are what these give. An episode depends on seed and number alone: a failure names both.
  */
 #include "guard.h"
 
+#include "composed.h"
 #include "draw.h"
 
 #include <time.h>
@@ -35,13 +37,21 @@ enum call {
     COLLECT,
     CHUNKS,
     CHUNK,
+    SUBMIT_READ,
+    SUBMIT_WRITE,
+    SUBMIT_ZEROES,
+    SUBMIT_DISCARD,
+    COMPLETE,
+    SHOW,
     CALLS
 };
 
-static const char *const names[] = { "open",         "open_row",      "open_table", "load_table",
-                                     "table_row",    "join",          "begin_read", "begin_write",
-                                     "begin_zeroes", "begin_discard", "next",       "piece",
-                                     "tell",         "collect",       "chunks",     "chunk" };
+static const char *const names[] = { "open",         "open_row",      "open_table",    "load_table",
+                                     "table_row",    "join",          "begin_read",    "begin_write",
+                                     "begin_zeroes", "begin_discard", "next",          "piece",
+                                     "tell",         "collect",       "chunks",        "chunk",
+                                     "submit_read",  "submit_write",  "submit_zeroes", "submit_discard",
+                                     "complete",     "show" };
 static volatile sig_atomic_t at_call;
 
 static void fail(const char *what)
@@ -79,6 +89,7 @@ enum area_index {
     VECTOR,
     TABLE,
     JOINED,
+    REPLY,
     WRITES,
     OUTPUT,
     TABLE_BYTES,
@@ -88,7 +99,7 @@ enum area_index {
 };
 
 static struct area areas[AREAS];
-static const size_t words_of[] = { 9, 88, 144, 272, 34, 257, 192 }; /* to JOINED; the others have any length */
+static const size_t words_of[] = { 9, 88, 144, 272, 34, 257, 192, 9 }; /* to REPLY; the others have any length */
 static const size_t row_of[] = { 0, 11, 18, 34 };
 enum room { WRITES_ROOM = 4096, OUTPUT_ROOM = 4096, TABLE_ROOM = 4096, DATA_ROOM = 8192, SCRATCH_ROOM = 32768 };
 
@@ -667,6 +678,131 @@ static void try_collect(size_t slot)
     check(raw_next(slot).number == 208, "left the slot taken");
 }
 
+/* ---- The combined calls, beside the separate ones on copies ---- */
+
+static uint64_t shown[4];
+
+static struct side side_here(void)
+{
+    struct side here = { NULL, NULL, NULL, NULL, NULL, 0, NULL, 0 };
+    here.settings = words(SETTINGS);
+    here.blockers = words(BLOCKERS);
+    here.states = words(STATES);
+    here.vectors = words(VECTORS);
+    here.data = areas[LENT_DATA].at;
+    here.data_len = areas[LENT_DATA].length;
+    here.scratch = areas[LENT_SCRATCH].at;
+    here.scratch_len = areas[LENT_SCRATCH].length;
+    return here;
+}
+
+/* The same words and bytes elsewhere. Requests are direct or not by the addresses in the settings, which are these. */
+static struct side side_copied(void)
+{
+    static struct dock dock;
+    static uint8_t data[DATA_ROOM];
+    static uint8_t scratch[SCRATCH_ROOM];
+    struct side copied = { dock.settings, dock.blockers, dock.states, dock.vectors, data, 0, scratch, 0 };
+    copied.data_len = areas[LENT_DATA].length;
+    copied.scratch_len = areas[LENT_SCRATCH].length;
+    memcpy(dock.settings, words(SETTINGS), sizeof dock.settings);
+    memcpy(dock.blockers, words(BLOCKERS), sizeof dock.blockers);
+    memcpy(dock.states, words(STATES), sizeof dock.states);
+    memcpy(dock.vectors, words(VECTORS), sizeof dock.vectors);
+    memcpy(data, areas[LENT_DATA].at, copied.data_len);
+    memcpy(scratch, areas[LENT_SCRATCH].at, copied.scratch_len);
+    return copied;
+}
+
+/* Takes the reply out of its area, which is then as before the call: what is left there is compared with that. */
+static void take_reply(uint64_t *reply)
+{
+    struct area *area = &areas[REPLY];
+    check(same_but(REPLY, 0, area->length), "wrote outside its reply");
+    memcpy(reply, area->at, area->length);
+    memcpy(area->at, area->before + (area->at - area->room), area->length);
+}
+
+/* What stays outside the arrays and the lent bytes, and all that a combined call only reads. */
+static void check_kept(void)
+{
+    int i;
+    check(same_but(BLOCKERS, 0, 704) && same_but(STATES, 0, 1152) && same_but(VECTORS, 0, 2176)
+              && same_but(LENT_DATA, 0, areas[LENT_DATA].length)
+              && same_but(LENT_SCRATCH, 0, areas[LENT_SCRATCH].length),
+          "wrote outside its arrays");
+    check(same(SETTINGS), "changed the settings");
+    for (i = VECTOR; i < LENT_DATA; i++)
+        check(same((enum area_index)i), "changed what is not its to change");
+}
+
+/* The reply is the one that the separate calls give on the copies, and so is all else. */
+static void check_combined(const struct side *copied, const uint64_t *wanted)
+{
+    struct side here = side_here();
+    uint64_t reply[DOCK_WORDS_SHOWN];
+    take_reply(reply);
+    done(reply[0] != DOCK_SHOWN_REFUSED);
+    check(memcmp(reply, wanted, sizeof reply) == 0, "another reply than the separate calls give");
+    check(same_words(&here, copied), "left other words than the separate calls");
+    check(same_bytes(&here, copied), "left other bytes than the separate calls");
+    check_kept();
+    check(at_call != SHOW || reply[0] == DOCK_SHOWN_ANSWER || all_same(), "changed something, and collected nothing");
+    shown[reply[0]]++;
+}
+
+/* Words and bytes that a call has left in a reply are there for the next one: some are any words. */
+static void start_combined(enum call call)
+{
+    if (one_in(2))
+        put_words(REPLY);
+    keep();
+    at_call = (sig_atomic_t)call;
+}
+
+static void try_submit(enum call call)
+{
+    static const enum dock_kind kinds[] = { DOCK_READ, DOCK_WRITE, DOCK_ZERO, DOCK_DISCARD };
+    struct side here = side_here();
+    struct submission what = { DOCK_READ, 0, NULL, 0, 0 };
+    uint64_t wanted[DOCK_WORDS_SHOWN];
+    struct side copied;
+    what.kind = kinds[call - SUBMIT_READ];
+    what.offset = any_offset();
+    what.length = any_length();
+    what.vector = words(VECTOR);
+    what.allocate = (uint8_t)below(3);
+    put_vector();
+    copied = side_copied();
+    start_combined(call);
+    combined_submit(&here, &what, words(REPLY));
+    composed_submit(&copied, &what, wanted);
+    check_combined(&copied, wanted);
+}
+
+static void try_complete(size_t slot)
+{
+    struct side here = side_here();
+    struct side copied = side_copied();
+    uint64_t wanted[DOCK_WORDS_SHOWN];
+    uint8_t code = any_code();
+    start_combined(COMPLETE);
+    combined_complete(&here, slot, code, words(REPLY));
+    composed_complete(&copied, slot, code, wanted);
+    check_combined(&copied, wanted);
+}
+
+static void try_show(size_t slot)
+{
+    struct side here = side_here();
+    struct side copied = side_copied();
+    uint64_t wanted[DOCK_WORDS_SHOWN];
+    start_combined(SHOW);
+    combined_show(&here, slot, words(REPLY));
+    composed_show(&copied, slot, wanted);
+    check_combined(&copied, wanted);
+}
+
 static void try_planner(enum call call)
 {
     uint64_t req = words(SETTINGS)[1];
@@ -699,23 +835,27 @@ static void try_planner(enum call call)
 static void try_any(void)
 {
     size_t slot = any_slot();
+    int combines = one_in(2);
     switch (below(10)) {
     case 0:
     case 1:
     case 2:
-        try_begin((enum call)(BEGIN_READ + below(4)));
+        if (combines)
+            try_submit((enum call)(SUBMIT_READ + below(4)));
+        else
+            try_begin((enum call)(BEGIN_READ + below(4)));
         break;
     case 3:
     case 4:
     case 5:
         carry(slot);
-        try_tell(slot);
+        (combines ? try_complete : try_tell)(slot);
         break;
     case 6:
-        try_tell(slot);
+        (combines ? try_complete : try_tell)(slot);
         break;
     case 7:
-        try_collect(slot);
+        (combines ? try_show : try_collect)(slot);
         break;
     case 8:
         try_piece(slot, one_in(4) ? (size_t)any_word() : (size_t)below(3), 0);
@@ -754,7 +894,7 @@ static void place_all(uint64_t *args)
 {
     int i;
     at_end = !one_in(3);
-    for (i = 0; i <= JOINED; i++)
+    for (i = 0; i <= REPLY; i++)
         place(&areas[i], words_of[i] * 8, at_end);
     for (; i < LENT_DATA; i++)
         place(&areas[i], 0, at_end);
@@ -863,14 +1003,18 @@ static void summary(void)
         at_call = i;
         check(accepted[i] > 0 && accepted[i] < counts[i], "was never accepted, or never refused");
     }
+    check(shown[0] > 0 && shown[1] > 0 && shown[2] > 0 && shown[3] > 0, "something was never shown");
+    printf("  shown: %llu refusals, %llu final answers, %llu times waiting, %llu requests\n",
+           (unsigned long long)shown[0], (unsigned long long)shown[1], (unsigned long long)shown[2],
+           (unsigned long long)shown[3]);
     printf("%llu calls, %llu accepted, %llu of these on a dock that calls made; no failure\n",
            (unsigned long long)sum(counts), (unsigned long long)sum(accepted), (unsigned long long)accepted_made);
 }
 
 int main(int argc, char **argv)
 {
-    static const size_t rooms[] = { 4096,        4096,        4096,       4096,      4096,        4096, 4096,
-                                    WRITES_ROOM, OUTPUT_ROOM, TABLE_ROOM, DATA_ROOM, SCRATCH_ROOM };
+    static const size_t rooms[] = { 4096, 4096,        4096,        4096,       4096,      4096,        4096,
+                                    4096, WRITES_ROOM, OUTPUT_ROOM, TABLE_ROOM, DATA_ROOM, SCRATCH_ROOM };
     long seconds = argc > 1 ? strtol(argv[1], NULL, 10) : 60;
     time_t start = time(NULL);
     time_t shown = start;
