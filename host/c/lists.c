@@ -2,9 +2,11 @@
  * Random lists of events on the library, over a store in memory that fails as it likes: lists [SECONDS [SEED [LIST]]],
  * 60 seconds and seed 1 unless said. The dock is opened by a built-in drive row, by a row of a loaded table or with
  * settings. Requests are compared with those that document 01's rules give; after each carry the store with the plain
- * byte store, byte by byte; at each collect a read's bytes with what its step yielded.
+ * byte store, byte by byte; at each collect a read's bytes with what its step yielded. An event is made by separate
+ * calls or by a combined one, as is drawn, and by separate calls on a twin: both show the same, and have the same words
+ * and bytes after it.
  */
-#include "rules.h"
+#include "twin.h"
 
 #include <time.h>
 
@@ -42,12 +44,6 @@ static void carry(size_t slot, const struct dock_request *request, uint8_t code)
 
 static uint64_t waited;
 
-static void try_begin(void)
-{
-    struct ask ask = any_ask();
-    begin_job(&ask);
-}
-
 /* The pieces of the slot's request are those that the rules give. */
 static void check_pieces(size_t slot, const struct dock_request *request)
 {
@@ -57,34 +53,74 @@ static void check_pieces(size_t slot, const struct dock_request *request)
         check(dock_piece(&dock, slot, i, &lent).bytes == piece_at(slot, i), "a piece elsewhere than the rules give");
 }
 
-/* Carries the slot's request out and tells its code, where it is out. */
+/* The slot's request is the one that the rules give. */
+static void check_request(size_t slot, const struct dock_request *request)
+{
+    enum dock_kind kind;
+    struct range range = request_of(&jobs[slot], &kind);
+    check(request->kind == kind && request->offset == range.start && request->length == range.end - range.start,
+          "another request than the rules give");
+    check_pieces(slot, request);
+}
+
+/* What is shown of a slot is by the rules; an answer is collected so. */
+static void take_shown(size_t slot, struct dock_shown shown)
+{
+    const struct job *job = &jobs[slot];
+    check((shown.tag == DOCK_SHOWN_ANSWER) == (job->in_flight && job->ended), "an answer before the end, or none then");
+    check((shown.tag == DOCK_SHOWN_REFUSED) == !job->in_flight, "a job in flight is refused, or a free slot is shown");
+    if (shown.tag == DOCK_SHOWN_ANSWER) {
+        collect_job(slot, shown.answer);
+    } else if (shown.tag == DOCK_SHOWN_REQUEST) {
+        check_request(slot, &shown.request);
+        check(shown.first.bytes == piece_at(slot, 0), "a first piece elsewhere than the rules give");
+    } else if (shown.tag == DOCK_SHOWN_REFUSED) {
+        check(shown.refusal == DOCK_SLOT, "a free slot is refused with another number");
+    }
+}
+
+static void try_begin(void)
+{
+    struct ask ask = any_ask();
+    begin_both(&ask);
+}
+
+static void try_show(size_t slot)
+{
+    take_shown(slot, show_both(slot));
+}
+
+/* Carries the slot's request out and hands in its code, where it is out; now and then what is no code before that. */
 static void try_carry(size_t slot)
 {
     struct job *job = &jobs[slot];
     struct dock_due due = dock_next(&dock, slot, &lent);
-    struct range range;
-    enum dock_kind kind;
+    struct dock_shown shown;
     uint8_t code = any_code();
     if (!job->in_flight || job->ended || due.tag == DOCK_DUE_WAITING) {
         waited += job->in_flight && !job->ended;
-        check(dock_tell(&dock, slot, code, &lent) == DOCK_SLOT, "a tell with no request out");
+        check(tell_both(slot, code).refusal == DOCK_SLOT, "a tell with no request out");
         return;
     }
-    range = request_of(job, &kind);
-    check(due.tag == DOCK_DUE_REQUEST && due.request.kind == kind && due.request.offset == range.start
-              && due.request.length == range.end - range.start,
-          "another request than the rules give");
-    check_pieces(slot, &due.request);
+    check(due.tag == DOCK_DUE_REQUEST, "a job that has not ended has no request out, and does not wait");
+    check_request(slot, &due.request);
+    if (one_in(16))
+        check(tell_both(slot, (uint8_t)(200 + below(56))).refusal == DOCK_NO_ANSWER, "what is no code is told");
     choice = rnd();
     carry(slot, &due.request, code);
-    step(slot, kind, code);
-    check(dock_tell(&dock, slot, code, &lent) == 0, "a tell is refused");
+    if (due.request.kind == DOCK_READ)
+        copy_pieces(slot, due.request.pieces);
+    step(slot, due.request.kind, code);
+    shown = tell_both(slot, code);
+    check(shown.refusal == 0, "a tell is refused");
+    if (shown.tag != DOCK_SHOWN_REFUSED)
+        take_shown(slot, shown);
 }
 
 static void try_collect(size_t slot)
 {
     struct job *job = &jobs[slot];
-    uint8_t number = dock_collect(&dock, slot, &lent);
+    uint8_t number = collect_both(slot);
     if (!job->in_flight || !job->ended) {
         check(number == DOCK_SLOT, "a collect before the end");
         return;
@@ -111,6 +147,7 @@ static void run_list(void)
     random_state = seed * UINT64_C(0xd1342543de82ef95) + list;
     put_content();
     open_choice((size_t)below(CHOICES));
+    open_twin();
     for (i = 0; i < EVENTS; i++) {
         uint64_t event = below(16);
         size_t slot = (size_t)below(DOCK_SLOTS);
@@ -118,10 +155,12 @@ static void run_list(void)
             try_begin();
         else if (event < 13)
             try_carry(slot);
-        else if (event < 15)
+        else if (event < 14)
             try_collect(slot);
+        else if (event < 15)
+            try_show(slot);
         else
-            change_data();
+            change_both();
         check_progress();
     }
 }
@@ -143,11 +182,14 @@ int main(int argc, char **argv)
         }
     }
     check(begun > 0 && refused > 0 && carried > 0 && waited > 0 && collected > 0 && fallbacks > 0 && joined > 0
-              && left_apart > 0 && by_table > 0,
+              && left_apart > 0 && by_table > 0 && all_were_shown(),
           "something was never reached");
     printf("%llu begun, %llu refused, %llu carried, ", (unsigned long long)begun, (unsigned long long)refused,
            (unsigned long long)carried);
-    printf("%llu times waiting, %llu fallbacks, %llu collected; no difference\n", (unsigned long long)waited,
+    printf("%llu times waiting, %llu fallbacks, %llu collected; ", (unsigned long long)waited,
            (unsigned long long)fallbacks, (unsigned long long)collected);
+    printf("shown %llu refusals, %llu answers, %llu times waiting, %llu requests; no difference\n",
+           (unsigned long long)shown_refusals, (unsigned long long)shown_answers, (unsigned long long)shown_waiting,
+           (unsigned long long)shown_requests);
     return EXIT_SUCCESS;
 }

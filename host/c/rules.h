@@ -399,24 +399,28 @@ static inline void admit(struct job *job, const struct ask *ask)
     }
 }
 
-static inline struct dock_begun begin(const struct ask *ask)
+static inline struct dock_begun begin_on(struct dock *on, const struct ask *ask, const struct dock_lent *with)
 {
     uint64_t offset = ask->range.start;
     uint64_t length = ask->range.end - offset;
     if (ask->kind == DOCK_READ)
-        return dock_begin_read(&dock, offset, &ask->vector, &lent);
+        return dock_begin_read(on, offset, &ask->vector, with);
     if (ask->kind == DOCK_WRITE)
-        return dock_begin_write(&dock, offset, &ask->vector, &lent);
+        return dock_begin_write(on, offset, &ask->vector, with);
     if (ask->kind == DOCK_DISCARD)
-        return dock_begin_discard(&dock, offset, length, &lent);
-    return dock_begin_zeroes(&dock, ask->kind == DOCK_ALLOCATED_ZERO, offset, length, &lent);
+        return dock_begin_discard(on, offset, length, with);
+    return dock_begin_zeroes(on, ask->kind == DOCK_ALLOCATED_ZERO, offset, length, with);
 }
 
-/* Begins what is asked for, on the dock and by the rules. The job, or null where it is done or refused. */
-static inline struct job *begin_job(const struct ask *ask)
+static inline struct dock_begun begin(const struct ask *ask)
+{
+    return begin_on(&dock, ask, &lent);
+}
+
+/* Enters by the rules what was asked for, as its begin was answered. The job, or null where it is done or refused. */
+static inline struct job *begun_job(const struct ask *ask, struct dock_begun answer)
 {
     struct range middle = middle_of(ask->kind, ask->range);
-    struct dock_begun answer = begin(ask);
     if (answer.tag == DOCK_BEGUN_DONE) {
         check(middle.start >= middle.end && ask->kind == DOCK_DISCARD, "done with work to do");
         return NULL;

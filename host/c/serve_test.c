@@ -2,11 +2,12 @@
  * dock_serve.h: every callback, null callbacks, every code, jobs that wait, words of no call's making; then random runs
  * over all drive rows: serve_test [SECONDS [SEED [LIST]]], 2 seconds and seed 1 unless said. In a random run each
  * request is one that document 01's rules give, carried out once, and after it the store is as the plain byte store,
- * byte by byte; each answer is the rules', and a read answered 0 holds what its step yielded.
+ * byte by byte; each answer is the rules', and a read answered 0 holds what its step yielded. A twin is served by the
+ * separate calls alone: it makes the same requests in the same order, and has the same answers, words and bytes.
  */
 #define _POSIX_C_SOURCE 200809L
 #include "../dock_serve.h"
-#include "rules.h"
+#include "twin.h"
 
 #include <limits.h>
 #include <time.h>
@@ -531,6 +532,171 @@ static int any_number(uint8_t *code)
     return number;
 }
 
+/* ---- What was carried out, for the twin to be told the same ---- */
+
+enum { TRACE = 8192, POOL = 1 << 23 };
+
+struct carried_out {
+    enum dock_kind kind;
+    uint64_t offset;
+    uint64_t length;
+    struct dock_take pieces[DOCK_SEGMENTS];
+    size_t count;
+    const uint8_t *bytes; /* of its pieces, one after the other */
+    int number;
+};
+
+static struct carried_out trace[TRACE];
+static size_t traced;
+static size_t replayed;
+static uint8_t pool[POOL];
+static size_t pooled;
+
+static void start_trace(void)
+{
+    traced = 0;
+    replayed = 0;
+    pooled = 0;
+}
+
+static void put_down(enum dock_kind kind, uint64_t offset, uint64_t length, const struct dock_take *pieces,
+                     size_t count, int number)
+{
+    struct carried_out *at = &trace[traced++];
+    size_t i;
+    check(traced < TRACE, "more requests than the test puts down");
+    at->kind = kind;
+    at->offset = offset;
+    at->length = length;
+    at->count = count;
+    at->bytes = pool + pooled;
+    at->number = number;
+    for (i = 0; i < count; i++) {
+        check(pieces[i].length <= POOL - pooled, "more bytes than the test puts down");
+        at->pieces[i] = pieces[i];
+        memcpy(pool + pooled, pieces[i].bytes, pieces[i].length);
+        pooled += pieces[i].length;
+    }
+}
+
+/* The twin's next request is the next that was put down, and its pieces lie where those of the first dock lay. */
+static const struct carried_out *again(enum dock_kind kind, uint64_t offset, uint64_t length,
+                                       const struct dock_take *pieces, size_t count)
+{
+    const struct carried_out *at = &trace[replayed++];
+    size_t i;
+    check(replayed <= traced, "the separate calls make a request more");
+    check(at->kind == kind && at->offset == offset && at->length == length && at->count == count,
+          "the separate calls make another request, or in another order");
+    for (i = 0; i < count; i++) {
+        struct dock_part part = { NULL, 0, 0 };
+        part.bytes = (uint8_t *)(uintptr_t)pieces[i].bytes;
+        check(part_of_first(part).bytes == at->pieces[i].bytes && pieces[i].length == at->pieces[i].length,
+              "the separate calls give another piece");
+    }
+    return at;
+}
+
+static uint64_t length_of(const struct dock_take *pieces, size_t count)
+{
+    uint64_t length = 0;
+    size_t i;
+    for (i = 0; i < count; i++)
+        length += pieces[i].length;
+    return length;
+}
+
+static int read_again(void *context, uint64_t offset, const struct dock_fill *pieces, size_t count)
+{
+    struct dock_take taken[DOCK_SEGMENTS] = { { NULL, 0 } };
+    const struct carried_out *at;
+    const uint8_t *from;
+    size_t i;
+    (void)context;
+    for (i = 0; i < count; i++) {
+        taken[i].bytes = pieces[i].bytes;
+        taken[i].length = pieces[i].length;
+    }
+    at = again(DOCK_READ, offset, length_of(taken, count), taken, count);
+    for (i = 0, from = at->bytes; i < count; from += pieces[i++].length)
+        memcpy(pieces[i].bytes, from, pieces[i].length);
+    return at->number;
+}
+
+static int write_again(void *context, uint64_t offset, const struct dock_take *pieces, size_t count)
+{
+    const struct carried_out *at = again(DOCK_WRITE, offset, length_of(pieces, count), pieces, count);
+    const uint8_t *from = at->bytes;
+    size_t i;
+    (void)context;
+    for (i = 0; i < count; from += pieces[i++].length)
+        check(memcmp(pieces[i].bytes, from, pieces[i].length) == 0, "the separate calls write other bytes");
+    return at->number;
+}
+
+static int zero_again(void *context, uint64_t offset, uint64_t length)
+{
+    (void)context;
+    return again(DOCK_ZERO, offset, length, NULL, 0)->number;
+}
+
+static int allocated_zero_again(void *context, uint64_t offset, uint64_t length)
+{
+    (void)context;
+    return again(DOCK_ALLOCATED_ZERO, offset, length, NULL, 0)->number;
+}
+
+static int discard_again(void *context, uint64_t offset, uint64_t length)
+{
+    (void)context;
+    return again(DOCK_DISCARD, offset, length, NULL, 0)->number;
+}
+
+/* A store that lacks what the random one lacks. */
+static struct dock_store drive_again(void)
+{
+    struct dock_store store_again = { NULL, read_again, write_again, NULL, NULL, NULL };
+    store_again.zero = random_drive.zero == NULL ? NULL : zero_again;
+    store_again.allocated_zero = random_drive.allocated_zero == NULL ? NULL : allocated_zero_again;
+    store_again.discard = random_drive.discard == NULL ? NULL : discard_again;
+    return store_again;
+}
+
+/* Serves the twin by next, piece, tell and collect, until all its jobs have ended. */
+static void serve_twin(const uint8_t *wanted)
+{
+    struct dock_store store_again = drive_again();
+    uint8_t found[DOCK_SLOTS];
+    uint8_t refusal;
+    size_t in_flight;
+    memset(found, DOCK_SLOT, sizeof found);
+    do {
+        refusal = dock_serve_turns(&twin, &store_again, &twin_lent);
+        in_flight = dock_collect_ended(&twin, found, &twin_lent);
+    } while (refusal == 0 && in_flight > 0);
+    check(in_flight == 0 && replayed == traced, "the separate calls do not serve all, or make fewer requests");
+    check(memcmp(found, wanted, sizeof found) == 0, "the separate calls give other answers");
+    check_twin();
+}
+
+/* The same until the job of a slot has ended. */
+static void serve_twin_slot(size_t slot, uint8_t wanted)
+{
+    struct dock_store store_again = drive_again();
+    struct dock_due due = dock_next(&twin, slot, &twin_lent);
+    for (; due.tag == DOCK_DUE_REQUEST || due.tag == DOCK_DUE_WAITING; due = dock_next(&twin, slot, &twin_lent)) {
+        if (due.tag == DOCK_DUE_WAITING)
+            check(dock_serve_turns(&twin, &store_again, &twin_lent) == 0, "the twin's jobs all wait");
+        else
+            check(dock_serve_request(&twin, slot, &due.request, &store_again, &twin_lent) == 0, "a tell is refused");
+    }
+    check(dock_collect(&twin, slot, &twin_lent) == wanted && replayed == traced,
+          "the separate calls give another answer, or make fewer requests");
+    check_twin();
+}
+
+/* ---- The random store ---- */
+
 /* Whether this job has this request out by the rules, with these pieces. */
 static int has_out(size_t slot, enum dock_kind kind, uint64_t offset, const struct dock_take *pieces, size_t count)
 {
@@ -584,6 +750,7 @@ static int read_random(void *context, uint64_t offset, const struct dock_fill *p
         for (j = 0; j < pieces[i].length; j++)
             pieces[i].bytes[j] = byte_read(at++, code);
     }
+    put_down(DOCK_READ, offset, at - offset, seen, count, number);
     step(slot, DOCK_READ, code);
     return number;
 }
@@ -602,6 +769,7 @@ static int write_random(void *context, uint64_t offset, const struct dock_take *
         for (j = 0; j < pieces[i].length; j++)
             put_byte(store, at++, pieces[i].bytes[j], code);
     }
+    put_down(DOCK_WRITE, offset, at - offset, pieces, count, number);
     step(slot, DOCK_WRITE, code);
     return number;
 }
@@ -615,6 +783,7 @@ static int clear_random(void *context, enum dock_kind kind, uint64_t offset, uin
     check(jobs[slot].stage.request.end == offset + length, "another length than the rules give");
     choice = rnd();
     carry_range(kind, between(offset, offset + length), code);
+    put_down(kind, offset, length, NULL, 0, number);
     step(slot, kind, code);
     return number;
 }
@@ -673,7 +842,7 @@ static void begin_random(void)
         if (resembles(&jobs[slot], &ask))
             return;
     }
-    job = begin_job(&ask);
+    job = begin_both(&ask);
     if (job != NULL && lacks(job->stage.kind))
         told(job, 1);
 }
@@ -681,7 +850,9 @@ static void begin_random(void)
 static void serve_all(void)
 {
     size_t slot;
+    start_trace();
     check(dock_serve(&dock, &random_drive, answers, &lent) == 0, "the jobs in flight are not all served");
+    serve_twin(answers);
     for (slot = 0; slot < DOCK_SLOTS; slot++) {
         if (jobs[slot].in_flight)
             collect_job(slot, answers[slot]);
@@ -695,8 +866,11 @@ static void serve_all(void)
 static void serve_slot(size_t slot)
 {
     int in_flight = jobs[slot].in_flight;
-    uint8_t number = dock_serve_slot(&dock, slot, &random_drive, &lent);
+    uint8_t number;
     size_t other;
+    start_trace();
+    number = dock_serve_slot(&dock, slot, &random_drive, &lent);
+    serve_twin_slot(slot, number);
     if (in_flight)
         collect_job(slot, number);
     else
@@ -715,6 +889,7 @@ static void run_random(void)
     random_state = seed * UINT64_C(0xd1342543de82ef95) + list;
     put_content();
     open_choice((size_t)(list % CHOICES));
+    open_twin();
     make_random_drive();
     for (rounds = 0; rounds < 8; rounds++) {
         for (left = 1 + below(12); left > 0; left--)
@@ -725,7 +900,7 @@ static void run_random(void)
             serve_all();
         else
             serve_slot((size_t)below(DOCK_SLOTS));
-        change_data();
+        change_both();
     }
     serve_all();
 }
@@ -764,7 +939,8 @@ int main(int argc, char **argv)
     began = time(NULL);
     for (list = first; list - first < LEAST || time(NULL) - began < seconds; list++)
         run_random();
-    check(refused > 0 && waited > 0 && no_answers > 0 && fallbacks > 0 && joined > 0 && left_apart > 0,
+    check(refused > 0 && waited > 0 && no_answers > 0 && fallbacks > 0 && joined > 0 && left_apart > 0
+              && all_were_shown(),
           "something was never reached");
     printf("%llu random runs: %llu jobs, %llu requests, ", (unsigned long long)(list - first),
            (unsigned long long)collected, (unsigned long long)carried);
