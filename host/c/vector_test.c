@@ -3,7 +3,7 @@
  * unless said. Half of the segments start where the last one ends; now and then one is empty, lies outside the data, is
  * a 17th or makes the total too long. As long as the library takes each push, both vectors have the same 34 words, and
  * begin takes them. From the first that it refuses on, begin refuses the header's vector with 202, whatever is pushed
- * later. Some vectors start as words that no push made, right or not.
+ * later. Some vectors start as words that no push made, right or not. What begin takes or refuses, submit does too.
  */
 #include "draw.h"
 
@@ -173,11 +173,24 @@ static struct dock_vector any_words(uint64_t longest)
 
 /* ---- The comparison ---- */
 
-/* What begin gives for a vector: 0 where it takes it, or the refusal. Alignments are 1, so every segment is direct. */
+/* What begin gives for a vector: 0 where it takes it, or the refusal. Alignments are 1, so every segment is direct. A
+ * submit gives the same, leaves the same words, and shows the vector's segments as pieces. */
 static uint8_t begun(const struct dock_vector *vector)
 {
     struct dock dock = opened;
-    return dock_begin_write(&dock, 0, vector, &lent).refusal;
+    struct dock other = opened;
+    struct dock_begun answer = dock_begin_write(&dock, 0, vector, &lent);
+    struct dock_shown shown = dock_submit_write(&other, 0, vector, &lent);
+    check(memcmp(&dock, &other, sizeof dock) == 0, "a submit leaves other words than a begin");
+    check(shown.refusal == answer.refusal, "a submit is refused other than a begin");
+    check((shown.tag == DOCK_SHOWN_REFUSED) == (answer.tag == DOCK_BEGUN_REFUSED)
+              && (shown.tag == DOCK_SHOWN_ANSWER) == (answer.tag == DOCK_BEGUN_DONE),
+          "a submit is answered other than a begin");
+    if (shown.tag == DOCK_SHOWN_REQUEST)
+        check(shown.request.pieces == vector->words[0] && shown.request.length == vector->words[1]
+                  && shown.first.bytes == data + vector->words[2] && shown.first.length == vector->words[3],
+              "a submit shows other pieces than the vector's segments");
+    return answer.refusal;
 }
 
 /* One more push on both. Whether the library takes it, and all before it. */
