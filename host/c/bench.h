@@ -1,4 +1,4 @@
-/* A dock with its buffers and a store in memory, for the test and the example. */
+/* A dock with its buffers and a store in memory, for tests and examples. */
 #ifndef BENCH_H
 #define BENCH_H
 
@@ -74,6 +74,26 @@ static inline int carry(const struct dock *dock, size_t slot, const struct dock_
         at += part.length;
     }
     return at - due.request.offset == due.request.length;
+}
+
+/* Carries out a request that was shown, with its first piece at hand. Its code: 0, or 5 where its pieces lack bytes. */
+static inline uint8_t carry_shown(const struct dock *dock, const struct dock_shown *shown, const struct dock_lent *lent)
+{
+    const struct dock_request *request = &shown->request;
+    uint64_t at = request->offset;
+    size_t i;
+    size_t j;
+    if (request->kind != DOCK_READ && request->kind != DOCK_WRITE) {
+        carry_zeroes(request);
+        return DOCK_DONE;
+    }
+    for (i = 0; i < request->pieces; i++) {
+        struct dock_part part = i == 0 ? shown->first : dock_piece(dock, shown->slot, i, lent);
+        for (j = 0; j < part.length; j++)
+            carry_byte(request->kind, at + j, part.bytes + j);
+        at += part.length;
+    }
+    return at - request->offset == request->length ? DOCK_DONE : 5;
 }
 
 #endif
