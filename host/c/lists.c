@@ -43,6 +43,7 @@ static void carry(size_t slot, const struct dock_request *request, uint8_t code)
 /* ---- Events ---- */
 
 static uint64_t waited;
+static int out[DOCK_SLOTS]; /* whether a request was out for it after the last event */
 
 /* The pieces of the slot's request are those that the rules give. */
 static void check_pieces(size_t slot, const struct dock_request *request)
@@ -128,17 +129,21 @@ static void try_collect(size_t slot)
     collect_job(slot, number);
 }
 
-/* Where jobs are in flight that have not ended, one of them does not wait. */
-static void check_progress(void)
+/* Where jobs are in flight that have not ended, one of them does not wait. A request that is out stays out until its
+ * own code is told: an event on one slot takes none from another. */
+static void check_progress(size_t event_slot)
 {
     int left = 0;
-    int out = 0;
+    int any_out = 0;
     size_t slot;
     for (slot = 0; slot < DOCK_SLOTS; slot++) {
+        int is_out = dock_next(&dock, slot, &lent).tag == DOCK_DUE_REQUEST;
+        check(is_out || !out[slot] || slot == event_slot, "a request is out no more, and was not told");
+        out[slot] = is_out;
         left += jobs[slot].in_flight && !jobs[slot].ended;
-        out += dock_next(&dock, slot, &lent).tag == DOCK_DUE_REQUEST;
+        any_out += is_out;
     }
-    check(left == 0 || out > 0, "all wait");
+    check(left == 0 || any_out > 0, "all wait");
 }
 
 static void run_list(void)
@@ -148,6 +153,7 @@ static void run_list(void)
     put_content();
     open_choice((size_t)below(CHOICES));
     open_twin();
+    memset(out, 0, sizeof out);
     for (i = 0; i < EVENTS; i++) {
         uint64_t event = below(16);
         size_t slot = (size_t)below(DOCK_SLOTS);
@@ -161,7 +167,7 @@ static void run_list(void)
             try_show(slot);
         else
             change_both();
-        check_progress();
+        check_progress(slot);
     }
 }
 
