@@ -421,6 +421,19 @@ static void test_all_wait(void)
     CHECK(changed_only(8192, 10, lent.data + 20));
 }
 
+/* A job's vector is none any more: its request is carried out, and its code is refused. Both calls return that. */
+static void test_refused_code(void)
+{
+    start();
+    CHECK(begin_at(DOCK_READ, 8192, 100, 512) == 0 && begin_at(DOCK_READ, 10, 0, 10) == 1);
+    dock.vectors[34] = DOCK_SEGMENTS + 1;
+    CHECK(dock_serve(&dock, &whole_drive, answers, &lent) == DOCK_SEGMENT && drive.logged == 2);
+    CHECK(answers[0] == 0 && answers[1] == DOCK_SLOT && dock_next(&dock, 1, &lent).tag == DOCK_DUE_REQUEST);
+    CHECK(dock_serve_slot(&dock, 1, &whole_drive, &lent) == DOCK_SEGMENT && drive.logged == 3);
+    dock.vectors[34] = 1;
+    CHECK(dock_serve(&dock, &whole_drive, answers, &lent) == 0 && answers[1] == 0 && drive.logged == 4);
+}
+
 enum { PATIENCE = 40 };
 
 static unsigned asked_for;
@@ -924,6 +937,7 @@ static void test_all(void)
     test_one_slot_alone();
     test_other_buffers();
     test_all_wait();
+    test_refused_code();
     test_any_words();
 }
 
