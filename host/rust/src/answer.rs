@@ -23,6 +23,28 @@ pub enum Due {
     Answer(Answer),
 }
 
+/// What a combined call shows: [`crate::Dock::submit_read`] and its like, [`crate::Dock::complete`],
+/// [`crate::Dock::show`].
+#[derive(Debug, PartialEq, Eq)]
+pub enum Shown<'a> {
+    /// The call was refused, and has changed nothing.
+    Refused(Refusal),
+    /// The job has ended with this answer, which is collected: it has no slot any more, or took none.
+    Answer(Answer),
+    /// The job in this slot waits for one in another slot. Show it again once another job was completed.
+    Waiting(usize),
+    /// A request is out: the store carries it out once, and then its code completes it.
+    Make {
+        /// The slot of its job.
+        slot: usize,
+        /// The request.
+        request: Request,
+        /// Its first piece, lent until the next call on the dock; None where it has no pieces. [`crate::Dock::piece`]
+        /// hands out the others, from 1 on.
+        first: Option<Piece<'a>>,
+    },
+}
+
 /// What a request asks of the store.
 #[derive(Clone, Copy, Debug, PartialEq, Eq)]
 pub enum Kind {

@@ -1,6 +1,6 @@
 //! The dock and its calls.
 
-use crate::answer::{Answer, Begun, Chunk, Due, Piece};
+use crate::answer::{Answer, Begun, Chunk, Due, Piece, Shown};
 use crate::raw::{Loan, Reply, Words};
 use crate::refusal::Refusal;
 use crate::table::Table;
@@ -160,6 +160,48 @@ impl<'buf> Dock<'buf> {
     }
 }
 
+/// The same in fewer calls: one for each request. A job begun by one form may go on by the other.
+impl Dock<'_> {
+    /// Begins a read as [`Dock::begin_read`] does, and shows what it needs. Where there is nothing to do, the answer is
+    /// [`Answer::Done`], and no slot is taken.
+    pub fn submit_read(&mut self, offset: u64, vector: &Vector) -> Shown<'_> {
+        let sight = self.words.submit_read(offset, vector);
+        self.words.shown(sight)
+    }
+
+    /// Begins a write as [`Dock::begin_write`] does, and shows what it needs.
+    pub fn submit_write(&mut self, offset: u64, vector: &Vector) -> Shown<'_> {
+        let sight = self.words.submit_write(offset, vector);
+        self.words.shown(sight)
+    }
+
+    /// Begins zeroes as [`Dock::begin_zeroes`] does, and shows what they need.
+    pub fn submit_zeroes(&mut self, allocate: bool, offset: u64, length: u64) -> Shown<'_> {
+        let sight = self.words.submit_zeroes(allocate, offset, length);
+        self.words.shown(sight)
+    }
+
+    /// Begins a discard as [`Dock::begin_discard`] does, and shows what it needs.
+    pub fn submit_discard(&mut self, offset: u64, length: u64) -> Shown<'_> {
+        let sight = self.words.submit_discard(offset, length);
+        self.words.shown(sight)
+    }
+
+    /// Hands in the store's code as [`Dock::tell`] does, and shows what the job needs then: its next request, that it
+    /// waits, or its answer, which is collected. [`Refusal::Slot`], [`Refusal::NoAnswer`].
+    pub fn complete(&mut self, slot: usize, code: u8) -> Shown<'_> {
+        let sight = self.words.complete(slot, code);
+        self.words.shown(sight)
+    }
+
+    /// Shows what the job in `slot` needs now, as [`Dock::next`] says it; an answer is collected, and the slot is free
+    /// again. [`Refusal::Slot`].
+    pub fn show(&mut self, slot: usize) -> Shown<'_> {
+        let sight = self.words.show(slot);
+        self.words.shown(sight)
+    }
+}
+
 /// The planner, by the dock's settings: [`Refusal::Unaligned`], [`Refusal::Overflow`].
 impl Dock<'_> {
     /// In how many chunks a range of whole request blocks is written, each of the bounce buffer's length but the last.
@@ -222,5 +264,7 @@ impl fmt::Display for DataError {
 
 impl Error for DataError {}
 
+#[cfg(test)]
+mod combined_tests;
 #[cfg(test)]
 mod tests;

@@ -38,6 +38,29 @@
 //! the store's code, [`Dock::collect`] takes the final answer. "Document 01" is the agreed scope; it says what is
 //! right.
 //!
+//! [`Dock::submit_write`] and its like, [`Dock::complete`] and [`Dock::show`] do the same in fewer calls, one for each
+//! request: what the job needs next comes back at once, with the first piece, and an answer is collected as it is shown:
+//!
+//! ```
+//! use pitch_dock::{Answer, Dock, Piece, Shown, Vector};
+//!
+//! let (mut store, mut data, mut scratch) = ([b'.'; 1024], *b"+002.75deg", vec![0; 8 * 4096]);
+//! let mut dock = Dock::open_row(1, 4096, &mut data, &mut scratch)?;
+//! let mut shown = dock.submit_write(660, &Vector::of(0, 10));
+//! while let Shown::Make { slot, request, first } = shown {
+//!     let at = request.offset as usize;
+//!     match first {
+//!         Some(Piece::Fill(bytes)) => bytes.copy_from_slice(&store[at..at + bytes.len()]),
+//!         Some(Piece::Take(bytes)) => store[at..at + bytes.len()].copy_from_slice(bytes),
+//!         None => unreachable!("a write makes reads and writes alone"),
+//!     }
+//!     shown = dock.complete(slot, 0);
+//! }
+//! assert_eq!(shown, Shown::Answer(Answer::Done));
+//! assert_eq!(store[655..675], *b".....+002.75deg.....");
+//! # Ok::<(), pitch_dock::Refusal>(())
+//! ```
+//!
 //! The calls are those of the proved library `libdock_c.a`. What its proof asks of a caller, this crate keeps by
 //! types:
 //!
@@ -58,6 +81,16 @@
 //!     let piece = dock.piece(0, 0);
 //!     let _ = dock.tell(0, 0);
 //!     drop(piece);
+//! }
+//! ```
+//!
+//! Nor can what a combined call shows:
+//!
+//! ```compile_fail,E0499
+//! fn late(dock: &mut pitch_dock::Dock) {
+//!     let shown = dock.show(0);
+//!     let _ = dock.tell(0, 0);
+//!     drop(shown);
 //! }
 //! ```
 //!
@@ -90,7 +123,7 @@ mod stores;
 mod table;
 mod vector;
 
-pub use answer::{Answer, Begun, Chunk, Due, Kind, Piece, Request};
+pub use answer::{Answer, Begun, Chunk, Due, Kind, Piece, Request, Shown};
 pub use code::Code;
 pub use dock::{aligned_part, DataError, Dock, Settings, SLOTS};
 pub use refusal::Refusal;

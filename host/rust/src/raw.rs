@@ -1,5 +1,5 @@
 //! The calls of `libdock_c.a`, as it has them, behind functions that are safe to call, and the buffers that they work
-//! on. All that is unsafe in this crate is here and in `raw/loan.rs`.
+//! on. All that is unsafe in this crate is here, in `raw/combined.rs` and in `raw/loan.rs`.
 //!
 //! The library is proved to return for any words, and to touch nothing outside its arrays and the lent bytes. What its
 //! calls ask for in turn: arrays of the declared lengths, and for data and scratch a pointer that is not null to as
@@ -14,7 +14,7 @@
 //!
 //! - Scratch: slot p has the bytes from p × share on, share many. A piece in the scratch lies in its own slot's, and
 //!   begin and tell touch no scratch but that of the slot they are for. A begin takes a free slot, and no piece of a
-//!   free slot is out.
+//!   free slot is out. Here and below a submit is a begin, and a complete is a tell.
 //! - Data: a piece in the data lies in a segment of its job. A begin reads its own vector's segments, a tell reads or
 //!   fills those of its own slot's job, and neither touches others. Segments of two jobs in flight share bytes only
 //!   where both write from them, and then nobody changes them: any other begin is refused with 203 before a byte is
@@ -38,8 +38,10 @@ use std::marker::PhantomData;
 use std::ops::Range;
 use std::slice;
 
+mod combined;
 mod loan;
 
+use combined::Out;
 pub(crate) use loan::Loan;
 
 /// The number of a reply that has values alone.
@@ -74,6 +76,8 @@ pub(crate) struct Words<'buf> {
     in_flight: [Option<Vector>; SLOTS],
     /// The slots whose pieces are out as a loan.
     lent: [bool; SLOTS],
+    /// The requests that combined calls have shown, by slot: each is out until its code is handed in.
+    out: [Option<Out>; SLOTS],
 }
 
 // SAFETY: Words has the use of its buffers as two `&'buf mut [u8]` would, which may go to another thread.
@@ -161,6 +165,7 @@ impl<'buf> Words<'buf> {
         Words {
             settings: [0; 9], blockers: [0; 88], states: [0; 144], vectors: [0; 272],
             data: Buffer::of(data), scratch: Buffer::of(scratch), in_flight: [None; SLOTS], lent: [false; SLOTS],
+            out: [None; SLOTS],
         }
     }
 
@@ -265,10 +270,14 @@ impl<'buf> Words<'buf> {
     fn tell_library(&mut self, slot: usize, code: u8) -> u8 {
         // SAFETY: the arrays are borrowed; data and scratch have their lengths, and the call touches no byte of them
         // that is out, as the head of this file says, since this slot's pieces are not.
-        unsafe {
+        let number = unsafe {
             dock_words_tell(&self.settings, &mut self.blockers, &mut self.states, &self.vectors, slot, code,
                 self.data.start, self.data.length, self.scratch.start, self.scratch.length)
+        };
+        if number == 0 {
+            self.out[slot] = None;
         }
+        number
     }
 
     pub fn collect(&mut self, slot: usize) -> u8 {
@@ -418,10 +427,23 @@ pub(crate) fn push_segment(words: &mut [u64; 34], start: usize, length: usize, d
 #[cfg(test)]
 impl Words<'_> {
     /// Everything that a refused call must leave as it is.
-    pub fn copied(&self) -> (Vec<u64>, Vec<u8>, [Option<Vector>; SLOTS], [bool; SLOTS]) {
+    pub fn copied(&self) -> Copied {
         let words = [&self.settings[..], &self.blockers, &self.states, &self.vectors].concat();
         // SAFETY: as for data.
         let scratch = unsafe { slice::from_raw_parts(self.scratch.start, self.scratch.length) };
-        (words, [self.data(), scratch].concat(), self.in_flight, self.lent)
+        (words, [self.data(), scratch].concat(), self.in_flight, self.lent, self.out)
+    }
+
+    /// How far into the data, or past all data into the scratch, an address lies.
+    pub fn place_of(&self, address: *const u8) -> usize {
+        let (data, scratch) = (self.data.address() as usize, self.scratch.address() as usize);
+        match (address as usize).checked_sub(data).filter(|past| *past <= self.data.length) {
+            Some(past) => past,
+            None => self.data.length + (address as usize - scratch),
+        }
     }
 }
+
+/// Words, bytes of data and scratch, vectors in flight, loans, requests that are out.
+#[cfg(test)]
+pub(crate) type Copied = (Vec<u64>, Vec<u8>, [Option<Vector>; SLOTS], [bool; SLOTS], [Option<Out>; SLOTS]);
