@@ -1,7 +1,7 @@
 //! The dock and its calls.
 
-use crate::answer::{Answer, Begun, Chunk, Due, Piece, Shown};
-use crate::raw::{Loan, Reply, Words};
+use crate::answer::{Answer, Begun, Chunk, Due, Kind, Piece, Shown};
+use crate::raw::{Loan, Reply, Sight, Words};
 use crate::refusal::Refusal;
 use crate::table::Table;
 use crate::vector::Vector;
@@ -240,16 +240,33 @@ impl<'buf> Dock<'buf> {
     }
 }
 
-/// Requests that are carried out elsewhere.
+/// Combined calls without pieces, and requests that are carried out elsewhere: for the runner.
 impl<'buf> Dock<'buf> {
-    /// The request that is out for `slot`, with its pieces, to be carried out by whoever holds it. [`Refusal::Slot`].
-    pub(crate) fn lend(&mut self, slot: usize) -> Result<Loan<'buf>, Refusal> {
+    /// Begins a job that has bytes of the data in this vector, which is empty for a job without.
+    pub(crate) fn submit(&mut self, kind: Kind, range: (u64, u64), vector: &Vector) -> Sight {
+        let (offset, length) = range;
+        match kind {
+            Kind::Read => self.words.submit_read(offset, vector),
+            Kind::Write => self.words.submit_write(offset, vector),
+            Kind::Zero => self.words.submit_zeroes(false, offset, length),
+            Kind::AllocatedZero => self.words.submit_zeroes(true, offset, length),
+            Kind::Discard => self.words.submit_discard(offset, length),
+        }
+    }
+
+    /// What the job in `slot` needs now; an answer is collected.
+    pub(crate) fn sight(&mut self, slot: usize) -> Sight {
+        self.words.show(slot)
+    }
+
+    /// The request that was shown for `slot`, with its piece, to be carried out by whoever holds it.
+    pub(crate) fn lend(&mut self, slot: usize) -> Option<Loan<'buf>> {
         self.words.lend(slot)
     }
 
-    /// Takes the pieces back and hands in the store's code. [`Refusal::NoAnswer`].
-    pub(crate) fn take_back(&mut self, loan: Loan<'buf>, code: u8) -> Result<(), Refusal> {
-        done(self.words.take_back(loan, code))
+    /// Takes the piece back and hands in the store's code: what the job needs then.
+    pub(crate) fn take_back(&mut self, loan: Loan<'buf>, code: u8) -> Sight {
+        self.words.take_back(loan, code)
     }
 }
 

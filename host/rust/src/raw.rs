@@ -42,6 +42,7 @@ mod combined;
 mod loan;
 
 use combined::Out;
+pub(crate) use combined::Sight;
 pub(crate) use loan::Loan;
 
 /// The number of a reply that has values alone.

@@ -1,9 +1,9 @@
 //! The runner: serves jobs until they are done.
 
-use crate::answer::{Answer, Begun, Due, Kind};
+use crate::answer::{Answer, Kind};
 use crate::code::Code;
 use crate::dock::{Dock, Settings, SLOTS};
-use crate::raw::Loan;
+use crate::raw::{Loan, Sight};
 use crate::refusal::Refusal;
 use crate::store::Store;
 use crate::vector::Vector;
@@ -138,7 +138,7 @@ impl<'buf> Runner<'buf> {
                 crew.hand_out(self.dock.lend(slot).expect("a request that is due is out"));
             }
             let Some((loan, code)) = crew.take_back() else { break };
-            self.tell(loan, code, jobs);
+            self.complete(loan, code, jobs);
         }
         assert!(self.seats.is_empty(), "by document 01's waiting rule not all jobs wait");
         self.tally
@@ -164,38 +164,34 @@ impl<'buf> Runner<'buf> {
     fn begin<J: Source + ?Sized>(&mut self, slot: usize, job: Job, jobs: &mut J) {
         let number = self.asked;
         self.asked += 1;
-        let outcome = match self.try_begin(slot, number, &job, jobs) {
-            Ok(Begun::Slot(begun)) => {
-                assert_eq!(begun, slot, "begin takes the lowest free slot");
-                self.seats.put(slot, number, job);
-                jobs.begun(slot, number, &job);
-                self.look_at(slot);
-                return;
+        let outcome = match self.submit(slot, number, &job, jobs) {
+            Sight::Refused(refusal) => Err(refusal),
+            Sight::Answer(answer) => Ok(answer),
+            Sight::Waiting(begun) => return self.sit_down(slot, begun, (number, job), jobs),
+            Sight::Make(out) => {
+                self.sit_down(slot, out.slot, (number, job), jobs);
+                return self.seats.mark_due(slot);
             }
-            Ok(Begun::Done) => Ok(Answer::Done),
-            Err(refusal) => Err(refusal),
         };
         jobs.ended(&Ended { number, job, outcome, tally: Tally::default() }, &[]);
     }
 
-    fn try_begin<J: Source + ?Sized>(
-        &mut self,
-        slot: usize,
-        number: u64,
-        job: &Job,
-        jobs: &mut J,
-    ) -> Result<Begun, Refusal> {
-        match job.kind {
-            Kind::Read => self.dock.begin_read(job.offset, &self.vector(slot, job)?),
-            Kind::Write => {
-                let vector = self.vector(slot, job)?;
-                jobs.fill(number, job, self.bytes(slot, job));
-                self.dock.begin_write(job.offset, &vector)
-            }
-            Kind::Zero => self.dock.begin_zeroes(false, job.offset, job.length),
-            Kind::AllocatedZero => self.dock.begin_zeroes(true, job.offset, job.length),
-            Kind::Discard => self.dock.begin_discard(job.offset, job.length),
+    /// Puts a job that has begun into its slot, where it waits for now.
+    fn sit_down<J: Source + ?Sized>(&mut self, slot: usize, begun: usize, (number, job): (u64, Job), jobs: &mut J) {
+        assert_eq!(begun, slot, "begin takes the lowest free slot");
+        self.seats.put(slot, number, job);
+        jobs.begun(slot, number, &job);
+    }
+
+    fn submit<J: Source + ?Sized>(&mut self, slot: usize, number: u64, job: &Job, jobs: &mut J) -> Sight {
+        let vector = match self.vector(slot, job) {
+            Ok(vector) => vector,
+            Err(refusal) => return Sight::Refused(refusal),
+        };
+        if job.kind == Kind::Write {
+            jobs.fill(number, job, self.bytes(slot, job));
         }
+        self.dock.submit(job.kind, (job.offset, job.length), &vector)
     }
 
     /// Where in the data the bytes of a job in a slot lie. The job is not longer than the slot's part.
@@ -204,9 +200,10 @@ impl<'buf> Runner<'buf> {
         start..start + job.length as usize
     }
 
-    /// The vector of a job in a slot: its bytes as one segment, which is never empty.
+    /// The vector of a job in a slot: the bytes of a read or a write as one segment, which is never empty.
     fn vector(&self, slot: usize, job: &Job) -> Result<Vector, Refusal> {
         match job.length {
+            _ if !matches!(job.kind, Kind::Read | Kind::Write) => Ok(Vector::new()),
             0 => Ok(Vector::new()),
             length if length > self.longest() => Err(Refusal::Segment),
             length => Ok(Vector::of(slot * self.part, length as usize)),
@@ -219,17 +216,19 @@ impl<'buf> Runner<'buf> {
         self.dock.data_mut(range).expect("a slot's part is used by its job alone")
     }
 
-    /// Takes a request back that was carried out, tells its code, and sees what has changed by it.
-    fn tell<J: Source + ?Sized>(&mut self, loan: Loan<'buf>, code: Code, jobs: &mut J) {
+    /// Takes a request back that was carried out, hands in its code, and sees what has changed by it.
+    fn complete<J: Source + ?Sized>(&mut self, loan: Loan<'buf>, code: Code, jobs: &mut J) {
         let (slot, request) = (loan.slot(), loan.request());
-        self.dock.take_back(loan, code.number()).expect("each code is an answer to the request that is out");
+        let sight = self.dock.take_back(loan, code.number());
         let seat = self.seats.seat(slot);
         seat.tally.count(&request, code);
         let number = seat.number;
-        let answer = self.look_at(slot);
+        let answer = self.note(slot, sight);
         for waiting in 0..SLOTS {
-            if self.seats.waits(waiting) {
-                self.look_at(waiting);
+            if self.seats.waits(waiting) && waiting != slot {
+                let sight = self.dock.sight(waiting);
+                let ended = self.note(waiting, sight);
+                assert_eq!(ended, None, "a job does not end while it waits");
             }
         }
         jobs.told(&Told { slot, number, request, code, waiting: Waiting { seats: &self.seats } });
@@ -238,19 +237,19 @@ impl<'buf> Runner<'buf> {
         }
     }
 
-    /// Sees what the job in a slot in flight needs now; its answer where it has ended.
-    fn look_at(&mut self, slot: usize) -> Option<Answer> {
-        match self.dock.next(slot).expect("the slot is in flight") {
-            Due::Waiting => self.seats.seat(slot).state = State::Waiting,
-            Due::Make(_) => self.seats.mark_due(slot),
-            Due::Answer(answer) => return Some(answer),
+    /// Notes what the job in a slot in flight needs now; its answer where it has ended.
+    fn note(&mut self, slot: usize, sight: Sight) -> Option<Answer> {
+        match sight {
+            Sight::Waiting(_) => self.seats.seat(slot).state = State::Waiting,
+            Sight::Make(_) => self.seats.mark_due(slot),
+            Sight::Answer(answer) => return Some(answer),
+            Sight::Refused(refusal) => panic!("the slot is in flight, and each code is an answer: {refusal}"),
         }
         None
     }
 
-    /// Collects a job that has ended, and shows its bytes to the source.
+    /// Frees the slot of a job that has ended, and shows its bytes to the source.
     fn end<J: Source + ?Sized>(&mut self, slot: usize, answer: Answer, jobs: &mut J) {
-        self.dock.collect(slot).expect("the job has ended");
         let seat = self.seats.leave(slot);
         self.tally.add(&seat.tally);
         if self.gate == Gate::Later {

@@ -1,8 +1,7 @@
 //! A request and its bytes, lent to whoever carries it out.
 
-use super::Words;
+use super::{Sight, Words};
 use crate::answer::{Kind, Request};
-use crate::refusal::Refusal;
 use std::marker::PhantomData;
 use std::{ptr, slice};
 
@@ -48,24 +47,26 @@ impl Loan<'_> {
 }
 
 impl<'buf> Words<'buf> {
-    /// Lends the request that is out for a slot, whose job has at most one segment, and so its requests at most one
-    /// piece. [`Refusal::Slot`] where none is out.
-    pub fn lend(&mut self, slot: usize) -> Result<Loan<'buf>, Refusal> {
-        let request = self.request(slot)?;
+    /// Lends the request that a combined call has shown for a slot and that is out since. Its job has at most one
+    /// segment, and so its requests at most one piece. None where no request was shown.
+    pub fn lend(&mut self, slot: usize) -> Option<Loan<'buf>> {
+        let out = (*self.out.get(slot)?)?;
         self.must_be_here(slot);
-        let piece = match request.pieces {
+        debug_assert_eq!(self.request(slot), Ok(out.request), "a request stays out until its code is handed in");
+        let piece = match out.request.pieces {
             0 => (ptr::NonNull::dangling().as_ptr(), 0),
-            1 => self.piece_part(slot, 0)?,
+            1 => self.part_at(&out.first),
             more => panic!("a request with {more} pieces is not lent"),
         };
+        debug_assert!(out.request.pieces == 0 || self.piece_part(slot, 0) == Ok(piece), "nor does its piece move");
         self.lent[slot] = true;
-        Ok(Loan { slot, request, piece, lender: self.scratch.start, borrowed: PhantomData })
+        Some(Loan { slot, request: out.request, piece, lender: self.scratch.start, borrowed: PhantomData })
     }
 
-    /// Takes a loan back and hands in the store's code for its request.
-    pub fn take_back(&mut self, loan: Loan<'buf>, code: u8) -> u8 {
+    /// Takes a loan back and hands in the store's code for its request: what its slot shows then.
+    pub fn take_back(&mut self, loan: Loan<'buf>, code: u8) -> Sight {
         assert!(loan.lender == self.scratch.start, "the loan is another dock's");
         self.lent[loan.slot] = false;
-        self.tell_library(loan.slot, code)
+        self.complete_library(loan.slot, code)
     }
 }
