@@ -27,6 +27,9 @@ fn call(event: &Event) -> &'static str {
         Event::Carry { .. } => "carry",
         Event::Tell { .. } => "tell",
         Event::Collect(_) => "collect",
+        Event::Submit(_) => "submit",
+        Event::Complete { .. } => "complete",
+        Event::ShowSlot(_) => "show",
         Event::Store { .. } | Event::Data { .. } | Event::Show { .. } => "other",
     }
 }
@@ -76,16 +79,44 @@ impl Coverage {
     pub fn of(events: &[Event], world: World) -> Self {
         let mut coverage = Coverage::default();
         let mut session = Session::new(DocumentSide::new(&world.content()));
-        for event in events {
-            let before = session.side.requests();
-            let performed = world.performed(event);
-            let seen = session.perform(&performed);
-            coverage.event(&performed, &seen, &before, &session.side);
-            if let (Event::Begin(written), Event::Begin(taken)) = (event, &performed) {
-                coverage.joining(written, taken, &seen.answer, &session.side);
-            }
-        }
+        events.iter().for_each(|event| coverage.take(event, &mut session, world));
         coverage
+    }
+
+    /// An event; a combined one as the separate ones that it stands for, and by its own name.
+    fn take(&mut self, event: &Event, session: &mut Session<DocumentSide>, world: World) {
+        let ended = |session: &Session<DocumentSide>, slot: u64| {
+            matches!(session.side.next(slot as usize), Due::Answer(_)).then_some(Event::Collect(slot))
+        };
+        match event {
+            Event::Submit(begin) => {
+                self.separate(&Event::Begin(begin.clone()), session, world);
+            }
+            Event::Complete { slot, code } => {
+                let told = self.separate(&Event::Tell { slot: *slot, code: *code }, session, world);
+                let collect = ended(session, *slot).filter(|_| told == Answer::Done);
+                collect.iter().for_each(|collect| _ = self.separate(collect, session, world));
+            }
+            Event::ShowSlot(slot) => {
+                let event = ended(session, *slot).unwrap_or(Event::Next(*slot));
+                self.separate(&event, session, world);
+            }
+            _ => _ = self.separate(event, session, world),
+        }
+        if let Event::Submit(_) | Event::Complete { .. } | Event::ShowSlot(_) = event {
+            self.add(format!("combined call {}", call(event)));
+        }
+    }
+
+    fn separate(&mut self, event: &Event, session: &mut Session<DocumentSide>, world: World) -> Answer {
+        let before = session.side.requests();
+        let performed = world.performed(event);
+        let seen = session.perform(&performed);
+        self.event(&performed, &seen, &before, &session.side);
+        if let (Event::Begin(written), Event::Begin(taken)) = (event, &performed) {
+            self.joining(written, taken, &seen.answer, &session.side);
+        }
+        seen.answer
     }
 
     fn add(&mut self, name: impl Into<String>) {

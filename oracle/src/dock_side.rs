@@ -2,15 +2,18 @@
 //!
 //! Beside what a run compares, the side watches what the boundary promises and no other side shows: a refused call leaves the dock's
 //! words; buffers of another length are refused with 205; a piece that a request lacks with 208; a call changes the scratch in its
-//! job's share alone; pushes of a begin's segments leave the joined list.
+//! job's share alone; pushes of a begin's segments leave the joined list; a combined call writes all words of what it shows, and a show
+//! that collects nothing changes nothing.
 
 use crate::dock_scratch::Scratch;
-use crate::dock_words::{self, load_table, row, Lengths, Reply, Row, Words, NO_NUMBER};
+use crate::dock_words::{
+    self, load_table, row, Lengths, Reply, Row, Words, ANSWERED, NO_NUMBER, OUT, REFUSED, WAITING,
+};
 use crate::document;
 use crate::imago_side::CLOSED;
 use crate::memory::Data;
 use crate::side::{
-    Act, Begin, Begun, Due, Job, Kind, Lent, Opening, Piece, Planner, Request, Segment, Side, ROWS, SLOTS,
+    Act, Begin, Begun, Due, Job, Kind, Lent, Opening, Piece, Planner, Request, Segment, Shown, Side, ROWS, SLOTS,
 };
 use crate::store::{Content, Store};
 use std::cell::RefCell;
@@ -38,10 +41,31 @@ pub enum Slip {
     PushedApart,
     /// A push of a segment that is empty is taken, and changes nothing.
     EmptyPush,
+    /// A complete shows the next request one byte further on.
+    ShiftedComplete,
+    /// A show gives the final answer and does not collect.
+    ShowKeeps,
+    /// A complete leaves what reads yield out of the data.
+    CompleteKeepsData,
+    /// A submit shows the first piece one byte further on.
+    ShiftedFirst,
+    /// A show of a slot that waits leaves a word of an earlier one.
+    StaleWord,
 }
 
-pub const SLIPS: [Slip; 6] =
-    [Slip::RefusalChanges, Slip::AnyLength, Slip::PieceTooMany, Slip::NextShare, Slip::PushedApart, Slip::EmptyPush];
+pub const SLIPS: [Slip; 11] = [
+    Slip::RefusalChanges,
+    Slip::AnyLength,
+    Slip::PieceTooMany,
+    Slip::NextShare,
+    Slip::PushedApart,
+    Slip::EmptyPush,
+    Slip::ShiftedComplete,
+    Slip::ShowKeeps,
+    Slip::CompleteKeepsData,
+    Slip::ShiftedFirst,
+    Slip::StaleWord,
+];
 
 pub struct DockSide {
     words: Words,
@@ -88,6 +112,22 @@ fn begun(words: &mut Words, begin: &Begin, data: &[u8], scratch: &mut [u8]) -> R
         Job::AllocatedZeroes => words.begin_zeroes(true, offset, length, data, scratch),
         Job::Discard => words.begin_discard(offset, length, data, scratch),
     }
+}
+
+fn submitted(words: &mut Words, begin: &Begin, data: &[u8], scratch: &mut [u8]) -> dock_words::Shown {
+    let (offset, length) = (begin.offset, begin.length);
+    match begin.job {
+        Job::Read => words.submit_read(offset, &row(&begin.segments, length), data, scratch),
+        Job::Write => words.submit_write(offset, &row(&begin.segments, length), data, scratch),
+        Job::Zeroes => words.submit_zeroes(false, (offset, length), data, scratch),
+        Job::AllocatedZeroes => words.submit_zeroes(true, (offset, length), data, scratch),
+        Job::Discard => words.submit_discard(offset, length, data, scratch),
+    }
+}
+
+/// What a combined call shows where it refuses.
+fn shown_refusal(number: u8) -> dock_words::Shown {
+    [REFUSED, number.into(), 0, 0, 0, 0, 0, 0, 0]
 }
 
 impl DockSide {
@@ -209,10 +249,15 @@ impl DockSide {
                 let (told, collected) = (self.tell_with(slot, 0, lengths), self.words.collect(slot, lengths));
                 let refused = told == document::BUFFER && collected == document::BUFFER;
                 self.expect(refused, || format!("slot {slot}, lengths {lengths:?}: tell {told}, collect {collected}"));
+                let shown = [self.complete_with(slot, 0, lengths), self.words.show(slot, lengths)];
+                let refused = shown == [shown_refusal(document::BUFFER); 2];
+                self.expect(refused, || format!("slot {slot}, lengths {lengths:?}: complete and show give {shown:?}"));
             }
-            let refused = begin.map(|b| self.begin_with(b, lengths));
-            let fits = refused.as_ref().is_none_or(|r| number(r) == Some(document::BUFFER));
-            self.expect(fits, || format!("lengths {lengths:?}: begin gives {refused:?}"));
+            let refused = begin.map(|b| (self.begin_with(b, lengths), self.submit_with(b, lengths)));
+            let fits = refused.as_ref().is_none_or(|(begun, shown)| {
+                number(begun) == Some(document::BUFFER) && *shown == shown_refusal(document::BUFFER)
+            });
+            self.expect(fits, || format!("lengths {lengths:?}: begin and submit give {refused:?}"));
         }
         self.expect(self.words == before, || "a call refused with 205 changed the dock".to_owned());
     }
@@ -220,6 +265,74 @@ impl DockSide {
     fn begin_with(&mut self, begin: &Begin, lengths: Lengths) -> Reply {
         let scratch = self.scratch.as_mut().expect("it is there until the side is dropped").bytes_mut();
         begun(&mut self.words, begin, &self.data.bytes()[..lengths.0], &mut scratch[..lengths.1])
+    }
+
+    fn submit_with(&mut self, begin: &Begin, lengths: Lengths) -> dock_words::Shown {
+        let scratch = self.scratch.as_mut().expect("it is there until the side is dropped").bytes_mut();
+        let mut shown = submitted(&mut self.words, begin, &self.data.bytes()[..lengths.0], &mut scratch[..lengths.1]);
+        if self.slip == Some(Slip::ShiftedFirst) && shown[0] == OUT && shown[5] > 0 {
+            shown[7] += 1;
+        }
+        shown
+    }
+
+    fn complete_with(&mut self, slot: usize, code: u8, lengths: Lengths) -> dock_words::Shown {
+        let kept = (self.slip == Some(Slip::CompleteKeepsData)).then(|| self.data.bytes().to_vec());
+        let scratch = self.scratch.as_mut().expect("it is there until the side is dropped").bytes_mut();
+        let data = &mut self.data.bytes_mut()[..lengths.0];
+        let mut shown = self.words.complete(slot, code, data, &mut scratch[..lengths.1]);
+        if let Some(kept) = kept {
+            self.data.bytes_mut().copy_from_slice(&kept);
+        }
+        if self.slip == Some(Slip::ShiftedComplete) && shown[0] == OUT {
+            shown[3] += 1;
+        }
+        shown
+    }
+
+    fn show_with(&mut self, slot: usize, lengths: Lengths) -> dock_words::Shown {
+        let before = self.words.clone();
+        let mut shown = self.words.show(slot, lengths);
+        match self.slip {
+            Some(Slip::ShowKeeps) => self.words = before,
+            Some(Slip::StaleWord) => shown[8] |= u64::from(shown[0] == WAITING),
+            _ => {}
+        }
+        shown
+    }
+
+    /// What a combined call shows; a fault where its nine words are no such thing. Pieces past the first are asked for.
+    fn seen(&self, call: &str, shown: dock_words::Shown) -> Shown {
+        let [what, number, kind, offset, length, pieces, buffer, start, bytes] = shown;
+        let rest = [kind, offset, length, pieces, buffer, start, bytes];
+        let says_all = match what {
+            OUT => number < SLOTS as u64 && (pieces > 0 || rest[4..] == [0; 3]),
+            WAITING => number < SLOTS as u64 && rest == [0; 7],
+            _ => what <= ANSWERED && number < NO_NUMBER && rest == [0; 7],
+        };
+        self.expect(says_all, || format!("{call} shows {shown:?}"));
+        match what {
+            OUT => self.seen_request(number as usize, &shown),
+            WAITING => Shown::Waiting(number as usize),
+            ANSWERED => Shown::Answer(number as u8),
+            _ => Shown::Refused(number as u8),
+        }
+    }
+
+    fn seen_request(&self, slot: usize, shown: &dock_words::Shown) -> Shown {
+        let [_, _, kind, offset, length, pieces, buffer, start, bytes] = *shown;
+        let first = Segment { start, length: bytes };
+        let first = if buffer == 0 { Piece::Data(first) } else { Piece::Scratch(first) };
+        let others = (1..pieces as usize).filter_map(|i| self.piece(slot, i));
+        let pieces = (pieces > 0).then_some(first).into_iter().chain(others).collect();
+        self.expect(buffer <= 1, || format!("slot {slot}: a piece in buffer {buffer}"));
+        match kind_of(kind) {
+            Some(kind) => Shown::Make(slot, Request { kind, offset, length, pieces }),
+            None => {
+                self.complain(format!("slot {slot}: a request of kind {kind}"));
+                Shown::Refused(0)
+            }
+        }
     }
 
     fn tell_with(&mut self, slot: usize, code: u8, lengths: Lengths) -> u8 {
@@ -426,6 +539,49 @@ impl Side for DockSide {
         }
         self.expect(self.words == before, || format!("a collect refused with {answer} changed the dock"));
         Err(answer)
+    }
+
+    fn submit(&mut self, begin: &Begin) -> Shown {
+        self.probe(Some(begin));
+        self.check_pushes(&begin.segments);
+        let before = self.words.clone();
+        let copy = self.scratch_mut().look();
+        let shown = self.submit_with(begin, self.lengths());
+        let seen = self.seen("submit", shown);
+        if let Shown::Waiting(slot) | Shown::Make(slot, _) = seen {
+            self.note_use(slot.min(SLOTS - 1), begin);
+            self.check_scratch(slot.min(SLOTS - 1), copy);
+            return seen;
+        }
+        self.expect(self.words == before, || "a submit that takes no slot changed the dock".to_owned());
+        match seen {
+            // As for a begin.
+            Shown::Refused(document::UNFIT) if self.opened != 0 => Shown::Refused(self.opened),
+            other => other,
+        }
+    }
+
+    fn complete(&mut self, slot: usize, code: u8) -> Shown {
+        self.probe(None);
+        let before = self.words.clone();
+        let copy = self.scratch_mut().look();
+        let shown = self.complete_with(slot, code, self.lengths());
+        if shown[0] == REFUSED {
+            self.expect(self.words == before, || format!("a complete that shows {shown:?} changed the dock"));
+        } else {
+            self.check_scratch(slot, copy);
+        }
+        self.seen("complete", shown)
+    }
+
+    fn show(&mut self, slot: usize) -> Shown {
+        self.probe(None);
+        let before = self.words.clone();
+        let shown = self.show_with(slot, self.lengths());
+        if shown[0] != ANSWERED {
+            self.expect(self.words == before, || format!("a show of {shown:?} changed the dock"));
+        }
+        self.seen("show", shown)
     }
 
     fn store(&self) -> &Store {

@@ -20,6 +20,19 @@ pub struct Reply {
     pub value: [u64; 4],
 }
 
+/// What a combined call shows: what it is, the number or the slot, kind, offset, length and count of pieces of a request, then buffer,
+/// start and length of its first piece. Zeroes where there is nothing to say.
+pub type Shown = [u64; 9];
+
+/// The first word of what is shown.
+pub const REFUSED: u64 = 0;
+pub const ANSWERED: u64 = 1;
+pub const WAITING: u64 = 2;
+pub const OUT: u64 = 3;
+
+/// What no call shows: each writes all nine words.
+pub const UNSHOWN: Shown = [u64::MAX; 9];
+
 /// A vector as a begin takes it: count of segments, total, then start and length of each, zeroes past the last.
 pub type Row = [u64; 34];
 
@@ -174,6 +187,82 @@ extern "C" {
         data_len: usize,
         scratch_len: usize,
     ) -> u8;
+    fn dock_words_submit_read(
+        settings: Read,
+        blockers: Alter,
+        states: Alter,
+        vectors: Alter,
+        offset: u64,
+        vector: Read,
+        data: *const u8,
+        data_len: usize,
+        scratch: *mut u8,
+        scratch_len: usize,
+        reply: Alter,
+    );
+    fn dock_words_submit_write(
+        settings: Read,
+        blockers: Alter,
+        states: Alter,
+        vectors: Alter,
+        offset: u64,
+        vector: Read,
+        data: *const u8,
+        data_len: usize,
+        scratch: *mut u8,
+        scratch_len: usize,
+        reply: Alter,
+    );
+    fn dock_words_submit_zeroes(
+        settings: Read,
+        blockers: Alter,
+        states: Alter,
+        vectors: Alter,
+        allocate: u8,
+        offset: u64,
+        length: u64,
+        data: *const u8,
+        data_len: usize,
+        scratch: *mut u8,
+        scratch_len: usize,
+        reply: Alter,
+    );
+    fn dock_words_submit_discard(
+        settings: Read,
+        blockers: Alter,
+        states: Alter,
+        vectors: Alter,
+        offset: u64,
+        length: u64,
+        data: *const u8,
+        data_len: usize,
+        scratch: *mut u8,
+        scratch_len: usize,
+        reply: Alter,
+    );
+    fn dock_words_complete(
+        settings: Read,
+        blockers: Alter,
+        states: Alter,
+        vectors: Alter,
+        slot: usize,
+        code: u8,
+        data: *mut u8,
+        data_len: usize,
+        scratch: *mut u8,
+        scratch_len: usize,
+        reply: Alter,
+    );
+    fn dock_words_show(
+        settings: Read,
+        blockers: Read,
+        states: Alter,
+        vectors: Alter,
+        slot: usize,
+        data_len: usize,
+        scratch_len: usize,
+        reply: Alter,
+    );
     fn dock_words_chunks(settings: Read, offset: u64, length: u64) -> Reply;
     fn dock_words_chunk(settings: Read, offset: u64, length: u64, i: u64) -> Reply;
     fn dock_words_vector_push(vector: Alter, start: usize, length: usize, data_len: usize) -> u8;
@@ -307,6 +396,54 @@ impl Words {
     pub fn collect(&mut self, slot: usize, lengths: Lengths) -> u8 {
         let (s, k, j, v) = self.alter();
         unsafe { dock_words_collect(s, k, j, v, slot, lengths.0, lengths.1) }
+    }
+
+    pub fn submit_read(&mut self, offset: u64, row: &Row, data: &[u8], scratch: &mut [u8]) -> Shown {
+        let mut shown = UNSHOWN;
+        let (s, k, j, v) = self.alter();
+        let (d, c, r) = (data.as_ptr(), scratch.as_mut_ptr(), shown.as_mut_ptr());
+        unsafe { dock_words_submit_read(s, k, j, v, offset, row.as_ptr(), d, data.len(), c, scratch.len(), r) };
+        shown
+    }
+
+    pub fn submit_write(&mut self, offset: u64, row: &Row, data: &[u8], scratch: &mut [u8]) -> Shown {
+        let mut shown = UNSHOWN;
+        let (s, k, j, v) = self.alter();
+        let (d, c, r) = (data.as_ptr(), scratch.as_mut_ptr(), shown.as_mut_ptr());
+        unsafe { dock_words_submit_write(s, k, j, v, offset, row.as_ptr(), d, data.len(), c, scratch.len(), r) };
+        shown
+    }
+
+    pub fn submit_zeroes(&mut self, allocate: bool, range: (u64, u64), data: &[u8], scratch: &mut [u8]) -> Shown {
+        let mut shown = UNSHOWN;
+        let (s, k, j, v) = self.alter();
+        let (a, d, c, r) = (u8::from(allocate), data.as_ptr(), scratch.as_mut_ptr(), shown.as_mut_ptr());
+        let (offset, length) = range;
+        unsafe { dock_words_submit_zeroes(s, k, j, v, a, offset, length, d, data.len(), c, scratch.len(), r) };
+        shown
+    }
+
+    pub fn submit_discard(&mut self, offset: u64, length: u64, data: &[u8], scratch: &mut [u8]) -> Shown {
+        let mut shown = UNSHOWN;
+        let (s, k, j, v) = self.alter();
+        let (d, c, r) = (data.as_ptr(), scratch.as_mut_ptr(), shown.as_mut_ptr());
+        unsafe { dock_words_submit_discard(s, k, j, v, offset, length, d, data.len(), c, scratch.len(), r) };
+        shown
+    }
+
+    pub fn complete(&mut self, slot: usize, code: u8, data: &mut [u8], scratch: &mut [u8]) -> Shown {
+        let mut shown = UNSHOWN;
+        let (s, k, j, v) = self.alter();
+        let (d, c, r) = (data.as_mut_ptr(), scratch.as_mut_ptr(), shown.as_mut_ptr());
+        unsafe { dock_words_complete(s, k, j, v, slot, code, d, data.len(), c, scratch.len(), r) };
+        shown
+    }
+
+    pub fn show(&mut self, slot: usize, lengths: Lengths) -> Shown {
+        let mut shown = UNSHOWN;
+        let (s, k, j, v) = self.alter();
+        unsafe { dock_words_show(s, k, j, v, slot, lengths.0, lengths.1, shown.as_mut_ptr()) };
+        shown
     }
 
     pub fn chunks(&self, offset: u64, length: u64) -> Reply {

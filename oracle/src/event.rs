@@ -33,6 +33,16 @@ pub enum Event {
         code: u8,
     },
     Collect(u64),
+    /// A begin by the combined call. Scripts have no line for combined calls.
+    Submit(Begin),
+    /// A tell by the combined call, which also collects.
+    Complete {
+        slot: u64,
+        code: u8,
+    },
+    /// A next by the combined call, which also collects.
+    ShowSlot(u64),
+    /// Bytes of the store.
     Show {
         offset: u64,
         length: u64,
@@ -104,6 +114,12 @@ impl Display for Event {
             }
             Event::Tell { slot, code } => write!(f, "tell {slot} {code}"),
             Event::Collect(slot) => write!(f, "collect {slot}"),
+            Event::Submit(b) => {
+                f.write_str("# submit ")?;
+                begin_line(b, f)
+            }
+            Event::Complete { slot, code } => write!(f, "# complete {slot} {code}"),
+            Event::ShowSlot(slot) => write!(f, "# show slot {slot}"),
             Event::Show { offset, length } => write!(f, "show {offset} {length}"),
         }
     }

@@ -3,7 +3,7 @@
 use crate::document;
 use crate::event::{row_opening, Event};
 use crate::imago_side::CLOSED;
-use crate::session::Answer;
+use crate::session::{separately, Answer};
 use crate::side::{Begin, Opening, Segment, SLOTS};
 
 pub struct Flight {
@@ -19,6 +19,10 @@ impl Default for Flight {
 
 impl Flight {
     pub fn note(&mut self, event: &Event, answer: &Answer) {
+        separately(event, answer).iter().for_each(|(event, answer)| self.note_separate(event, answer));
+    }
+
+    fn note_separate(&mut self, event: &Event, answer: &Answer) {
         match (event, answer) {
             (Event::OpenRow { row, bounce }, _) => {
                 *self = Flight { opening: row_opening(*row, *bounce), jobs: Default::default() }

@@ -411,9 +411,25 @@ impl Maker {
         }
     }
 
+    /// Whether an event is one of the combined calls, of which scripts have none.
+    fn is_combined(&mut self) -> bool {
+        !self.world.scripts && self.random.once_in(2)
+    }
+
     fn begin(&mut self) {
         let begin = if self.random.below(3) == 0 { self.range_job() } else { self.vector_job() };
-        self.push(Event::Begin(begin));
+        let event = if self.is_combined() { Event::Submit(begin) } else { Event::Begin(begin) };
+        self.push(event);
+    }
+
+    fn tell(&mut self, slot: u64, code: u8) {
+        let event = if self.is_combined() { Event::Complete { slot, code } } else { Event::Tell { slot, code } };
+        self.push(event);
+    }
+
+    fn collect(&mut self, slot: u64) {
+        let event = if self.is_combined() { Event::ShowSlot(slot) } else { Event::Collect(slot) };
+        self.push(event);
     }
 
     /// A code for a request; where 1 has a fallback it comes more often.
@@ -444,8 +460,8 @@ impl Maker {
                 let act = self.act(request.kind);
                 self.push(Event::Carry { slot, act });
             }
-            (Due::Make(_), Some(code)) => self.push(Event::Tell { slot, code }),
-            (Due::Answer(_), _) => self.push(Event::Collect(slot)),
+            (Due::Make(_), Some(code)) => self.tell(slot, code),
+            (Due::Answer(_), _) => self.collect(slot),
             _ => {}
         }
     }
@@ -464,9 +480,10 @@ impl Maker {
         let slot = self.random.pick(&[0, 1, 2, 3, 4, 5, 6, 7, 8, u64::MAX]);
         let code = self.random.pick(&[0, 1, 5, 200, 255]);
         let event = match self.random.below(5) {
+            0 if self.is_combined() => Event::ShowSlot(slot),
             0 => Event::Next(slot),
-            1 => Event::Tell { slot, code },
-            2 => Event::Collect(slot),
+            1 => return self.tell(slot, code),
+            2 => return self.collect(slot),
             3 => Event::Show { offset: self.near(self.world.low as u64), length: self.random.below(65) },
             _ => Event::Carry { slot, act: Act { code: code.min(5), choice: None } },
         };

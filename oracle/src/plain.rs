@@ -6,7 +6,7 @@
 use crate::document::{self, Course, First, InFlight, VectorTest};
 use crate::event::{row_opening, Event};
 use crate::imago_side::CLOSED;
-use crate::session::{Answer, Observed};
+use crate::session::{separately, Answer, Observed};
 use crate::side::{Act, Begin, Due, Job, Kind, Opening, Side, SLOTS};
 use crate::store::{Content, Store};
 use crate::trace;
@@ -91,32 +91,37 @@ impl Plain {
 
     /// Feeds the event with what the side answered, and says what breaks document 01's rules.
     pub fn feed(&mut self, event: &Event, seen: &Observed, side: &impl Side) -> Option<String> {
-        let broken = match event {
-            Event::OpenRow { row, bounce } => self.open(&row_opening(*row, *bounce), &seen.answer),
-            Event::Open(opening) => self.open(opening, &seen.answer),
+        let events = separately(event, &seen.answer);
+        let broken = events.iter().find_map(|(event, answer)| self.feed_separate(event, answer, side.data()));
+        broken.or_else(|| self.views(seen)).or_else(|| self.stores(side.store()))
+    }
+
+    fn feed_separate(&mut self, event: &Event, answer: &Answer, data: &[u8]) -> Option<String> {
+        match event {
+            Event::OpenRow { row, bounce } => self.open(&row_opening(*row, *bounce), answer),
+            Event::Open(opening) => self.open(opening, answer),
             Event::Store { offset, length, byte } => {
                 self.store.fill(*offset, *length, *byte);
                 None
             }
-            Event::Begin(begin) => self.begin(begin, &seen.answer, side.data()),
-            Event::Carry { slot, act } if seen.answer == Answer::Done => {
+            Event::Begin(begin) => self.begin(begin, answer, data),
+            Event::Carry { slot, act } if *answer == Answer::Done => {
                 let job = self.jobs[*slot as usize].as_mut();
                 job.map_or(Some("a carry in a free slot".to_owned()), |j| {
                     j.step(&mut self.store, *act);
                     None
                 })
             }
-            Event::Tell { slot, code } if seen.answer == Answer::Done => {
+            Event::Tell { slot, code } if *answer == Answer::Done => {
                 let job = self.jobs[*slot as usize].as_mut();
                 job.map_or(Some("a tell in a free slot".to_owned()), |j| {
                     j.course.told(*code);
                     None
                 })
             }
-            Event::Collect(slot) => self.collect(*slot as usize, &seen.answer, side.data()),
+            Event::Collect(slot) => self.collect(*slot as usize, answer, data),
             _ => None,
-        };
-        broken.or_else(|| self.views(seen)).or_else(|| self.stores(side.store()))
+        }
     }
 
     fn open(&mut self, opening: &Opening, answer: &Answer) -> Option<String> {

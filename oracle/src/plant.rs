@@ -1,6 +1,7 @@
 //! Planted faults: a side that is wrong in one thing. A run that does not see one shows nothing.
 
-use crate::side::{Act, Begin, Begun, Due, Kind, Opening, Piece, Request, Side, SLOTS};
+use crate::side::{begin_and_show, next_or_collect, tell_and_show};
+use crate::side::{Act, Begin, Begun, Due, Kind, Opening, Piece, Request, Shown, Side, SLOTS};
 use crate::store::Store;
 use std::ops::Range;
 
@@ -201,6 +202,28 @@ impl<S: Side> Side for Planted<S> {
 
     fn collect(&mut self, slot: usize) -> Result<u8, u8> {
         self.side.collect(slot).map(|code| self.answer(slot, code))
+    }
+
+    /// The side's own call; with a fault its separate calls, which have it.
+    fn submit(&mut self, begin: &Begin) -> Shown {
+        match self.fault {
+            None => self.side.submit(begin),
+            Some(_) => begin_and_show(self, begin),
+        }
+    }
+
+    fn complete(&mut self, slot: usize, code: u8) -> Shown {
+        match self.fault {
+            None => self.side.complete(slot, code),
+            Some(_) => tell_and_show(self, slot, code),
+        }
+    }
+
+    fn show(&mut self, slot: usize) -> Shown {
+        match self.fault {
+            None => self.side.show(slot),
+            Some(_) => next_or_collect(self, slot),
+        }
     }
 
     fn store(&self) -> &Store {

@@ -4,7 +4,7 @@
 //! carry. An event that breaks one of them is none, and is answered as `replay` answers it.
 
 use crate::event::{row_opening, Event};
-use crate::side::{Act, Begun, Due, Side, SLOTS};
+use crate::side::{Act, Begun, Due, Shown, Side, SLOTS};
 
 #[derive(Clone, Debug, PartialEq, Eq)]
 pub enum Answer {
@@ -14,6 +14,8 @@ pub enum Answer {
     /// The final answer of a job.
     Code(u8),
     Due(Due),
+    /// Of a combined call.
+    Shown(Shown),
     Bytes(Vec<u8>),
     CarriedAlready,
     NoRequest,
@@ -46,6 +48,46 @@ pub struct Observed {
 pub struct Session<S> {
     pub side: S,
     marks: [Mark; SLOTS],
+}
+
+/// A combined event and its answer as the separate events that it stands for, with theirs; another event as it is.
+pub fn separately(event: &Event, answer: &Answer) -> Vec<(Event, Answer)> {
+    let tell = |slot: &u64, code: &u8| Event::Tell { slot: *slot, code: *code };
+    let collected = |slot: &u64, code: &u8| (Event::Collect(*slot), Answer::Code(*code));
+    match (event, answer) {
+        (Event::Submit(begin), Answer::Shown(shown)) => vec![(Event::Begin(begin.clone()), begun(shown))],
+        (Event::Complete { slot, code }, Answer::Shown(Shown::Refused(number))) => {
+            vec![(tell(slot, code), Answer::Refused(*number))]
+        }
+        (Event::Complete { slot, code }, Answer::Shown(Shown::Answer(last))) => {
+            vec![(tell(slot, code), Answer::Done), collected(slot, last)]
+        }
+        (Event::Complete { slot, code }, Answer::Shown(_)) => vec![(tell(slot, code), Answer::Done)],
+        (Event::Complete { slot, code }, other) => vec![(tell(slot, code), other.clone())],
+        (Event::ShowSlot(slot), Answer::Shown(Shown::Answer(last))) => vec![collected(slot, last)],
+        (Event::ShowSlot(slot), Answer::Shown(shown)) => vec![(Event::Next(*slot), Answer::Due(due(shown)))],
+        _ => vec![(event.clone(), answer.clone())],
+    }
+}
+
+/// What the begin of a submit answered.
+fn begun(shown: &Shown) -> Answer {
+    match shown {
+        Shown::Refused(refusal) => Answer::Refused(*refusal),
+        Shown::Answer(0) => Answer::Done,
+        Shown::Answer(code) => Answer::Code(*code),
+        Shown::Waiting(slot) | Shown::Make(slot, _) => Answer::Slot(*slot),
+    }
+}
+
+/// What next says where this is shown.
+pub fn due(shown: &Shown) -> Due {
+    match shown {
+        Shown::Refused(refusal) => Due::Refused(*refusal),
+        Shown::Answer(code) => Due::Answer(*code),
+        Shown::Waiting(_) => Due::Waiting,
+        Shown::Make(_, request) => Due::Make(request.clone()),
+    }
 }
 
 fn outcome(number: u8) -> Answer {
@@ -106,6 +148,9 @@ impl<S: Side> Session<S> {
             Event::Carry { slot, act } => self.carry(*slot as usize, *act),
             Event::Tell { slot, code } => self.tell(*slot as usize, *code),
             Event::Collect(slot) => self.side.collect(*slot as usize).map_or_else(Answer::Refused, Answer::Code),
+            Event::Submit(begin) => Answer::Shown(self.side.submit(begin)),
+            Event::Complete { slot, code } => self.complete(*slot as usize, *code),
+            Event::ShowSlot(slot) => Answer::Shown(self.side.show(*slot as usize)),
             Event::Show { offset, length } => Answer::Bytes(self.shown(*offset, *length)),
         }
     }
@@ -132,10 +177,26 @@ impl<S: Side> Session<S> {
         Answer::Done
     }
 
-    /// A code that is no answer, or one to a slot without a request, is refused by the dock itself.
-    fn tell(&mut self, slot: usize, code: u8) -> Answer {
+    /// Whether a request is out that was carried out with another code. A code that is no answer, or one to a slot without a request, is
+    /// refused by the dock itself.
+    fn has_other_code(&self, slot: usize, code: u8) -> bool {
         let asked = code < crate::document::FIRST_NO_ANSWER && self.is_out(slot);
-        if asked && self.carried(slot) != Some(code) {
+        asked && self.carried(slot) != Some(code)
+    }
+
+    fn complete(&mut self, slot: usize, code: u8) -> Answer {
+        if self.has_other_code(slot, code) {
+            return Answer::NotItsCode;
+        }
+        let shown = self.side.complete(slot, code);
+        if !matches!(shown, Shown::Refused(_)) {
+            self.marks[slot] = Mark::New;
+        }
+        Answer::Shown(shown)
+    }
+
+    fn tell(&mut self, slot: usize, code: u8) -> Answer {
+        if self.has_other_code(slot, code) {
             return Answer::NotItsCode;
         }
         let told = self.side.tell(slot, code);

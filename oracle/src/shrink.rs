@@ -39,7 +39,12 @@ fn remove_events(list: &mut Vec<Event>, differs: &mut impl FnMut(&[Event]) -> bo
 fn without_slot(event: &Event, gone: u64) -> Option<Event> {
     let moved = |slot: u64| if slot > gone && slot < SLOTS as u64 { slot - 1 } else { slot };
     match event {
-        Event::Next(slot) | Event::Collect(slot) | Event::Carry { slot, .. } | Event::Tell { slot, .. }
+        Event::Next(slot)
+        | Event::Collect(slot)
+        | Event::Carry { slot, .. }
+        | Event::Tell { slot, .. }
+        | Event::Complete { slot, .. }
+        | Event::ShowSlot(slot)
             if *slot == gone =>
         {
             None
@@ -48,6 +53,8 @@ fn without_slot(event: &Event, gone: u64) -> Option<Event> {
         Event::Collect(slot) => Some(Event::Collect(moved(*slot))),
         Event::Carry { slot, act } => Some(Event::Carry { slot: moved(*slot), act: *act }),
         Event::Tell { slot, code } => Some(Event::Tell { slot: moved(*slot), code: *code }),
+        Event::Complete { slot, code } => Some(Event::Complete { slot: moved(*slot), code: *code }),
+        Event::ShowSlot(slot) => Some(Event::ShowSlot(moved(*slot))),
         other => Some(other.clone()),
     }
 }
@@ -56,7 +63,7 @@ fn without_slot(event: &Event, gone: u64) -> Option<Event> {
 fn remove_slots(list: &mut Vec<Event>, differs: &mut impl FnMut(&[Event]) -> bool) {
     let mut at = 0;
     while at < list.len() {
-        let tried = (0..SLOTS as u64).filter(|_| matches!(list[at], Event::Begin(_))).map(|slot| {
+        let tried = (0..SLOTS as u64).filter(|_| matches!(list[at], Event::Begin(_) | Event::Submit(_))).map(|slot| {
             let rest = list[at + 1..].iter().filter_map(|e| without_slot(e, slot));
             list[..at].iter().cloned().chain(rest).collect::<Vec<_>>()
         });
@@ -136,6 +143,7 @@ fn smaller_events(event: &Event) -> Vec<Event> {
     match event {
         Event::Open(o) => smaller_openings(o).into_iter().map(Event::Open).collect(),
         Event::Begin(b) => smaller_begins(b).into_iter().map(Event::Begin).collect(),
+        Event::Submit(b) => smaller_begins(b).into_iter().map(Event::Submit).collect(),
         Event::Carry { slot, act } => {
             smaller_acts(act).into_iter().map(|act| Event::Carry { slot: *slot, act }).collect()
         }

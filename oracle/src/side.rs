@@ -126,6 +126,16 @@ pub enum Due {
     Refused(u8),
 }
 
+/// What a combined call shows.
+#[derive(Clone, Debug, PartialEq, Eq)]
+pub enum Shown {
+    Refused(u8),
+    /// The final answer, which is collected; or 0 of a job that took no slot.
+    Answer(u8),
+    Waiting(usize),
+    Make(usize, Request),
+}
+
 /// How the store carries a request out. The choice decides what the code leaves open.
 #[derive(Clone, Copy, Debug, PartialEq, Eq)]
 pub struct Act {
@@ -144,6 +154,21 @@ pub trait Side {
     /// The final answer, or the number of a refusal.
     fn collect(&mut self, slot: usize) -> Result<u8, u8>;
 
+    /// Begins, and shows the job's slot.
+    fn submit(&mut self, begin: &Begin) -> Shown {
+        begin_and_show(self, begin)
+    }
+
+    /// Tells, and shows the slot.
+    fn complete(&mut self, slot: usize, code: u8) -> Shown {
+        tell_and_show(self, slot, code)
+    }
+
+    /// What next tells of the slot; a final answer is collected.
+    fn show(&mut self, slot: usize) -> Shown {
+        next_or_collect(self, slot)
+    }
+
     fn store(&self) -> &Store;
     fn store_mut(&mut self) -> &mut Store;
     fn data(&self) -> &[u8];
@@ -152,6 +177,33 @@ pub trait Side {
     /// What the side itself saw go wrong, where it looks.
     fn fault(&self) -> Option<String> {
         None
+    }
+}
+
+/// What a submit is, by separate calls.
+pub fn begin_and_show(side: &mut (impl Side + ?Sized), begin: &Begin) -> Shown {
+    match side.begin(begin) {
+        Begun::Refused(refusal) => Shown::Refused(refusal),
+        Begun::Done => Shown::Answer(0),
+        Begun::Slot(slot) => next_or_collect(side, slot),
+    }
+}
+
+/// What a complete is, by separate calls.
+pub fn tell_and_show(side: &mut (impl Side + ?Sized), slot: usize, code: u8) -> Shown {
+    match side.tell(slot, code) {
+        0 => next_or_collect(side, slot),
+        refusal => Shown::Refused(refusal),
+    }
+}
+
+/// What a show is, by separate calls.
+pub fn next_or_collect(side: &mut (impl Side + ?Sized), slot: usize) -> Shown {
+    match side.next(slot) {
+        Due::Refused(refusal) => Shown::Refused(refusal),
+        Due::Waiting => Shown::Waiting(slot),
+        Due::Make(request) => Shown::Make(slot, request),
+        Due::Answer(_) => side.collect(slot).map_or_else(Shown::Refused, Shown::Answer),
     }
 }
 

@@ -1,8 +1,8 @@
 //! The trace that `replay` prints for a script, written from what a session observed.
 
 use crate::event::Event;
-use crate::session::{Answer, Observed, View};
-use crate::side::{Due, Kind, Piece, Request, Side};
+use crate::session::{self, Answer, Observed, View};
+use crate::side::{Due, Kind, Piece, Request, Shown, Side};
 use std::fmt::Write;
 
 fn kind(kind: Kind) -> &'static str {
@@ -56,6 +56,9 @@ pub fn answer(a: &Answer) -> String {
         Answer::Refused(number) => format!(" refused {number}"),
         Answer::Code(code) => format!(" code {code}"),
         Answer::Due(d) => format!(" {}", due(d)),
+        Answer::Shown(Shown::Waiting(slot)) => format!(" slot {slot}: waiting"),
+        Answer::Shown(Shown::Make(slot, r)) => format!(" slot {slot}: {}", request(r)),
+        Answer::Shown(shown) => format!(" {}", due(&session::due(shown))),
         Answer::Bytes(bytes) => hex(bytes),
         Answer::CarriedAlready => " carried out already".to_owned(),
         Answer::NoRequest => " no request is out".to_owned(),
