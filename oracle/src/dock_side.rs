@@ -7,7 +7,7 @@
 
 use crate::dock_scratch::Scratch;
 use crate::dock_words::{
-    self, load_table, row, Lengths, Reply, Row, Words, ANSWERED, NO_NUMBER, OUT, REFUSED, WAITING,
+    self, load_table, row, Lengths, Reply, Row, Words, ANSWERED, NO_NUMBER, OUT, REFUSED, UNSHOWN, WAITING,
 };
 use crate::document;
 use crate::imago_side::CLOSED;
@@ -116,13 +116,15 @@ fn begun(words: &mut Words, begin: &Begin, data: &[u8], scratch: &mut [u8]) -> R
 
 fn submitted(words: &mut Words, begin: &Begin, data: &[u8], scratch: &mut [u8]) -> dock_words::Shown {
     let (offset, length) = (begin.offset, begin.length);
+    let mut shown = UNSHOWN;
     match begin.job {
-        Job::Read => words.submit_read(offset, &row(&begin.segments, length), data, scratch),
-        Job::Write => words.submit_write(offset, &row(&begin.segments, length), data, scratch),
-        Job::Zeroes => words.submit_zeroes(false, (offset, length), data, scratch),
-        Job::AllocatedZeroes => words.submit_zeroes(true, (offset, length), data, scratch),
-        Job::Discard => words.submit_discard(offset, length, data, scratch),
+        Job::Read => words.submit_read(offset, &row(&begin.segments, length), data, scratch, &mut shown),
+        Job::Write => words.submit_write(offset, &row(&begin.segments, length), data, scratch, &mut shown),
+        Job::Zeroes => words.submit_zeroes(false, [offset, length], data, scratch, &mut shown),
+        Job::AllocatedZeroes => words.submit_zeroes(true, [offset, length], data, scratch, &mut shown),
+        Job::Discard => words.submit_discard([offset, length], data, scratch, &mut shown),
     }
+    shown
 }
 
 /// What a combined call shows where it refuses.
@@ -249,7 +251,7 @@ impl DockSide {
                 let (told, collected) = (self.tell_with(slot, 0, lengths), self.words.collect(slot, lengths));
                 let refused = told == document::BUFFER && collected == document::BUFFER;
                 self.expect(refused, || format!("slot {slot}, lengths {lengths:?}: tell {told}, collect {collected}"));
-                let shown = [self.complete_with(slot, 0, lengths), self.words.show(slot, lengths)];
+                let shown = [self.complete_with(slot, 0, lengths), self.show_with(slot, lengths)];
                 let refused = shown == [shown_refusal(document::BUFFER); 2];
                 self.expect(refused, || format!("slot {slot}, lengths {lengths:?}: complete and show give {shown:?}"));
             }
@@ -280,7 +282,8 @@ impl DockSide {
         let kept = (self.slip == Some(Slip::CompleteKeepsData)).then(|| self.data.bytes().to_vec());
         let scratch = self.scratch.as_mut().expect("it is there until the side is dropped").bytes_mut();
         let data = &mut self.data.bytes_mut()[..lengths.0];
-        let mut shown = self.words.complete(slot, code, data, &mut scratch[..lengths.1]);
+        let mut shown = UNSHOWN;
+        self.words.complete(slot, code, data, &mut scratch[..lengths.1], &mut shown);
         if let Some(kept) = kept {
             self.data.bytes_mut().copy_from_slice(&kept);
         }
@@ -292,7 +295,8 @@ impl DockSide {
 
     fn show_with(&mut self, slot: usize, lengths: Lengths) -> dock_words::Shown {
         let before = self.words.clone();
-        let mut shown = self.words.show(slot, lengths);
+        let mut shown = UNSHOWN;
+        self.words.show(slot, lengths, &mut shown);
         match self.slip {
             Some(Slip::ShowKeeps) => self.words = before,
             Some(Slip::StaleWord) => shown[8] |= u64::from(shown[0] == WAITING),

@@ -30,7 +30,7 @@ pub const ANSWERED: u64 = 1;
 pub const WAITING: u64 = 2;
 pub const OUT: u64 = 3;
 
-/// What no call shows: each writes all nine words.
+/// What no call shows: each writes all nine words, whatever stands there.
 pub const UNSHOWN: Shown = [u64::MAX; 9];
 
 /// A vector as a begin takes it: count of segments, total, then start and length of each, zeroes past the last.
@@ -398,52 +398,49 @@ impl Words {
         unsafe { dock_words_collect(s, k, j, v, slot, lengths.0, lengths.1) }
     }
 
-    pub fn submit_read(&mut self, offset: u64, row: &Row, data: &[u8], scratch: &mut [u8]) -> Shown {
-        let mut shown = UNSHOWN;
+    pub fn submit_read(&mut self, offset: u64, row: &Row, data: &[u8], scratch: &mut [u8], shown: &mut Shown) {
         let (s, k, j, v) = self.alter();
         let (d, c, r) = (data.as_ptr(), scratch.as_mut_ptr(), shown.as_mut_ptr());
-        unsafe { dock_words_submit_read(s, k, j, v, offset, row.as_ptr(), d, data.len(), c, scratch.len(), r) };
-        shown
+        unsafe { dock_words_submit_read(s, k, j, v, offset, row.as_ptr(), d, data.len(), c, scratch.len(), r) }
     }
 
-    pub fn submit_write(&mut self, offset: u64, row: &Row, data: &[u8], scratch: &mut [u8]) -> Shown {
-        let mut shown = UNSHOWN;
+    pub fn submit_write(&mut self, offset: u64, row: &Row, data: &[u8], scratch: &mut [u8], shown: &mut Shown) {
         let (s, k, j, v) = self.alter();
         let (d, c, r) = (data.as_ptr(), scratch.as_mut_ptr(), shown.as_mut_ptr());
-        unsafe { dock_words_submit_write(s, k, j, v, offset, row.as_ptr(), d, data.len(), c, scratch.len(), r) };
-        shown
+        unsafe { dock_words_submit_write(s, k, j, v, offset, row.as_ptr(), d, data.len(), c, scratch.len(), r) }
     }
 
-    pub fn submit_zeroes(&mut self, allocate: bool, range: (u64, u64), data: &[u8], scratch: &mut [u8]) -> Shown {
-        let mut shown = UNSHOWN;
+    /// Offset and length are the range's.
+    pub fn submit_zeroes(
+        &mut self,
+        allocate: bool,
+        range: [u64; 2],
+        data: &[u8],
+        scratch: &mut [u8],
+        shown: &mut Shown,
+    ) {
         let (s, k, j, v) = self.alter();
         let (a, d, c, r) = (u8::from(allocate), data.as_ptr(), scratch.as_mut_ptr(), shown.as_mut_ptr());
-        let (offset, length) = range;
-        unsafe { dock_words_submit_zeroes(s, k, j, v, a, offset, length, d, data.len(), c, scratch.len(), r) };
-        shown
+        let [offset, length] = range;
+        unsafe { dock_words_submit_zeroes(s, k, j, v, a, offset, length, d, data.len(), c, scratch.len(), r) }
     }
 
-    pub fn submit_discard(&mut self, offset: u64, length: u64, data: &[u8], scratch: &mut [u8]) -> Shown {
-        let mut shown = UNSHOWN;
+    pub fn submit_discard(&mut self, range: [u64; 2], data: &[u8], scratch: &mut [u8], shown: &mut Shown) {
         let (s, k, j, v) = self.alter();
         let (d, c, r) = (data.as_ptr(), scratch.as_mut_ptr(), shown.as_mut_ptr());
-        unsafe { dock_words_submit_discard(s, k, j, v, offset, length, d, data.len(), c, scratch.len(), r) };
-        shown
+        let [offset, length] = range;
+        unsafe { dock_words_submit_discard(s, k, j, v, offset, length, d, data.len(), c, scratch.len(), r) }
     }
 
-    pub fn complete(&mut self, slot: usize, code: u8, data: &mut [u8], scratch: &mut [u8]) -> Shown {
-        let mut shown = UNSHOWN;
+    pub fn complete(&mut self, slot: usize, code: u8, data: &mut [u8], scratch: &mut [u8], shown: &mut Shown) {
         let (s, k, j, v) = self.alter();
         let (d, c, r) = (data.as_mut_ptr(), scratch.as_mut_ptr(), shown.as_mut_ptr());
-        unsafe { dock_words_complete(s, k, j, v, slot, code, d, data.len(), c, scratch.len(), r) };
-        shown
+        unsafe { dock_words_complete(s, k, j, v, slot, code, d, data.len(), c, scratch.len(), r) }
     }
 
-    pub fn show(&mut self, slot: usize, lengths: Lengths) -> Shown {
-        let mut shown = UNSHOWN;
+    pub fn show(&mut self, slot: usize, lengths: Lengths, shown: &mut Shown) {
         let (s, k, j, v) = self.alter();
-        unsafe { dock_words_show(s, k, j, v, slot, lengths.0, lengths.1, shown.as_mut_ptr()) };
-        shown
+        unsafe { dock_words_show(s, k, j, v, slot, lengths.0, lengths.1, shown.as_mut_ptr()) }
     }
 
     pub fn chunks(&self, offset: u64, length: u64) -> Reply {
