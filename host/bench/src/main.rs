@@ -4,6 +4,7 @@ mod dock_run;
 #[allow(dead_code)] // the jobs here need no discard and no planner
 #[path = "../../../oracle/src/dock_words.rs"]
 mod dock_words;
+mod floor;
 mod imago_run;
 /// What the shared declarations name of the oracle.
 mod side {
@@ -16,25 +17,31 @@ mod side {
 mod timing;
 mod work;
 
-use dock_run::Dock;
+use dock_run::{Dock, Form};
 use imago_run::{Answers, Imago};
 use timing::{median, Timed};
 use work::{cases, Case, Job, Kind, LONG, R512, SHARE};
 
 const ROUNDS: usize = 15;
 
-/// The rounds of imago answered at once, answered later, and of the dock.
-fn time(case: &Case, rounds: usize) -> [Timed; 3] {
+/// The rounds of the store's own copies, of imago answered at once, answered later, and of the dock by separate and by combined calls.
+fn time(case: &Case, rounds: usize) -> [Timed; 5] {
+    let mut store = Dock::new(case.align);
+    let copies = store.copies(case);
     let mut at_once = Imago::new(case.align, Answers::AtOnce);
     let mut later = Imago::new(case.align, Answers::Later);
-    let mut dock = Dock::new(case.align);
-    let mut timed: [Timed; 3] = Default::default();
+    let [mut separate, mut combined] = [Dock::new(case.align), Dock::new(case.align)];
+    let mut timed: [Timed; 5] = Default::default();
     for _ in 0..rounds {
-        timed[0].round(|| at_once.run(case));
-        timed[1].round(|| later.run(case));
-        timed[2].round(|| dock.run(case));
+        timed[0].round(|| store.make_copies(&copies));
+        timed[1].round(|| at_once.run(case));
+        timed[2].round(|| later.run(case));
+        timed[3].round(|| separate.run(case, Form::Separate));
+        timed[4].round(|| combined.run(case, Form::Combined));
     }
-    assert!(later.store() == dock.store, "{}: imago and the dock leave different stores", case.name);
+    for dock in [&separate, &combined] {
+        assert!(later.store() == dock.store, "{}: imago and the dock leave different stores", case.name);
+    }
     timed
 }
 
@@ -55,16 +62,18 @@ fn time_plain(rounds: usize) -> f64 {
 }
 
 fn table(rounds: usize, only: &str) {
-    println!(
-        "| Case | imago, answered at once | imago, answered later | dock | to at once | to later | least to least later |"
-    );
-    println!("|---|---|---|---|---|---|---|");
+    println!("ns for a job; then the combined form to imago, whole and with the store's own copies taken off both\n");
+    print!("| Case | store alone | imago, at once | imago, later | separate | combined ");
+    println!("| to at once | to later | less store: to at once | to later | least to least later |");
+    println!("|---|---|---|---|---|---|---|---|---|---|---|");
     for case in cases().iter().filter(|case| case.name.starts_with(only)) {
         let timed = time(case, rounds);
-        let [at_once, later, dock] = timed.each_ref().map(|t| t.median() / case.jobs.len() as f64);
-        let [_, least_later, least_dock] = timed.each_ref().map(Timed::least);
-        let (a, b, c) = (dock / at_once, dock / later, least_dock / least_later);
-        println!("| {} | {at_once:.0} | {later:.0} | {dock:.0} | {a:.2} | {b:.2} | {c:.2} |", case.name);
+        let [store, at_once, later, separate, combined] = timed.each_ref().map(|t| t.median() / case.jobs.len() as f64);
+        let [_, _, least_later, _, least_combined] = timed.each_ref().map(Timed::least);
+        let less = |imago: f64| (combined - store) / (imago - store);
+        print!("| {} | {store:.0} | {at_once:.0} | {later:.0} | {separate:.0} | {combined:.0} ", case.name);
+        print!("| {:.2} | {:.2} | {:.2} ", combined / at_once, combined / later, less(at_once));
+        println!("| {:.2} | {:.2} |", less(later), least_combined / least_later);
     }
 }
 
@@ -111,19 +120,25 @@ fn option(name: &str) -> Option<String> {
 }
 
 /// The cases on the dock alone, so many times each: for a profiler.
-fn dock_alone(times: usize, only: &str) {
+fn dock_alone(times: usize, form: Form, only: &str) {
     for case in cases().iter().filter(|case| case.name.starts_with(only)) {
         let mut dock = Dock::new(case.align);
-        (0..times).for_each(|_| dock.run(case));
+        (0..times).for_each(|_| dock.run(case, form));
     }
 }
 
-/// `--rounds N`; `--case a` takes only the cases whose names start so; `--dock N` runs them N times on the dock and times nothing.
+/// `--rounds N`; `--case a` takes only the cases whose names start so; `--dock N` runs them N times on the dock by combined calls,
+/// `--separate N` by separate ones, and times nothing; `--cases` lists them, each with its number of jobs.
 fn main() {
     let rounds = option("--rounds").and_then(|n| n.parse().ok()).unwrap_or(ROUNDS);
     let only = option("--case").unwrap_or_default();
-    if let Some(times) = option("--dock").and_then(|n| n.parse().ok()) {
-        return dock_alone(times, &only);
+    if std::env::args().any(|arg| arg == "--cases") {
+        return cases().iter().for_each(|case| println!("{} {}", case.jobs.len(), case.name));
+    }
+    for (name, form) in [("--dock", Form::Combined), ("--separate", Form::Separate)] {
+        if let Some(times) = option(name).and_then(|n| n.parse().ok()) {
+            return dock_alone(times, form, &only);
+        }
     }
     table(rounds, &only);
     if only.is_empty() {
