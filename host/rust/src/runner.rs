@@ -262,4 +262,6 @@ impl<'buf> Runner<'buf> {
 }
 
 #[cfg(test)]
+mod separate_tests;
+#[cfg(test)]
 mod tests;
