@@ -1,9 +1,11 @@
 //! The combined calls beside the separate ones: on two docks over the same random list, one by combined calls or either
-//! form, the other by separate calls alone, every answer, word and byte is the same after every call.
+//! form, the other by separate calls alone, every answer, every byte and every word that says something is the same
+//! after every call.
 
 use super::*;
 use crate::answer::Request;
 use crate::draw::Draw;
+use crate::raw::Copied;
 use crate::vector::SEGMENTS;
 use std::collections::BTreeMap;
 
@@ -104,13 +106,13 @@ fn separate_complete(dock: &mut Dock<'_>, slot: usize, code: u8) -> Seen {
 struct Pair<'a> {
     mixed: Dock<'a>,
     separate: Dock<'a>,
-    /// The words of the settings of each, which hold the addresses.
-    settings: [Vec<u64>; 2],
+    settings: Settings,
+    /// The words of the settings of each, which hold the addresses: no call changes them.
+    settings_words: [Vec<u64>; 2],
     draw: Draw,
-    /// One call in so many is made in separate calls on both.
+    /// One call in so many is made in separate calls on both; none where it is 0.
     separate_in: u64,
-    settings_of: Settings,
-    counts: BTreeMap<String, u64>,
+    counts: &'a mut BTreeMap<String, u64>,
 }
 
 /// Words of the settings, and of a blocker, of which eight follow.
@@ -126,11 +128,11 @@ fn counting(words: &[u64]) -> Vec<u64> {
     words
 }
 
-impl<'a> Pair<'a> {
+impl Pair<'_> {
     fn count(&mut self, call: &str, seen: &Seen) {
         let what = match seen {
             Seen::Refused(refusal) => format!("{call}: refused {}", refusal.number()),
-            Seen::Answer(answer) => format!("{call}: answer {}", answer.number().min(207)),
+            Seen::Answer(answer) => format!("{call}: answer {}", answer.number()),
             Seen::Waiting(_) => format!("{call}: waiting"),
             Seen::Make(_, request, _) => format!("{call}: {:?} of {} pieces", request.kind, request.pieces.min(2)),
         };
@@ -138,7 +140,7 @@ impl<'a> Pair<'a> {
     }
 
     /// Both docks are the same in every word and byte, and a refused call has changed nothing of the first.
-    fn compare(&mut self, call: &str, seen: (Seen, Seen), before: Option<crate::raw::Copied>) -> Seen {
+    fn compare(&mut self, call: &str, seen: (Seen, Seen), before: &Copied) -> Seen {
         assert_eq!(seen.0, seen.1, "{call}");
         let (words, bytes, in_flight, lent, out) = self.mixed.words.copied();
         let (other, other_bytes, other_in_flight, ..) = self.separate.words.copied();
@@ -148,9 +150,9 @@ impl<'a> Pair<'a> {
         assert!(differences.is_empty(), "{call} {:?}: {differences:?}", seen.0);
         assert!(bytes == other_bytes, "{call} {:?}: bytes differ", seen.0);
         assert!(in_flight == other_in_flight && lent == [false; SLOTS], "{call} {:?}", seen.0);
-        assert!(words[..SETTINGS_WORDS] == self.settings[0] && other[..SETTINGS_WORDS] == self.settings[1]);
-        if let (Seen::Refused(_), Some(before)) = (&seen.0, before) {
-            assert!(before == (words, bytes, in_flight, lent, out), "{call}: a refused call changed something");
+        assert!(words[..SETTINGS_WORDS] == self.settings_words[0] && other[..SETTINGS_WORDS] == self.settings_words[1]);
+        if matches!(seen.0, Seen::Refused(_)) {
+            assert!(*before == (words, bytes, in_flight, lent, out), "{call}: a refused call changed something");
         }
         self.count(call, &seen.0);
         seen.0
@@ -164,7 +166,7 @@ impl<'a> Pair<'a> {
             false => combined_submit(&mut self.mixed, &asked),
         };
         let other = separate_submit(&mut self.separate, &asked);
-        self.compare("submit", (one, other), Some(before));
+        self.compare("submit", (one, other), &before);
     }
 
     fn complete(&mut self, slot: usize, code: u8) {
@@ -174,7 +176,7 @@ impl<'a> Pair<'a> {
             false => seen(&mut self.mixed, |dock| dock.complete(slot, code)),
         };
         let other = separate_complete(&mut self.separate, slot, code);
-        self.compare("complete", (one, other), Some(before));
+        self.compare("complete", (one, other), &before);
     }
 
     fn show(&mut self, slot: usize) -> Seen {
@@ -184,7 +186,7 @@ impl<'a> Pair<'a> {
             false => seen(&mut self.mixed, |dock| dock.show(slot)),
         };
         let other = separate_show(&mut self.separate, slot);
-        let shown = self.compare("show", (one, other), Some(before.clone()));
+        let shown = self.compare("show", (one, other), &before);
         if !matches!(shown, Seen::Answer(_)) {
             let (words, bytes, in_flight, lent, _) = self.mixed.words.copied();
             assert!((words, bytes, in_flight, lent) == (before.0, before.1, before.2, before.3), "show changed {slot}");
@@ -217,14 +219,14 @@ impl<'a> Pair<'a> {
     }
 
     fn near(&mut self) -> u64 {
-        let s = &self.settings_of;
+        let s = &self.settings;
         let unit = [s.req, s.req, s.mem, s.zero, s.discard][self.draw.below(5) as usize];
         unit * self.draw.below(4) + [0, 0, 0, 1, 10, 100, unit - 1, unit / 2][self.draw.below(8) as usize]
     }
 
     fn vector(&mut self) -> Vector {
         let count = if self.draw.one_in(20) { 14 + self.draw.below(4) } else { 1 + self.draw.below(3) };
-        let unit = if self.draw.one_in(2) { self.settings_of.req.max(self.settings_of.mem) as usize } else { 1 };
+        let unit = if self.draw.one_in(2) { self.settings.req.max(self.settings.mem) as usize } else { 1 };
         let (mut vector, mut start) = (Vector::new(), self.draw.below(DATA as u64) as usize / unit * unit);
         for _ in 0..count.min(SEGMENTS as u64 + 1) {
             let length = (1 + self.draw.below(700) as usize).next_multiple_of(unit);
@@ -301,14 +303,10 @@ fn run_list(seed: u64, steps: u64, counts: &mut BTreeMap<String, u64>) {
         Dock::open(&settings, data, &mut aligned_part(scratch, ALIGN)[..length]).unwrap()
     });
     let (mixed, separate) = (opened.next().unwrap(), opened.next().unwrap());
-    let words = |dock: &Dock<'_>| dock.words.copied().0[..SETTINGS_WORDS].to_vec();
-    let settings_words = [words(&mixed), words(&separate)];
+    let settings_words = [&mixed, &separate].map(|dock| dock.words.copied().0[..SETTINGS_WORDS].to_vec());
     let separate_in = [0, 0, 2][draw.below(3) as usize];
-    let counted = std::mem::take(counts);
-    let settings_of = settings;
-    let mut pair = Pair { mixed, separate, settings: settings_words, draw, separate_in, settings_of, counts: counted };
+    let mut pair = Pair { mixed, separate, settings, settings_words, draw, separate_in, counts };
     (0..steps).for_each(|_| pair.step());
-    *counts = pair.counts;
 }
 
 #[test]
