@@ -1,6 +1,6 @@
 //! The combined calls beside the separate ones: on two docks over the same random list, one by combined calls or either
-//! form, the other by separate calls alone, every answer, every byte and every word that says something is the same
-//! after every call.
+//! form, the other by separate calls alone, every answer, every byte and every word past the settings is the same after
+//! every call.
 
 use super::*;
 use crate::answer::Request;
@@ -115,18 +115,8 @@ struct Pair<'a> {
     counts: &'a mut BTreeMap<String, u64>,
 }
 
-/// Words of the settings, and of a blocker, of which eight follow.
+/// Words of the settings.
 const SETTINGS_WORDS: usize = 9;
-const BLOCKER_WORDS: usize = 11;
-
-/// The words past the settings. Of a blocker that is not entered, whose first word is 0, start and end say nothing: what
-/// an earlier one left there is blanked.
-fn counting(words: &[u64]) -> Vec<u64> {
-    let mut words = words[SETTINGS_WORDS..].to_vec();
-    let rows = words[..SLOTS * BLOCKER_WORDS].chunks_mut(BLOCKER_WORDS);
-    rows.filter(|row| row[0] == 0).for_each(|row| row[1..3].fill(0));
-    words
-}
 
 impl Pair<'_> {
     fn count(&mut self, call: &str, seen: &Seen) {
@@ -145,8 +135,8 @@ impl Pair<'_> {
         let (words, bytes, in_flight, lent, out) = self.mixed.words.copied();
         let (other, other_bytes, other_in_flight, ..) = self.separate.words.copied();
         let differ = |(i, (a, b)): (usize, (&u64, &u64))| (a != b).then(|| format!("word {i}: {a}, {b}"));
-        let (one, two) = (counting(&words), counting(&other));
-        let differences: Vec<String> = one.iter().zip(&two).enumerate().filter_map(differ).collect();
+        let pairs = words.iter().zip(&other).enumerate().skip(SETTINGS_WORDS);
+        let differences: Vec<String> = pairs.filter_map(differ).collect();
         assert!(differences.is_empty(), "{call} {:?}: {differences:?}", seen.0);
         assert!(bytes == other_bytes, "{call} {:?}: bytes differ", seen.0);
         assert!(in_flight == other_in_flight && lent == [false; SLOTS], "{call} {:?}", seen.0);
