@@ -58,9 +58,9 @@ extern "C" {
 /* ---- The version: of the headers, and of the libdock_c.a that they are delivered with ---- */
 
 #define DOCK_VERSION_MAJOR 0
-#define DOCK_VERSION_MINOR 6
+#define DOCK_VERSION_MINOR 7
 #define DOCK_VERSION_PATCH 0
-#define DOCK_VERSION "0.6.0"
+#define DOCK_VERSION "0.7.0"
 
 /* ---- Numbers of documents 01 and 02 ---- */
 
