@@ -37,7 +37,8 @@ use Rattle.tables.specs.declared.table.Loaded.{Loaded}
 use Rattle.sheets.specs.Sheets.{Joins}
 use Rattle.sheets.specs.declared.joining.Joined.{Joined}
 use Rattle.sheets.specs.declared.joining.Joined.the-variants.{Into, Refused as NotJoined}
-use Rattle.dock_words.specs.View.{blockersOf, vectorWords}
+use Rattle.dock_words.specs.View.{blockersOf}
+use Rattle.vectors.specs.Words.{vectorWords}
 use Rattle.dock_words.specs.CallWords.{sameUnless}
 use Rattle.dock_c.specs.declared.replies.Reply.{Reply}
 

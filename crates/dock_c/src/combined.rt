@@ -11,7 +11,8 @@ ghost use Rattle.arithmetic.specs.Offsets.{storeAt};
 ghost use Rattle.arithmetic.specs.Refusals.{isDone};
 ghost use Rattle.dock.specs.Begin.{beginOf, readOf, writeOf, zeroesOf, discardOf};
 ghost use Rattle.dock.specs.Tell.{tellOf};
-ghost use Rattle.dock_words.specs.View.{flagOf, vectorFrom, dockOf};
+ghost use Rattle.dock_words.specs.View.{flagOf, dockOf};
+ghost use Rattle.vectors.specs.Words.{vectorFrom};
 ghost use Rattle.dock_words.specs.CallWords.{isAdmitted, sameTwo, sameThree};
 ghost use Rattle.dock_words.specs.Shown.{isCollected, showOf, ShowsAs, submitOf, completeOf};
 

@@ -41,7 +41,8 @@ ghost use Rattle.dock.specs.Begin.{beginOf, readOf, writeOf, zeroesOf, discardO
 ghost use Rattle.dock.specs.Next.{nextOf, pieceOf};
 ghost use Rattle.dock.specs.Tell.{tellOf, collectOf};
 ghost use Rattle.dock.specs.Numbers.{duePaper, piecePaper};
-ghost use Rattle.dock_words.specs.View.{flagOf, settingsOf, vectorFrom, dockOf};
+ghost use Rattle.dock_words.specs.View.{flagOf, settingsOf, dockOf};
+ghost use Rattle.vectors.specs.Words.{vectorFrom};
 ghost use Rattle.dock_words.specs.CallWords.{isAdmitted, isFinal, sameTwo, sameThree, opensOver};
 ghost use Rattle.tables.specs.Tables.{profileIn};
 ghost use Rattle.tables.specs.Words.{tableFrom};

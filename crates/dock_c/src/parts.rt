@@ -20,7 +20,8 @@ ghost use Rattle.arithmetic.specs.Offsets.{rangeOf};
 ghost use Rattle.vectors.specs.Vectors.{segment, pushOf, insertOf, appendOf, splitOf, splitTailOf, copies, bytesOf, scatterOf, segmentsOf};
 ghost use Rattle.vectors.specs.Vectors.{isValid, fillOf, alignmentOf};
 ghost use Rattle.blockers.specs.Blockers.{enteredOf, leftOf, waitsOf, strength};
-ghost use Rattle.dock_words.specs.View.{flagOf, flagWord, vectorFrom, blockersOf};
+ghost use Rattle.dock_words.specs.View.{flagOf, flagWord, blockersOf};
+ghost use Rattle.vectors.specs.Words.{vectorFrom};
 ghost use Rattle.dock_c.specs.Replies.{replyOf, alignmentPaper, EditsAs, SplitsAs, SplitsTailAs, MovesAs, BlocksAs};
 
 // The vector with a segment at its end; one that starts where the last ends makes that longer.

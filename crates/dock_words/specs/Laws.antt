@@ -10,9 +10,8 @@ use lib.ListN.{length, take, drop, getD, set, length-map, length-set, List·getD
 use lib.Seq.{getD-drop, getD-set-other, drop-set-add}
 use borrow.Author.Tests.{lt-ltb}
 use Rattle.arithmetic.specs.declared.offsets.Range.{Range}
-use Rattle.vectors.specs.Vectors.{segment, none}
-use Rattle.vectors.specs.declared.vector.Segment.{Segment}
 use Rattle.vectors.specs.declared.vector.IoVector.{IoVector}
+use Rattle.vectors.specs.WordLaws.{vector-back, vector-width}
 use Rattle.blockers.specs.Blockers.{present, isEntered, blockerAt, nowhere, notes, notesOf, hasNoted, forgetting}
 use Rattle.blockers.specs.declared.Kind.{Kind}
 use Rattle.blockers.specs.declared.Kind.the-variants.{Absent, Weak, Strong}
@@ -28,7 +27,8 @@ use Rattle.stages.specs.declared.state.State.{State}
 use Rattle.dock.specs.Dock.{noState, noVector}
 use Rattle.arithmetic.specs.Rows.{rows, row, put, rows-get, rows-put, row-word, row-length, row-set, part-put}
 use Rattle.dock_words.specs.View.{flagOf, flagWord, phaseOf, phaseTag, jobOf, jobTag, courseOf, courseTag, kindOf, kindTag, stageOf}
-use Rattle.dock_words.specs.View.{stateFrom, stateWords, blockerOf, blockerWords, segmentOf, segmentWords, vectorFrom, vectorWords}
+use Rattle.dock_words.specs.View.{stateFrom, stateWords, blockerOf, blockerWords}
+use Rattle.vectors.specs.Words.{vectorFrom, vectorWords}
 use Rattle.dock_words.specs.View.{blockersOf, statesOf, vectorsOf}
 
 -- ---- one word
@@ -87,75 +87,6 @@ blocker-back b = rw (kind-back (b .kind), flags-back (b .noted))
 
 pub blocker-width : (b : Blocker) → length (b .noted) ≡ 8 → length (blockerWords b) ≡ 11
 blocker-width b h = omega (arith, length-map (b .noted) flagWord)
-
-segments-back : (n : ℕ) (l : List Segment) → length l ≡ n → rows segmentOf 2 n (segmentWords l) ≡ l
-unfolding rows
-segments-back zero [] e = refl
-segments-back zero (s ∷ l) e = absurd (omega arith)
-segments-back (suc n) [] e = absurd (omega arith)
-segments-back (suc n) (s ∷ l) e = ap (λ (r : List Segment). s ∷ r) (segments-back n l (omega arith))
-
-pub vector-back : (v : IoVector) → length (v .segments) ≡ 16 → vectorFrom (vectorWords v) ≡ v
-unfolding vectorFrom
-vector-back v h = rw (segments-back 16 (v .segments) h)
-
--- and words of a vector are those of the vector that they stand for: one that a refusal leaves is left in every word
-segments-same : (n : ℕ) (w : List ℕ) → length w ≡ n + n → segmentWords (rows segmentOf 2 n w) ≡ w
-unfolding rows
-segments-same zero [] e = refl
-segments-same zero (a ∷ w) e = absurd (omega arith)
-segments-same (suc n) [] e = absurd (omega arith)
-segments-same (suc n) (a ∷ []) e = absurd (omega arith)
-segments-same (suc n) (a ∷ b ∷ w) e = ap (λ (r : List ℕ). a ∷ b ∷ r) (segments-same n w (omega arith))
-
-pub vector-same : (w : List ℕ) → length w ≡ 34 → vectorWords (vectorFrom w) ≡ w
-unfolding vectorFrom
-vector-same [] e = absurd (omega arith)
-vector-same (a ∷ []) e = absurd (omega arith)
-vector-same (a ∷ b ∷ w) e = ap (λ (r : List ℕ). a ∷ b ∷ r) (segments-same 16 w (omega arith))
-
-segment-width : (n : ℕ) (l : List Segment) → length l ≡ n → length (segmentWords l) ≡ n + n
-segment-width n [] e = omega arith
-segment-width zero (s ∷ l) e = absurd (omega arith)
-segment-width (suc n) (s ∷ l) e = omega (arith, segment-width n l (omega arith))
-
-pub vector-width : (v : IoVector) → length (v .segments) ≡ 16 → length (vectorWords v) ≡ 34
-vector-width v h = omega (arith, segment-width 16 (v .segments) h)
-
--- segment i of a vector's row, by its two words
-pub segment-words : (w : List ℕ) (i : ℕ) → i < 16
-    → segment (getD w (2 + 2 * i) 0) (getD w (3 + 2 * i) 0) ≡ getD (vectorFrom w .segments) i none
-unfolding vectorFrom
-segment-words w i h =
-    let e : 2 + 2 * i ≡ 2 + (i * 2 + 0) = omega arith in
-    let f : 3 + 2 * i ≡ 2 + (i * 2 + 1) = omega arith in
-    rw (
-      rows-get segmentOf 2 16 i (drop 2 w) none h,
-      row-word 2 i (drop 2 w) 0 (omega arith),
-      row-word 2 i (drop 2 w) 1
-          (omega arith),
-      getD-drop 2 w (i * 2 + 0) 0,
-      getD-drop 2 w (i * 2 + 1) 0,
-      e,
-      f,
-    )
-
--- and the two words of segment i, as they are written
-start-word : (l : List Segment) (i : ℕ) → getD (segmentWords l) (2 * i) 0 ≡ getD l i none .start
-start-word [] i = refl
-start-word (s ∷ l) zero = refl
-start-word (s ∷ l) (suc i) = let e : 2 * suc i ≡ suc (suc (2 * i)) = omega arith in rw e (start-word l i)
-
-length-word : (l : List Segment) (i : ℕ) → getD (segmentWords l) (suc (2 * i)) 0 ≡ getD l i none .length
-length-word [] i = refl
-length-word (s ∷ l) zero = refl
-length-word (s ∷ l) (suc i) = let e : 2 * suc i ≡ suc (suc (2 * i)) = omega arith in rw e (length-word l i)
-
-pub vector-start : (v : IoVector) (i : ℕ) → getD (v .segments) i none .start ≡ getD (vectorWords v) (2 + 2 * i) 0
-vector-start v i = let e : 2 + 2 * i ≡ suc (suc (2 * i)) = omega arith in rw e (sym (start-word (v .segments) i))
-
-pub vector-length : (v : IoVector) (i : ℕ) → getD (v .segments) i none .length ≡ getD (vectorWords v) (3 + 2 * i) 0
-vector-length v i = let e : 3 + 2 * i ≡ suc (suc (suc (2 * i))) = omega arith in rw e (sym (length-word (v .segments) i))
 
 -- ---- a state's row among the rows: what is read there, and what a row put in its place changes
 

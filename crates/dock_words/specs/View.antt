@@ -11,7 +11,7 @@ use Rattle.arithmetic.specs.Offsets.{bufferAt, rangeOf}
 use Rattle.arithmetic.specs.declared.offsets.Range.{Range}
 use Rattle.arithmetic.specs.declared.settings.Settings.{Settings}
 use Rattle.arithmetic.specs.declared.settings.Buffers.{Buffers}
-use Rattle.vectors.specs.declared.vector.Segment.{Segment}
+use Rattle.vectors.specs.Words.{vectorFrom}
 use Rattle.vectors.specs.declared.vector.IoVector.{IoVector}
 use Rattle.blockers.specs.declared.Kind.{Kind}
 use Rattle.blockers.specs.declared.Kind.the-variants.{Absent, Weak, Strong}
@@ -156,21 +156,6 @@ blockerOf w = record { kind = kindOf (getD w 0 0); range = rangeAt w 1; noted = 
 
 abbrev pub blockerWords : Blocker → List ℕ
 blockerWords b = kindTag (b .kind) ∷ rangeWords (b .range) ++ map flagWord (b .noted)
-
--- ---- a vector: 34 words. Count, total, start and length of each of the 16 segments
-
-abbrev pub segmentOf : List ℕ → Segment
-segmentOf w = record { start = getD w 0 0; length = getD w 1 0 }
-
-abbrev pub segmentWords : List Segment → List ℕ
-segmentWords [] = []
-segmentWords (s ∷ l) = s .start ∷ s .length ∷ segmentWords l
-
-unfoldable pub vectorFrom : List ℕ → IoVector
-vectorFrom w = record { count = getD w 0 0; total = getD w 1 0; segments = rows segmentOf 2 16 (drop 2 w) }
-
-abbrev pub vectorWords : IoVector → List ℕ
-vectorWords v = v .count ∷ v .total ∷ segmentWords (v .segments)
 
 -- ---- the dock: 9 words of settings; for the 8 slots 88 of blockers, 144 of states, 272 of vectors
 

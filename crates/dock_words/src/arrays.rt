@@ -20,7 +20,8 @@ ghost use Rattle.dock.specs.Dock.{openOf, openBy};
 ghost use Rattle.dock.specs.Begin.{beginOf};
 ghost use Rattle.dock.specs.Next.{nextOf, pieceOf};
 ghost use Rattle.dock.specs.Tell.{tellOf, collectOf, CollectGives};
-ghost use Rattle.dock_words.specs.View.{settingsOf, vectorFrom, vectorWords, blockersOf, dockOf};
+ghost use Rattle.dock_words.specs.View.{settingsOf, blockersOf, dockOf};
+ghost use Rattle.vectors.specs.Words.{vectorFrom, vectorWords};
 ghost use Rattle.arithmetic.specs.Refusals.{isDone};
 ghost use Rattle.dock_words.specs.CallWords.{isAdmitted, isFinal, sameTwo, sameThree, opensOver, beginsIn, tellsIn, ChangesBlockers};
 

@@ -7,7 +7,8 @@ ghost use mathlib.Core.Path.{_≡_};
 ghost use Prim.Native.Nat.{_<_};
 ghost use lib.ListN.{length, getD, set};
 ghost use Rattle.dock.specs.Dock.{noVector};
-ghost use Rattle.dock_words.specs.View.{vectorFrom, vectorWords, vectorsOf};
+ghost use Rattle.dock_words.specs.View.{vectorsOf};
+ghost use Rattle.vectors.specs.Words.{vectorFrom, vectorWords};
 
 // How many words a vector has.
 const VECTOR_WORDS: usize = 34;

@@ -4,7 +4,7 @@ use Rattle.arithmetic.specs.Refusals.{outcomeNumber}
 use Rattle.vectors.specs.declared.vector.IoVector.{IoVector}
 use Rattle.vectors.specs.declared.vector.Changed.{Changed}
 use Rattle.vectors.specs.Vectors.{appendOf}
-use Rattle.dock_words.specs.View.{vectorFrom, vectorWords}
+use Rattle.vectors.specs.Words.{vectorFrom, vectorWords}
 use borrow.Author.Needs.{needs}
 use Rattle.dock_c.proofs.parts.dock_words_vector_append.Statement.{statement}
 use Rattle.dock_c.proofs.parts.dock_words_vector_append.Tie as tie

@@ -7,7 +7,7 @@ use Rattle.vectors.specs.Vectors.{segment, pushOf}
 use borrow.Author.Needs.{needs}
 use Rattle.dock_c.proofs.parts.dock_words_vector_push.Statement.{statement}
 use Rattle.dock_c.proofs.parts.dock_words_vector_push.Tie as tie
-use Rattle.dock_words.specs.View.{vectorWords}
+use Rattle.vectors.specs.Words.{vectorWords}
 
 vector-of-requires : tie.Need-vector-of-requires
 vector-of-requires c κs = search needs

@@ -5,7 +5,7 @@ use Rattle.arithmetic.specs.declared.refusals.Outcome.{Outcome}
 use Rattle.vectors.specs.declared.vector.IoVector.{IoVector}
 use Rattle.vectors.specs.declared.vector.Halves.{Halves}
 use Rattle.vectors.specs.Vectors.{splitOf}
-use Rattle.dock_words.specs.View.{vectorFrom, vectorWords}
+use Rattle.vectors.specs.Words.{vectorFrom, vectorWords}
 use Rattle.dock_c.specs.Replies.{replyOf, splitPaper}
 use borrow.Author.Needs.{needs}
 use Rattle.dock_c.proofs.parts.dock_words_vector_split_at.Statement.{statement}

@@ -11,7 +11,8 @@ use Rattle.vectors.specs.declared.vector.IoVector.{IoVector}
 use Rattle.blockers.specs.Blockers.{noBlockers}
 use Rattle.blockers.specs.declared.Blocker.{Blocker}
 use Rattle.dock.specs.Dock.{vacant, fresh}
-use Rattle.dock_words.specs.View.{settingsWords, stateFrom, stageOf, phaseOf, jobOf, courseOf, kindOf, blockerOf, segmentOf, vectorFrom, blockersOf, statesOf, vectorsOf, dockOf}
+use Rattle.dock_words.specs.View.{settingsWords, stateFrom, stageOf, phaseOf, jobOf, courseOf, kindOf, blockerOf, blockersOf, statesOf, vectorsOf, dockOf}
+use Rattle.vectors.specs.Words.{segmentOf, vectorFrom}
 use Rattle.arithmetic.specs.Rows.{rows-same}
 use borrow.Author.Needs.{needs}
 use Rattle.dock_words.proofs.calls.set_fresh.Statement.{statement}

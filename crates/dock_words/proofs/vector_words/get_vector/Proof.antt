@@ -6,8 +6,8 @@ use mathlib.Core.Path.{_≡_, refl, sym}
 use lib.ListN.{length, drop}
 use Rattle.vectors.specs.Vectors.{none}
 use Rattle.arithmetic.specs.Rows.{rows-length}
-use Rattle.dock_words.specs.View.{vectorFrom, segmentOf}
-use Rattle.dock_words.specs.Laws.{segment-words}
+use Rattle.vectors.specs.Words.{vectorFrom, segmentOf}
+use Rattle.vectors.specs.WordLaws.{segment-words}
 use Rattle.arithmetic.specs.Loops.{Like, like-more, like-all}
 use Rattle.dock_words.proofs.vector_words.get_vector.Statement.{statement}
 use Rattle.dock_words.proofs.vector_words.get_vector.Tie as tie

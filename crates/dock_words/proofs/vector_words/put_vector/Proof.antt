@@ -5,8 +5,8 @@ use Prim.Native.Nat.{_+_, _*_, _≤_, _-_}
 use mathlib.Core.Path.{_≡_, sym, _∙_}
 use mathlib.Core.List.{[], _∷_}
 use lib.ListN.{length, length-set}
-use Rattle.dock_words.specs.View.{vectorWords, segmentWords}
-use Rattle.dock_words.specs.Laws.{vector-width, vector-start, vector-length}
+use Rattle.vectors.specs.Words.{vectorWords, segmentWords}
+use Rattle.vectors.specs.WordLaws.{vector-width, vector-start, vector-length}
 use Rattle.arithmetic.specs.Loops.{array-long, Like, like-more, like-all}
 use Rattle.dock_words.proofs.Stored.{like-first}
 use Rattle.dock_words.proofs.vector_words.put_vector.Statement.{statement}

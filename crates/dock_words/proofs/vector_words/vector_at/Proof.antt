@@ -1,7 +1,7 @@
 -- `dock_words::vector_words::vector_at` meets its contract: the slot's row, decoded, is its vector. Assumes nothing.
 use mathlib.Core.Path.{sym, ap, _∙_}
 use Rattle.arithmetic.specs.Rows.{row-part}
-use Rattle.dock_words.specs.View.{vectorFrom}
+use Rattle.vectors.specs.Words.{vectorFrom}
 use Rattle.dock_words.specs.Laws.{vector-row}
 use borrow.Author.Needs.{needs}
 use Rattle.dock_words.proofs.vector_words.vector_at.Statement.{statement}
