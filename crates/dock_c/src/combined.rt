@@ -1,5 +1,6 @@
-// The combined calls of the boundary: one for each request. The nine words of a reply: what it is (0 refused, 1 the final answer, 2 waiting,
-// 3 a request); the number, or the slot; of the request kind, offset, length and pieces; of its first piece buffer, start and length.
+// The combined calls of the boundary: one for each request. The nine words of a reply: what it is (0 refused, 1 the final answer,
+// 2 waiting, 3 a request); the number, or the slot; of the request kind, offset, length and pieces; of its first piece buffer,
+// start and length.
 use arithmetic::offsets::StoreOffset;
 use dock::begin::Asked;
 use dock_words::arrays::vector_of;
@@ -14,7 +15,7 @@ ghost use Rattle.dock.specs.Tell.{tellOf};
 ghost use Rattle.dock_words.specs.View.{flagOf, dockOf};
 ghost use Rattle.vectors.specs.Words.{vectorFrom};
 ghost use Rattle.dock_words.specs.CallWords.{isAdmitted, sameTwo, sameThree};
-ghost use Rattle.dock_words.specs.Shown.{isCollected, showOf, ShowsAs, submitOf, completeOf};
+ghost use Rattle.dock_words.specs.Shown.{isCollected, showOf, ShowsAs, submitOf, completeOf, LeavesBytes};
 
 // Begin a read of the vector's length at `offset` into the data, and show it.
 #[no_mangle]
@@ -29,12 +30,15 @@ pub extern "C" fn dock_words_submit_read(
     scratch: &mut [u8],
     reply: &mut [u64; 9],
 )
-    ensures dock { λ _. ⌜ ShowsAs (submitOf (dockOf (now (settings .entry)) (now (blockers .entry)) (now (states .entry)) (now (vectors .entry)))
+    ensures dock { λ _. ⌜ ShowsAs (submitOf
+        (dockOf (now (settings .entry)) (now (blockers .entry)) (now (states .entry)) (now (vectors .entry)))
         (readOf (storeAt offset) (vectorFrom (now (vector .entry)))) (now («data» .entry)) (now (scratch .entry)))
         (now (reply .exit)) (dockOf (now (settings .entry)) (now (blockers .exit)) (now (states .exit)) (now (vectors .exit))) ⌝ }
-    ensures bytes { λ _. ⌜ now (scratch .exit) ≡ beginOf (dockOf (now (settings .entry)) (now (blockers .entry)) (now (states .entry)) (now (vectors .entry)))
+    ensures bytes { λ _. ⌜ now (scratch .exit) ≡ beginOf
+        (dockOf (now (settings .entry)) (now (blockers .entry)) (now (states .entry)) (now (vectors .entry)))
         (readOf (storeAt offset) (vectorFrom (now (vector .entry)))) (now («data» .entry)) (now (scratch .entry)) .scratch ⌝ }
-    ensures words { λ _. ⌜ sameThree (isAdmitted (beginOf (dockOf (now (settings .entry)) (now (blockers .entry)) (now (states .entry)) (now (vectors .entry)))
+    ensures words { λ _. ⌜ sameThree (isAdmitted (beginOf
+        (dockOf (now (settings .entry)) (now (blockers .entry)) (now (states .entry)) (now (vectors .entry)))
         (readOf (storeAt offset) (vectorFrom (now (vector .entry)))) (now («data» .entry)) (now (scratch .entry)) .answer))
         (now (blockers .entry)) (now (states .entry)) (now (vectors .entry))
         (now (blockers .exit)) (now (states .exit)) (now (vectors .exit)) ⌝ }
@@ -65,12 +69,15 @@ pub extern "C" fn dock_words_submit_write(
     scratch: &mut [u8],
     reply: &mut [u64; 9],
 )
-    ensures dock { λ _. ⌜ ShowsAs (submitOf (dockOf (now (settings .entry)) (now (blockers .entry)) (now (states .entry)) (now (vectors .entry)))
+    ensures dock { λ _. ⌜ ShowsAs (submitOf
+        (dockOf (now (settings .entry)) (now (blockers .entry)) (now (states .entry)) (now (vectors .entry)))
         (writeOf (storeAt offset) (vectorFrom (now (vector .entry)))) (now («data» .entry)) (now (scratch .entry)))
         (now (reply .exit)) (dockOf (now (settings .entry)) (now (blockers .exit)) (now (states .exit)) (now (vectors .exit))) ⌝ }
-    ensures bytes { λ _. ⌜ now (scratch .exit) ≡ beginOf (dockOf (now (settings .entry)) (now (blockers .entry)) (now (states .entry)) (now (vectors .entry)))
+    ensures bytes { λ _. ⌜ now (scratch .exit) ≡ beginOf
+        (dockOf (now (settings .entry)) (now (blockers .entry)) (now (states .entry)) (now (vectors .entry)))
         (writeOf (storeAt offset) (vectorFrom (now (vector .entry)))) (now («data» .entry)) (now (scratch .entry)) .scratch ⌝ }
-    ensures words { λ _. ⌜ sameThree (isAdmitted (beginOf (dockOf (now (settings .entry)) (now (blockers .entry)) (now (states .entry)) (now (vectors .entry)))
+    ensures words { λ _. ⌜ sameThree (isAdmitted (beginOf
+        (dockOf (now (settings .entry)) (now (blockers .entry)) (now (states .entry)) (now (vectors .entry)))
         (writeOf (storeAt offset) (vectorFrom (now (vector .entry)))) (now («data» .entry)) (now (scratch .entry)) .answer))
         (now (blockers .entry)) (now (states .entry)) (now (vectors .entry))
         (now (blockers .exit)) (now (states .exit)) (now (vectors .exit)) ⌝ }
@@ -102,12 +109,15 @@ pub extern "C" fn dock_words_submit_zeroes(
     scratch: &mut [u8],
     reply: &mut [u64; 9],
 )
-    ensures dock { λ _. ⌜ ShowsAs (submitOf (dockOf (now (settings .entry)) (now (blockers .entry)) (now (states .entry)) (now (vectors .entry)))
+    ensures dock { λ _. ⌜ ShowsAs (submitOf
+        (dockOf (now (settings .entry)) (now (blockers .entry)) (now (states .entry)) (now (vectors .entry)))
         (zeroesOf (flagOf allocate) (storeAt offset) length) (now («data» .entry)) (now (scratch .entry)))
         (now (reply .exit)) (dockOf (now (settings .entry)) (now (blockers .exit)) (now (states .exit)) (now (vectors .exit))) ⌝ }
-    ensures bytes { λ _. ⌜ now (scratch .exit) ≡ beginOf (dockOf (now (settings .entry)) (now (blockers .entry)) (now (states .entry)) (now (vectors .entry)))
+    ensures bytes { λ _. ⌜ now (scratch .exit) ≡ beginOf
+        (dockOf (now (settings .entry)) (now (blockers .entry)) (now (states .entry)) (now (vectors .entry)))
         (zeroesOf (flagOf allocate) (storeAt offset) length) (now («data» .entry)) (now (scratch .entry)) .scratch ⌝ }
-    ensures words { λ _. ⌜ sameThree (isAdmitted (beginOf (dockOf (now (settings .entry)) (now (blockers .entry)) (now (states .entry)) (now (vectors .entry)))
+    ensures words { λ _. ⌜ sameThree (isAdmitted (beginOf
+        (dockOf (now (settings .entry)) (now (blockers .entry)) (now (states .entry)) (now (vectors .entry)))
         (zeroesOf (flagOf allocate) (storeAt offset) length) (now («data» .entry)) (now (scratch .entry)) .answer))
         (now (blockers .entry)) (now (states .entry)) (now (vectors .entry))
         (now (blockers .exit)) (now (states .exit)) (now (vectors .exit)) ⌝ }
@@ -138,12 +148,15 @@ pub extern "C" fn dock_words_submit_discard(
     scratch: &mut [u8],
     reply: &mut [u64; 9],
 )
-    ensures dock { λ _. ⌜ ShowsAs (submitOf (dockOf (now (settings .entry)) (now (blockers .entry)) (now (states .entry)) (now (vectors .entry)))
+    ensures dock { λ _. ⌜ ShowsAs (submitOf
+        (dockOf (now (settings .entry)) (now (blockers .entry)) (now (states .entry)) (now (vectors .entry)))
         (discardOf (storeAt offset) length) (now («data» .entry)) (now (scratch .entry)))
         (now (reply .exit)) (dockOf (now (settings .entry)) (now (blockers .exit)) (now (states .exit)) (now (vectors .exit))) ⌝ }
-    ensures bytes { λ _. ⌜ now (scratch .exit) ≡ beginOf (dockOf (now (settings .entry)) (now (blockers .entry)) (now (states .entry)) (now (vectors .entry)))
+    ensures bytes { λ _. ⌜ now (scratch .exit) ≡ beginOf
+        (dockOf (now (settings .entry)) (now (blockers .entry)) (now (states .entry)) (now (vectors .entry)))
         (discardOf (storeAt offset) length) (now («data» .entry)) (now (scratch .entry)) .scratch ⌝ }
-    ensures words { λ _. ⌜ sameThree (isAdmitted (beginOf (dockOf (now (settings .entry)) (now (blockers .entry)) (now (states .entry)) (now (vectors .entry)))
+    ensures words { λ _. ⌜ sameThree (isAdmitted (beginOf
+        (dockOf (now (settings .entry)) (now (blockers .entry)) (now (states .entry)) (now (vectors .entry)))
         (discardOf (storeAt offset) length) (now («data» .entry)) (now (scratch .entry)) .answer))
         (now (blockers .entry)) (now (states .entry)) (now (vectors .entry))
         (now (blockers .exit)) (now (states .exit)) (now (vectors .exit)) ⌝ }
@@ -174,14 +187,15 @@ pub extern "C" fn dock_words_complete(
     scratch: &mut [u8],
     reply: &mut [u64; 9],
 )
-    ensures dock { λ _. ⌜ ShowsAs (completeOf (dockOf (now (settings .entry)) (now (blockers .entry)) (now (states .entry)) (now (vectors .entry)))
+    ensures dock { λ _. ⌜ ShowsAs (completeOf
+        (dockOf (now (settings .entry)) (now (blockers .entry)) (now (states .entry)) (now (vectors .entry)))
         slot code (now («data» .entry)) (now (scratch .entry)))
         (now (reply .exit)) (dockOf (now (settings .entry)) (now (blockers .exit)) (now (states .exit)) (now (vectors .exit))) ⌝ }
-    ensures bytes { λ _. ⌜ (now («data» .exit) ≡ tellOf (dockOf (now (settings .entry)) (now (blockers .entry)) (now (states .entry)) (now (vectors .entry)))
-        slot code (now («data» .entry)) (now (scratch .entry)) .memory)
-        × (now (scratch .exit) ≡ tellOf (dockOf (now (settings .entry)) (now (blockers .entry)) (now (states .entry)) (now (vectors .entry)))
-        slot code (now («data» .entry)) (now (scratch .entry)) .scratch) ⌝ }
-    ensures words { λ _. ⌜ sameThree (isDone (tellOf (dockOf (now (settings .entry)) (now (blockers .entry)) (now (states .entry)) (now (vectors .entry)))
+    ensures bytes { λ _. ⌜ LeavesBytes (tellOf
+        (dockOf (now (settings .entry)) (now (blockers .entry)) (now (states .entry)) (now (vectors .entry)))
+        slot code (now («data» .entry)) (now (scratch .entry))) (now («data» .exit)) (now (scratch .exit)) ⌝ }
+    ensures words { λ _. ⌜ sameThree (isDone (tellOf
+        (dockOf (now (settings .entry)) (now (blockers .entry)) (now (states .entry)) (now (vectors .entry)))
         slot code (now («data» .entry)) (now (scratch .entry)) .outcome))
         (now (blockers .entry)) (now (states .entry)) (now (vectors .entry))
         (now (blockers .exit)) (now (states .exit)) (now (vectors .exit)) ⌝ }
@@ -211,10 +225,12 @@ pub extern "C" fn dock_words_show(
     scratch_len: usize,
     reply: &mut [u64; 9],
 )
-    ensures dock { λ _. ⌜ ShowsAs (showOf (dockOf (now (settings .entry)) (now (blockers .entry)) (now (states .entry)) (now (vectors .entry)))
+    ensures dock { λ _. ⌜ ShowsAs (showOf
+        (dockOf (now (settings .entry)) (now (blockers .entry)) (now (states .entry)) (now (vectors .entry)))
         slot data_len «scratch_len»)
         (now (reply .exit)) (dockOf (now (settings .entry)) (now (blockers .entry)) (now (states .exit)) (now (vectors .exit))) ⌝ }
-    ensures words { λ _. ⌜ sameTwo (isCollected (showOf (dockOf (now (settings .entry)) (now (blockers .entry)) (now (states .entry)) (now (vectors .entry)))
+    ensures words { λ _. ⌜ sameTwo (isCollected (showOf
+        (dockOf (now (settings .entry)) (now (blockers .entry)) (now (states .entry)) (now (vectors .entry)))
         slot data_len «scratch_len» .answer)) (now (states .entry)) (now (vectors .entry)) (now (states .exit))
         (now (vectors .exit)) ⌝ }
 {

@@ -10,7 +10,7 @@ use Rattle.arithmetic.specs.declared.refusals.Refusal.{Refusal}
 use Rattle.stages.specs.declared.state.Request.{Request}
 use Rattle.dock.specs.Begin.{beginOf}
 use Rattle.dock.specs.Next.{nextOf, pieceOf}
-use Rattle.dock.specs.Tell.{tellOf, collectOf}
+use Rattle.dock.specs.Tell.{Told, tellOf, collectOf}
 use Rattle.dock.specs.Numbers.{kindNumber}
 use Rattle.dock.specs.declared.dock.Dock.{Dock}
 use Rattle.dock.specs.declared.begin.Asked.{Asked}
@@ -86,3 +86,7 @@ unfoldable pub completeOf : Dock → ℕ → ℕ → List ℕ → List ℕ → S
 completeOf d p code memory scratch =
     let t = tellOf d p code memory scratch in
     whenDone (t .outcome) (showOf (t .dock) p (length memory) (length scratch)) (λ r. record { answer = NotShown r; dock = t .dock })
+
+-- and the bytes that the tell leaves
+abbrev pub LeavesBytes : Told → List ℕ → List ℕ → Type 0
+LeavesBytes t memory scratch = (memory ≡ t .memory) × (scratch ≡ t .scratch)

@@ -31,8 +31,9 @@ module _ (d : Dock) (p m n : ℕ) where
   shown-as z e = sym (ap (λ (k : Due). showBy k d p m n) e)
 
   -- what leaves the dock leaves every word
-  pub shown-kept : (z : Due) → nextOf d p m n ≡ z → showBy z d p m n .dock ≡ d → (words : List ℕ) → words ≡ shownWords (showBy z d p m n .answer)
-      → (x v : List ℕ) → ShowsAs (showOf d p m n) words d × sameTwo (isCollected (showOf d p m n .answer)) x v x v
+  pub shown-kept : (z : Due) → nextOf d p m n ≡ z → showBy z d p m n .dock ≡ d → (words : List ℕ)
+      → words ≡ shownWords (showBy z d p m n .answer) → (x v : List ℕ)
+      → ShowsAs (showOf d p m n) words d × sameTwo (isCollected (showOf d p m n .answer)) x v x v
   shown-kept z e k words w x v =
       let q = shown-as z e in
       ((w ∙ ap (λ (s : Shows). shownWords (s .answer)) q, sym k ∙ ap (λ (s : Shows). s .dock) q), (same-words _ _, same-words _ _))
@@ -44,8 +45,9 @@ module _ (d : Dock) (p m n : ℕ) where
   shown-asked q e c k words w x v = shown-kept (Make q) e refl words (w ∙ ap (λ (z : Piece). shownWords (Asks p q z)) k) x v
 
   -- a final answer is collected
-  pub shown-taken : (a : ℕ) → nextOf d p m n ≡ Answer a → (words : List ℕ) → words ≡ shortWords 1 a → (d′ : Dock) → d′ ≡ collectOf d p m n .dock
-      → (x v x′ v′ : List ℕ) → ShowsAs (showOf d p m n) words d′ × sameTwo (isCollected (showOf d p m n .answer)) x v x′ v′
+  pub shown-taken : (a : ℕ) → nextOf d p m n ≡ Answer a → (words : List ℕ) → words ≡ shortWords 1 a → (d′ : Dock)
+      → d′ ≡ collectOf d p m n .dock → (x v x′ v′ : List ℕ)
+      → ShowsAs (showOf d p m n) words d′ × sameTwo (isCollected (showOf d p m n .answer)) x v x′ v′
   shown-taken a e words w d′ k x v x′ v′ =
       let q = shown-as (Answer a) e in
       let t = sym (ap (λ (s : Shows). isCollected (s .answer)) q) in
@@ -86,7 +88,8 @@ module _ (d : Dock) (q : Asked) (memory scratch : List ℕ) (g : Begins) (e : g 
       let k = ap (λ (z : Begins). shownBegun (z .answer) (z .dock) (length memory) (length scratch)) e in
       (s .0 ∙ ap (λ (z : Shows). shownWords (z .answer)) k, s .1 ∙ ap (λ (z : Shows). z .dock) k)
 
-  pub submit-words : (b x v b′ x₁ v₁ x′ v′ : List ℕ) → sameThree (isAdmitted (g .answer)) b x v b′ x₁ v₁ → sameTwo (isAdmitted (g .answer)) x₁ v₁ x′ v′
+  pub submit-words : (b x v b′ x₁ v₁ x′ v′ : List ℕ) → sameThree (isAdmitted (g .answer)) b x v b′ x₁ v₁
+      → sameTwo (isAdmitted (g .answer)) x₁ v₁ x′ v′
       → sameThree (isAdmitted (beginOf d q memory scratch .answer)) b x v b′ x′ v′
   submit-words b x v b′ x₁ v₁ x′ v′ f h =
       rw (← ap (λ (z : Begins). isAdmitted (z .answer)) e)
@@ -95,28 +98,24 @@ module _ (d : Dock) (q : Asked) (memory scratch : List ℕ) (g : Begins) (e : g 
 -- ---- complete
 
 module _ (d : Dock) (p code : ℕ) (memory scratch : List ℕ) (t : Told) (e : t ≡ tellOf d p code memory scratch) where
+  -- what a tell comes to, shown where it is done
+  abbrev shownTold : Told → Outcome → Shows
+  shownTold z o = whenDone o (showOf (z .dock) p (length memory) (length scratch)) (λ r. record { answer = NotShown r; dock = z .dock })
+
+  as-told : (o : Outcome) → t .outcome ≡ o → shownTold t o ≡ completeOf d p code memory scratch
+  unfolding completeOf
+  as-told o k = sym (ap (shownTold t) k) ∙ ap (λ (z : Told). shownTold z (z .outcome)) e
+
   pub completed-refused : (r : Refusal) → t .outcome ≡ Refused r → (words : List ℕ) → words ≡ shownWords (NotShown r)
       → ShowsAs (completeOf d p code memory scratch) words (t .dock)
-  unfolding completeOf
   completed-refused r o words w =
-      let k : whenDone (t .outcome) (showOf (t .dock) p (length memory) (length scratch)) (λ z. record { answer = NotShown z; dock = t .dock })
-      ≡ completeOf d p code memory scratch
-      = ap (λ (z : Told). whenDone (z .outcome) (showOf (z .dock) p (length memory) (length scratch))
-      (λ y. record { answer = NotShown y; dock = z .dock })) e in
-      let j = sym (ap (λ (z : Outcome). whenDone z (showOf (t .dock) p (length memory) (length scratch))
-      (λ y. record { answer = NotShown y; dock = t .dock })) o) ∙ k in
+      let j = as-told (Refused r) o in
       (w ∙ ap (λ (z : Shows). shownWords (z .answer)) j, ap (λ (z : Shows). z .dock) j)
 
   pub completed : t .outcome ≡ Done → (words : List ℕ) (d′ : Dock) → ShowsAs (showOf (t .dock) p (length memory) (length scratch)) words d′
       → ShowsAs (completeOf d p code memory scratch) words d′
-  unfolding completeOf
   completed o words d′ s =
-      let k : whenDone (t .outcome) (showOf (t .dock) p (length memory) (length scratch)) (λ z. record { answer = NotShown z; dock = t .dock })
-      ≡ completeOf d p code memory scratch
-      = ap (λ (z : Told). whenDone (z .outcome) (showOf (z .dock) p (length memory) (length scratch))
-      (λ y. record { answer = NotShown y; dock = z .dock })) e in
-      let j = sym (ap (λ (z : Outcome). whenDone z (showOf (t .dock) p (length memory) (length scratch))
-      (λ y. record { answer = NotShown y; dock = t .dock })) o) ∙ k in
+      let j = as-told Done o in
       (s .0 ∙ ap (λ (z : Shows). shownWords (z .answer)) j, s .1 ∙ ap (λ (z : Shows). z .dock) j)
 
   -- a refusal leaves every word

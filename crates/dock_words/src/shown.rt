@@ -22,7 +22,7 @@ ghost use Rattle.arithmetic.specs.Refusals.{isDone};
 ghost use Rattle.dock_words.specs.View.{dockOf};
 ghost use Rattle.dock_words.specs.CallWords.{isAdmitted, sameTwo, sameThree};
 ghost use Rattle.dock_words.specs.Shown.{NotShown, Asks, shortWords, shownWords, isCollected, showOf, ShowsAs, shownBegun, submitOf};
-ghost use Rattle.dock_words.specs.Shown.{completeOf};
+ghost use Rattle.dock_words.specs.Shown.{completeOf, LeavesBytes};
 
 // An answer of one number: what it is (0 refused, 1 final, 2 waiting), and the number.
 fn put_short(reply: &mut [u64; 9], what: u64, number: u64)
@@ -90,10 +90,12 @@ pub fn show(
     scratch_len: usize,
     reply: &mut [u64; 9],
 )
-    ensures dock { λ _. ⌜ ShowsAs (showOf (dockOf (now (settings .entry)) (now (blockers .entry)) (now (states .entry)) (now (vectors .entry)))
+    ensures dock { λ _. ⌜ ShowsAs (showOf
+        (dockOf (now (settings .entry)) (now (blockers .entry)) (now (states .entry)) (now (vectors .entry)))
         slot data_len «scratch_len»)
         (now (reply .exit)) (dockOf (now (settings .entry)) (now (blockers .entry)) (now (states .exit)) (now (vectors .exit))) ⌝ }
-    ensures words { λ _. ⌜ sameTwo (isCollected (showOf (dockOf (now (settings .entry)) (now (blockers .entry)) (now (states .entry)) (now (vectors .entry)))
+    ensures words { λ _. ⌜ sameTwo (isCollected (showOf
+        (dockOf (now (settings .entry)) (now (blockers .entry)) (now (states .entry)) (now (vectors .entry)))
         slot data_len «scratch_len» .answer)) (now (states .entry)) (now (vectors .entry)) (now (states .exit))
         (now (vectors .exit)) ⌝ }
 {
@@ -148,10 +150,12 @@ fn show_begun(
     scratch_len: usize,
     reply: &mut [u64; 9],
 )
-    ensures dock { λ _. ⌜ ShowsAs (shownBegun begun (dockOf (now (settings .entry)) (now (blockers .entry)) (now (states .entry)) (now (vectors .entry)))
+    ensures dock { λ _. ⌜ ShowsAs (shownBegun begun
+        (dockOf (now (settings .entry)) (now (blockers .entry)) (now (states .entry)) (now (vectors .entry)))
         data_len «scratch_len»)
         (now (reply .exit)) (dockOf (now (settings .entry)) (now (blockers .entry)) (now (states .exit)) (now (vectors .exit))) ⌝ }
-    ensures words { λ _. ⌜ sameTwo (isAdmitted begun) (now (states .entry)) (now (vectors .entry)) (now (states .exit)) (now (vectors .exit)) ⌝ }
+    ensures words { λ _. ⌜ sameTwo (isAdmitted begun) (now (states .entry)) (now (vectors .entry))
+        (now (states .exit)) (now (vectors .exit)) ⌝ }
 {
     match begun {
         Begun::Done => put_short(reply, 1, 0),
@@ -180,12 +184,15 @@ pub fn submit(
     scratch: &mut [u8],
     reply: &mut [u64; 9],
 )
-    ensures dock { λ _. ⌜ ShowsAs (submitOf (dockOf (now (settings .entry)) (now (blockers .entry)) (now (states .entry)) (now (vectors .entry)))
+    ensures dock { λ _. ⌜ ShowsAs (submitOf
+        (dockOf (now (settings .entry)) (now (blockers .entry)) (now (states .entry)) (now (vectors .entry)))
         asked (now («data» .entry)) (now (scratch .entry)))
         (now (reply .exit)) (dockOf (now (settings .entry)) (now (blockers .exit)) (now (states .exit)) (now (vectors .exit))) ⌝ }
-    ensures bytes { λ _. ⌜ now (scratch .exit) ≡ beginOf (dockOf (now (settings .entry)) (now (blockers .entry)) (now (states .entry)) (now (vectors .entry)))
+    ensures bytes { λ _. ⌜ now (scratch .exit) ≡ beginOf
+        (dockOf (now (settings .entry)) (now (blockers .entry)) (now (states .entry)) (now (vectors .entry)))
         asked (now («data» .entry)) (now (scratch .entry)) .scratch ⌝ }
-    ensures words { λ _. ⌜ sameThree (isAdmitted (beginOf (dockOf (now (settings .entry)) (now (blockers .entry)) (now (states .entry)) (now (vectors .entry)))
+    ensures words { λ _. ⌜ sameThree (isAdmitted (beginOf
+        (dockOf (now (settings .entry)) (now (blockers .entry)) (now (states .entry)) (now (vectors .entry)))
         asked (now («data» .entry)) (now (scratch .entry)) .answer))
         (now (blockers .entry)) (now (states .entry)) (now (vectors .entry))
         (now (blockers .exit)) (now (states .exit)) (now (vectors .exit)) ⌝ }
@@ -217,14 +224,15 @@ pub fn complete(
     scratch: &mut [u8],
     reply: &mut [u64; 9],
 )
-    ensures dock { λ _. ⌜ ShowsAs (completeOf (dockOf (now (settings .entry)) (now (blockers .entry)) (now (states .entry)) (now (vectors .entry)))
+    ensures dock { λ _. ⌜ ShowsAs (completeOf
+        (dockOf (now (settings .entry)) (now (blockers .entry)) (now (states .entry)) (now (vectors .entry)))
         slot code (now («data» .entry)) (now (scratch .entry)))
         (now (reply .exit)) (dockOf (now (settings .entry)) (now (blockers .exit)) (now (states .exit)) (now (vectors .exit))) ⌝ }
-    ensures bytes { λ _. ⌜ (now («data» .exit) ≡ tellOf (dockOf (now (settings .entry)) (now (blockers .entry)) (now (states .entry)) (now (vectors .entry)))
-        slot code (now («data» .entry)) (now (scratch .entry)) .memory)
-        × (now (scratch .exit) ≡ tellOf (dockOf (now (settings .entry)) (now (blockers .entry)) (now (states .entry)) (now (vectors .entry)))
-        slot code (now («data» .entry)) (now (scratch .entry)) .scratch) ⌝ }
-    ensures words { λ _. ⌜ sameThree (isDone (tellOf (dockOf (now (settings .entry)) (now (blockers .entry)) (now (states .entry)) (now (vectors .entry)))
+    ensures bytes { λ _. ⌜ LeavesBytes (tellOf
+        (dockOf (now (settings .entry)) (now (blockers .entry)) (now (states .entry)) (now (vectors .entry)))
+        slot code (now («data» .entry)) (now (scratch .entry))) (now («data» .exit)) (now (scratch .exit)) ⌝ }
+    ensures words { λ _. ⌜ sameThree (isDone (tellOf
+        (dockOf (now (settings .entry)) (now (blockers .entry)) (now (states .entry)) (now (vectors .entry)))
         slot code (now («data» .entry)) (now (scratch .entry)) .outcome))
         (now (blockers .entry)) (now (states .entry)) (now (vectors .entry))
         (now (blockers .exit)) (now (states .exit)) (now (vectors .exit)) ⌝ }
