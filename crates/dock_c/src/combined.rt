@@ -3,10 +3,10 @@
 // start and length.
 use arithmetic::offsets::StoreOffset;
 use dock::begin::Asked;
+use dock_shown::shown::complete;
+use dock_shown::shown::show;
+use dock_shown::shown::submit;
 use dock_words::arrays::vector_of;
-use dock_words::shown::complete;
-use dock_words::shown::show;
-use dock_words::shown::submit;
 ghost use mathlib.Core.Path.{_≡_};
 ghost use Rattle.arithmetic.specs.Offsets.{storeAt};
 ghost use Rattle.arithmetic.specs.Refusals.{isDone};
@@ -15,7 +15,7 @@ ghost use Rattle.dock.specs.Tell.{tellOf};
 ghost use Rattle.dock_words.specs.View.{flagOf, dockOf};
 ghost use Rattle.vectors.specs.Words.{vectorFrom};
 ghost use Rattle.dock_words.specs.CallWords.{isAdmitted, sameTwo, sameThree};
-ghost use Rattle.dock_words.specs.Shown.{isCollected, showOf, ShowsAs, submitOf, completeOf, LeavesBytes};
+ghost use Rattle.dock_shown.specs.Shown.{isCollected, showOf, ShowsAs, submitOf, completeOf, LeavesBytes};
 
 // Begin a read of the vector's length at `offset` into the data, and show it.
 #[no_mangle]

@@ -3,5 +3,3 @@ pub mod View
 pub mod Laws
 pub mod CallWords
 pub mod CallWordsLaws
-pub mod Shown
-pub mod ShownLaws

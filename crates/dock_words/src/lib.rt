@@ -1,7 +1,6 @@
 // The dock in words: separately lent arrays of 64-bit words, the form in which a host can hold it. A call reads one slot's row into
 // the by-value struct, steps it by the functions of crate dock, and writes the row back; blockers are worked on in place. What words mean:
-// specs/View.antt. Public are `arrays` and `shown`: the functions below
-// them require the lengths of the arrays, which these declare.
+// specs/View.antt. Public is `arrays` alone: the functions below it require the lengths of the arrays, which it declares.
 mod tags; // one word: the tag of a variant, a flag, a byte, a size; words that become 0
 mod state_words; // states, and the lowest free slot
 mod setting_words; // settings and buffers
@@ -12,4 +11,3 @@ mod told_words; // what a tell does to one slot
 mod begun_words; // what a begin does to one slot
 mod calls; // the calls, on slices
 pub mod arrays; // the calls, on arrays of their lengths
-pub mod shown; // the calls that also show what is next

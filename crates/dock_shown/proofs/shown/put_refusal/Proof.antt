@@ -1,10 +1,10 @@
--- `dock_words::shown::put_refusal` meets its contract: the number is the refusal's. Assumes nothing.
+-- `dock_shown::shown::put_refusal` meets its contract: the number is the refusal's. Assumes nothing.
 use mathlib.Core.Path.{ap, _∙_}
 use Prim.Native.Nat.{ℕ}
-use Rattle.dock_words.specs.Shown.{shortWords}
+use Rattle.dock_shown.specs.Shown.{shortWords}
 use borrow.Author.Needs.{needs}
-use Rattle.dock_words.proofs.shown.put_refusal.Statement.{statement}
-use Rattle.dock_words.proofs.shown.put_refusal.Tie as tie
+use Rattle.dock_shown.proofs.shown.put_refusal.Statement.{statement}
+use Rattle.dock_shown.proofs.shown.put_refusal.Tie as tie
 
 number-requires : tie.Need-number-requires
 number-requires c κs = search needs

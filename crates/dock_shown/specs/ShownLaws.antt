@@ -18,10 +18,10 @@ use Rattle.dock.specs.declared.begin.Begun.{Begun}
 use Rattle.dock.specs.declared.next.Due.{Due}
 use Rattle.dock.specs.declared.next.Due.the-variants.{Make, Answer}
 use Rattle.dock.specs.declared.next.Piece.{Piece}
 use Rattle.dock_words.specs.CallWords.{isAdmitted, sameUnless, sameTwo, sameThree}
 use Rattle.dock_words.specs.CallWordsLaws.{same-words, done-words}
-use Rattle.dock_words.specs.Shown.{NotShown, Asks, shortWords, shownWords, isCollected, Shows, showBy, showOf, ShowsAs, shownBegun}
-use Rattle.dock_words.specs.Shown.{submitOf, completeOf}
+use Rattle.dock_shown.specs.Shown.{NotShown, Asks, shortWords, shownWords, isCollected, Shows, showBy, showOf, ShowsAs, shownBegun}
+use Rattle.dock_shown.specs.Shown.{submitOf, completeOf}
 
 -- ---- show
 

@@ -1,28 +1,52 @@
 // The combined calls: each does what one of `arrays` does, and answers with what is next of the slot and the first piece of its request, or
 // with the final answer, collected. So a request costs one call. For any words.
-use crate::arrays::begin;
-use crate::arrays::collect;
-use crate::arrays::next;
-use crate::arrays::piece;
-use crate::arrays::tell;
-use crate::tags::byte_word;
-use crate::tags::size_word;
 use arithmetic::refusals::Outcome;
 use arithmetic::refusals::Refusal;
 use dock::begin::Asked;
 use dock::begin::Begun;
 use dock::next::Due;
 use dock::next::Piece;
-use dock::numbers::kind_number;
+use dock_words::arrays::begin;
+use dock_words::arrays::collect;
+use dock_words::arrays::next;
+use dock_words::arrays::piece;
+use dock_words::arrays::tell;
+use stages::state::Kind;
 use stages::state::Request;
 ghost use mathlib.Core.Path.{_≡_};
 ghost use Rattle.dock.specs.Begin.{beginOf};
 ghost use Rattle.dock.specs.Tell.{tellOf};
+ghost use Rattle.dock.specs.Numbers.{kindNumber};
 ghost use Rattle.arithmetic.specs.Refusals.{isDone};
 ghost use Rattle.dock_words.specs.View.{dockOf};
 ghost use Rattle.dock_words.specs.CallWords.{isAdmitted, sameTwo, sameThree};
-ghost use Rattle.dock_words.specs.Shown.{NotShown, Asks, shortWords, shownWords, isCollected, showOf, ShowsAs, shownBegun, submitOf};
-ghost use Rattle.dock_words.specs.Shown.{completeOf, LeavesBytes};
+ghost use Rattle.dock_shown.specs.Shown.{NotShown, Asks, shortWords, shownWords, isCollected, showOf, ShowsAs, shownBegun, submitOf};
+ghost use Rattle.dock_shown.specs.Shown.{completeOf, LeavesBytes};
+
+fn byte_word(x: u8) -> u64
+    ensures { λ r. ⌜ r ≡ x ⌝ }
+{
+    x as u64
+}
+
+fn size_word(x: usize) -> u64
+    ensures { λ r. ⌜ r ≡ x ⌝ }
+{
+    x as u64
+}
+
+// The number of a request's kind.
+pub fn kind_number(k: Kind) -> u64
+    ensures { λ n. ⌜ n ≡ kindNumber k ⌝ }
+{
+    match k {
+        Kind::Read => 0,
+        Kind::Write => 1,
+        Kind::Zero => 2,
+        Kind::AllocatedZero => 3,
+        Kind::Discard => 4,
+    }
+}
 
 // An answer of one number: what it is (0 refused, 1 final, 2 waiting), and the number.
 fn put_short(reply: &mut [u64; 9], what: u64, number: u64)

@@ -1,12 +1,12 @@
--- `dock_words::shown::complete` meets its contract: what tell gives, shown where it is done. Assumes nothing.
+-- `dock_shown::shown::complete` meets its contract: what tell gives, shown where it is done. Assumes nothing.
 use denote.Ref.{now}
 use mathlib.Core.Path.{ap}
 use Rattle.dock.specs.Tell.{Told}
-use Rattle.dock_words.specs.ShownLaws.{completed-refused, completed, complete-words, complete-done}
+use Rattle.dock_shown.specs.ShownLaws.{completed-refused, completed, complete-words, complete-done}
 use Rattle.dock_words.specs.View.{dockOf}
 use borrow.Author.Needs.{needs}
-use Rattle.dock_words.proofs.shown.complete.Statement.{statement}
-use Rattle.dock_words.proofs.shown.complete.Tie as tie
+use Rattle.dock_shown.proofs.shown.complete.Statement.{statement}
+use Rattle.dock_shown.proofs.shown.complete.Tie as tie
 
 tell-requires : tie.Need-tell-requires
 tell-requires c κs = search needs

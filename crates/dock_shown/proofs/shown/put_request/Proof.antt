@@ -1,10 +1,10 @@
--- `dock_words::shown::put_request` meets its contract: each arm has the words of its piece. Assumes nothing.
+-- `dock_shown::shown::put_request` meets its contract: each arm has the words of its piece. Assumes nothing.
 use mathlib.Core.Path.{sym, ap}
-use Rattle.dock_words.specs.Shown.{Asks, shownWords}
+use Rattle.dock_shown.specs.Shown.{Asks, shownWords}
 use Rattle.dock.specs.declared.next.Piece.{Piece}
 use borrow.Author.Needs.{needs}
-use Rattle.dock_words.proofs.shown.put_request.Statement.{statement}
-use Rattle.dock_words.proofs.shown.put_request.Tie as tie
+use Rattle.dock_shown.proofs.shown.put_request.Statement.{statement}
+use Rattle.dock_shown.proofs.shown.put_request.Tie as tie
 
 kind-number-requires : tie.Need-kind-number-requires
 kind-number-requires c κs = search needs

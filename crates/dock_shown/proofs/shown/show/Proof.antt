@@ -1,13 +1,13 @@
--- `dock_words::shown::show` meets its contract: each arm is its case of what next says. Assumes nothing.
+-- `dock_shown::shown::show` meets its contract: each arm is its case of what next says. Assumes nothing.
 use denote.Ref.{now}
 use mathlib.Core.Path.{refl, sym, ap, _∙_}
 use Prim.Native.Nat.{ℕ}
-use Rattle.dock_words.specs.Shown.{shortWords}
-use Rattle.dock_words.specs.ShownLaws.{shown-kept, shown-asked, shown-taken}
+use Rattle.dock_shown.specs.Shown.{shortWords}
+use Rattle.dock_shown.specs.ShownLaws.{shown-kept, shown-asked, shown-taken}
 use Rattle.dock_words.specs.View.{dockOf}
 use borrow.Author.Needs.{needs}
-use Rattle.dock_words.proofs.shown.show.Statement.{statement}
-use Rattle.dock_words.proofs.shown.show.Tie as tie
+use Rattle.dock_shown.proofs.shown.show.Statement.{statement}
+use Rattle.dock_shown.proofs.shown.show.Tie as tie
 
 next-requires : tie.Need-next-requires
 next-requires c κs = search needs

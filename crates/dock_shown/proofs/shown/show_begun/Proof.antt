@@ -1,11 +1,11 @@
--- `dock_words::shown::show_begun` meets its contract: each arm is its case of the begin's answer. Assumes nothing.
+-- `dock_shown::shown::show_begun` meets its contract: each arm is its case of the begin's answer. Assumes nothing.
 use denote.Ref.{now}
 use mathlib.Core.Path.{refl}
-use Rattle.dock_words.specs.ShownLaws.{begun-kept, begun-shown}
+use Rattle.dock_shown.specs.ShownLaws.{begun-kept, begun-shown}
 use Rattle.dock_words.specs.View.{dockOf}
 use borrow.Author.Needs.{needs}
-use Rattle.dock_words.proofs.shown.show_begun.Statement.{statement}
-use Rattle.dock_words.proofs.shown.show_begun.Tie as tie
+use Rattle.dock_shown.proofs.shown.show_begun.Statement.{statement}
+use Rattle.dock_shown.proofs.shown.show_begun.Tie as tie
 
 enum-told : tie.Need-enum-told
 enum-told c = search needs

@@ -1,12 +1,12 @@
--- `dock_words::shown::submit` meets its contract: what begin gives, shown. Assumes nothing.
+-- `dock_shown::shown::submit` meets its contract: what begin gives, shown. Assumes nothing.
 use denote.Ref.{now}
 use mathlib.Core.Path.{ap}
 use Rattle.dock.specs.Begin.{Begins}
-use Rattle.dock_words.specs.ShownLaws.{submitted, submit-words}
+use Rattle.dock_shown.specs.ShownLaws.{submitted, submit-words}
 use Rattle.dock_words.specs.View.{dockOf}
 use borrow.Author.Needs.{needs}
-use Rattle.dock_words.proofs.shown.submit.Statement.{statement}
-use Rattle.dock_words.proofs.shown.submit.Tie as tie
+use Rattle.dock_shown.proofs.shown.submit.Statement.{statement}
+use Rattle.dock_shown.proofs.shown.submit.Tie as tie
 
 begin-requires : tie.Need-begin-requires
 begin-requires c κs = search needs
