@@ -2,87 +2,87 @@
 use mathlib.Core.Path.{◌≡◌, ap, ◌∙◌}
 use mathlib.Core.Bool.{true, false}
 use Prim.Native.Nat.{ℕ, ◌+◌, ◌-◌}
-use Rattle.arithmetic.specs.Rounding.{fits, sum_of, upOf, round_up, roundDown}
-use Rattle.arithmetic.specs.RoundingLaws.{sum_fits, sum_over, up_fits, up-over}
-use Rattle.arithmetic.specs.Offsets.{storeAt, bufferAt}
-use Rattle.arithmetic.specs.Padding.{paddedStart, roundedEnd, paddedLength, paddedEnd, paddingFits, span_of, paddedOf}
+use Rattle.arithmetic.specs.Rounding.{fits, sum_of, up_of, round_up, round_down}
+use Rattle.arithmetic.specs.RoundingLaws.{sum_fits, sum_over, up_fits, up_over}
+use Rattle.arithmetic.specs.Offsets.{store_at, buffer_at}
+use Rattle.arithmetic.specs.Padding.{padded_start, rounded_end, padded_length, padded_end, padding_fits, span_of, padded_of}
 use Rattle.arithmetic.specs.declared.refusals.Refusal.TheVariants.{Overflow}
 use Rattle.arithmetic.specs.declared.offsets.BufferOffset.{BufferOffset}
 use Rattle.arithmetic.specs.declared.offsets.Sum.TheVariants.{Fits, Over}
 use Rattle.arithmetic.specs.declared.padding.Padding.TheVariants.{Padded, Refused}
 
 module _ (r l o n : ℕ) where
-  pub over-end : sum_of o n ≡ Over → Refused Overflow ≡ paddedOf r l o n
-  unfolding paddedOf paddingFits
-  over-end e = simp (sum_over o n e)
+  pub over_end : sum_of o n ≡ Over → Refused Overflow ≡ padded_of r l o n
+  unfolding padded_of padding_fits
+  over_end e = simp (sum_over o n e)
 
 module _ (r l o n end : ℕ) (e : sum_of o n ≡ Fits end) where
   pub end_is : end ≡ o + n
   end_is = (sum_fits o n end e).is
 
-  pub over-rounded : upOf end r ≡ Over → Refused Overflow ≡ paddedOf r l o n
-  unfolding paddedOf paddingFits
-  over-rounded f =
-      let g : fits (o + n + (r - 1)) ≡ false = rw end_is at (up-over end r f) in
+  pub over_rounded : up_of end r ≡ Over → Refused Overflow ≡ padded_of r l o n
+  unfolding padded_of padding_fits
+  over_rounded f =
+      let g : fits (o + n + (r - 1)) ≡ false = rw end_is at (up_over end r f) in
       simp ((sum_fits o n end e).ok, g)
 
 -- the sums up to the rounded end, as numbers and as tests
 record Rounded (r o n rounded start : ℕ) : Type 0 where
-  end-ok : fits (o + n) ≡ true
-  rounded-ok : fits (o + n + (r - 1)) ≡ true
-  rounded-is : rounded ≡ roundedEnd r o n
-  start_is : start ≡ paddedStart r o
+  end_ok : fits (o + n) ≡ true
+  rounded_ok : fits (o + n + (r - 1)) ≡ true
+  rounded_is : rounded ≡ rounded_end r o n
+  start_is : start ≡ padded_start r o
 
-rounded : (r l o n end rnd start : ℕ) → sum_of o n ≡ Fits end → upOf end r ≡ Fits rnd → start ≡ roundDown o r → Rounded r o n rnd start
-unfolding roundedEnd paddedStart
+rounded : (r l o n end rnd start : ℕ) → sum_of o n ≡ Fits end → up_of end r ≡ Fits rnd → start ≡ round_down o r → Rounded r o n rnd start
+unfolding rounded_end padded_start
 rounded r l o n end rnd start e f d =
     let u = up_fits end r rnd f in
     let i = end_is r l o n end e in
     record {
-      end-ok = (sum_fits o n end e).ok;
-      rounded-ok = rw i at u.ok;
-      rounded-is = u.is ∙ ap (λ (x : ℕ). round_up x r) i;
+      end_ok = (sum_fits o n end e).ok;
+      rounded_ok = rw i at u.ok;
+      rounded_is = u.is ∙ ap (λ (x : ℕ). round_up x r) i;
       start_is = d;
     }
 
-module _ (r l o n end rnd start : ℕ) (e : sum_of o n ≡ Fits end) (f : upOf end r ≡ Fits rnd) (d : start ≡ roundDown o r) where
+module _ (r l o n end rnd start : ℕ) (e : sum_of o n ≡ Fits end) (f : up_of end r ≡ Fits rnd) (d : start ≡ round_down o r) where
   k : Rounded r o n rnd start
   k = rounded r l o n end rnd start e f d
 
-  pub rounded-is : rnd ≡ roundedEnd r o n
-  rounded-is = k.rounded-is
+  pub rounded_is : rnd ≡ rounded_end r o n
+  rounded_is = k.rounded_is
 
-  pub over-length : upOf (rnd - start) l ≡ Over → Refused Overflow ≡ paddedOf r l o n
-  unfolding paddedOf paddingFits
-  over-length g =
-      let h : fits (roundedEnd r o n - paddedStart r o + (l - 1)) ≡ false = rw (k.rounded-is, k.start_is) at (up-over (rnd - start) l g) in
-      simp (k.end-ok, k.rounded-ok, h)
+  pub over_length : up_of (rnd - start) l ≡ Over → Refused Overflow ≡ padded_of r l o n
+  unfolding padded_of padding_fits
+  over_length g =
+      let h : fits (rounded_end r o n - padded_start r o + (l - 1)) ≡ false = rw (k.rounded_is, k.start_is) at (up_over (rnd - start) l g) in
+      simp (k.end_ok, k.rounded_ok, h)
 
-module _ (r l o n end rnd start len : ℕ) (e : sum_of o n ≡ Fits end) (f : upOf end r ≡ Fits rnd) (d : start ≡ roundDown o r)
-    (g : upOf (rnd - start) l ≡ Fits len) where
+module _ (r l o n end rnd start len : ℕ) (e : sum_of o n ≡ Fits end) (f : up_of end r ≡ Fits rnd) (d : start ≡ round_down o r)
+    (g : up_of (rnd - start) l ≡ Fits len) where
   m : Rounded r o n rnd start
   m = rounded r l o n end rnd start e f d
 
-  length-ok : fits (roundedEnd r o n - paddedStart r o + (l - 1)) ≡ true
-  length-ok = rw (m.rounded-is, m.start_is) at (up_fits (rnd - start) l len g).ok
+  length_ok : fits (rounded_end r o n - padded_start r o + (l - 1)) ≡ true
+  length_ok = rw (m.rounded_is, m.start_is) at (up_fits (rnd - start) l len g).ok
 
-  pub length-is : len ≡ paddedLength r l o n
-  unfolding paddedLength
-  length-is = rw (m.rounded-is, m.start_is) at (up_fits (rnd - start) l len g).is
+  pub length_is : len ≡ padded_length r l o n
+  unfolding padded_length
+  length_is = rw (m.rounded_is, m.start_is) at (up_fits (rnd - start) l len g).is
 
-  pub over-padded : sum_of start len ≡ Over → Refused Overflow ≡ paddedOf r l o n
-  unfolding paddedOf paddingFits
-  over-padded h =
-      let x : fits (paddedEnd r l o n) ≡ false = rw (m.start_is, length-is) at (sum_over start len h) in
-      simp (m.end-ok, m.rounded-ok, length-ok, x)
+  pub over_padded : sum_of start len ≡ Over → Refused Overflow ≡ padded_of r l o n
+  unfolding padded_of padding_fits
+  over_padded h =
+      let x : fits (padded_end r l o n) ≡ false = rw (m.start_is, length_is) at (sum_over start len h) in
+      simp (m.end_ok, m.rounded_ok, length_ok, x)
 
-  pub padded-end-is : (pend : ℕ) → sum_of start len ≡ Fits pend → pend ≡ paddedEnd r l o n
-  padded-end-is pend h = rw (m.start_is, length-is) at (sum_fits start len pend h).is
+  pub padded_end_is : (pend : ℕ) → sum_of start len ≡ Fits pend → pend ≡ padded_end r l o n
+  padded_end_is pend h = rw (m.start_is, length_is) at (sum_fits start len pend h).is
 
-  pub padded-all : (pend pre suf : ℕ) (head : BufferOffset) → sum_of start len ≡ Fits pend → head ≡ bufferAt (o - start) → pre ≡ round_up (o - start) l → suf ≡ round_up (pend - end) l
-      → Padded (record { start = storeAt start; end = storeAt pend; head = head; length = len; prefix = pre; suffix = suf }) ≡ paddedOf r l o n
-  unfolding paddedOf paddingFits span_of
-  padded-all pend pre suf head h b p q =
-      let x : fits (paddedEnd r l o n) ≡ true = rw (m.start_is, length-is) at (sum_fits start len pend h).ok in
-      simp (m.end-ok, m.rounded-ok, length-ok, x)
-      (rw (b, p, q, padded-end-is pend h, length-is, m.start_is, end_is r l o n end e))
+  pub padded_all : (pend pre suf : ℕ) (head : BufferOffset) → sum_of start len ≡ Fits pend → head ≡ buffer_at (o - start) → pre ≡ round_up (o - start) l → suf ≡ round_up (pend - end) l
+      → Padded (record { start = store_at start; end = store_at pend; head = head; length = len; prefix = pre; suffix = suf }) ≡ padded_of r l o n
+  unfolding padded_of padding_fits span_of
+  padded_all pend pre suf head h b p q =
+      let x : fits (padded_end r l o n) ≡ true = rw (m.start_is, length_is) at (sum_fits start len pend h).ok in
+      simp (m.end_ok, m.rounded_ok, length_ok, x)
+      (rw (b, p, q, padded_end_is pend h, length_is, m.start_is, end_is r l o n end e))

@@ -24,23 +24,23 @@ window s o zero = []
 window s o (suc n) = s o ∷ window s (suc o) n
 
 -- a list of bytes, laid on the store from o on
-abbrev pub laidAt : ℕ → List ℕ → Bytes
-laidAt o bs x = get_or bs (x - o) 0
+abbrev pub laid_at : ℕ → List ℕ → Bytes
+laid_at o bs x = get_or bs (x - o) 0
 
 -- ---- laws
 
-pub in-range : (r : Range) (y : ℕ) → r.start.0 ≤ y → y < r.end.0 → in_range r y ≡ true
-in-range r y h k = rw (le-leb r.start.0 y h, lt-ltb y r.end.0 k)
+pub in_range_lem : (r : Range) (y : ℕ) → r.start.0 ≤ y → y < r.end.0 → in_range r y ≡ true
+in_range_lem r y h k = rw (le-leb r.start.0 y h, lt-ltb y r.end.0 k)
 
-pub not-in-before : (r : Range) (y : ℕ) → y < r.start.0 → in_range r y ≡ false
-not-in-before r y h = rw (lt-leb r.start.0 y h)
+pub not_in_before : (r : Range) (y : ℕ) → y < r.start.0 → in_range r y ≡ false
+not_in_before r y h = rw (lt-leb r.start.0 y h)
 
-pub not-in-behind : (r : Range) (y : ℕ) → r.end.0 ≤ y → in_range r y ≡ false
-not-in-behind r y h = rw (le-ltb y r.end.0 h) (and-false (leb r.start.0 y))
+pub not_in_behind : (r : Range) (y : ℕ) → r.end.0 ≤ y → in_range r y ≡ false
+not_in_behind r y h = rw (le-ltb y r.end.0 h) (and-false (leb r.start.0 y))
 
-pub changed-off : (s : Bytes) (r : Range) (which : ℕ → Bool) (new : Bytes) (y : ℕ) → in_range r y ≡ false → changed s r which new y ≡ s y
+pub changed_off : (s : Bytes) (r : Range) (which : ℕ → Bool) (new : Bytes) (y : ℕ) → in_range r y ≡ false → changed s r which new y ≡ s y
 unfolding changed
-changed-off s r which new y e = rw e
+changed_off s r which new y e = rw e
 
 -- two lists of the same length are equal where their elements are
 pub list_ext : (l m : List ℕ) → length l ≡ length m → ((i : ℕ) → i < length l → get_or l i 0 ≡ get_or m i 0) → l ≡ m
@@ -53,16 +53,16 @@ list_ext (x ∷ l) (y ∷ m) e f =
     let b = list_ext l m h (λ i k. f (suc i) (omega arith)) in
     λ t. a t ∷ b t
 
-pub window-length : (s : Bytes) (o n : ℕ) → length (window s o n) ≡ n
+pub window_length : (s : Bytes) (o n : ℕ) → length (window s o n) ≡ n
 unfolding window
-window-length s o zero = refl
-window-length s o (suc n) = ap suc (window-length s (suc o) n)
+window_length s o zero = refl
+window_length s o (suc n) = ap suc (window_length s (suc o) n)
 
-pub window-at : (s : Bytes) (o n i : ℕ) → i < n → get_or (window s o n) i 0 ≡ s (o + i)
+pub window_at : (s : Bytes) (o n i : ℕ) → i < n → get_or (window s o n) i 0 ≡ s (o + i)
 unfolding window
-window-at s o zero i h = absurd (omega arith)
-window-at s o (suc n) zero h = let e : o + 0 ≡ o = omega arith in ap s (sym e)
-window-at s o (suc n) (suc i) h = let e : suc o + i ≡ o + suc i = omega arith in window-at s (suc o) n i (omega arith) ∙ ap s e
+window_at s o zero i h = absurd (omega arith)
+window_at s o (suc n) zero h = let e : o + 0 ≡ o = omega arith in ap s (sym e)
+window_at s o (suc n) (suc i) h = let e : suc o + i ≡ o + suc i = omega arith in window_at s (suc o) n i (omega arith) ∙ ap s e
 
 -- a window, and the one that follows it
 pub window_more : (s : Bytes) (o m n : ℕ) → window s o (m + n) ≡ window s o m ++ window s (o + m) n

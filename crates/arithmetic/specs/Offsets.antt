@@ -11,31 +11,31 @@ use Rattle.arithmetic.specs.declared.offsets.OnStore.{OnStore}
 use Rattle.arithmetic.specs.declared.offsets.InBuffer.TheVariants.{At as BufferAt, Refused as NotInBuffer}
 use Rattle.arithmetic.specs.declared.offsets.OnStore.TheVariants.{At as StoreAt, Refused as NotOnStore}
 
-abbrev pub storeAt : ℕ → StoreOffset
-storeAt x = record { 0 = x }
+abbrev pub store_at : ℕ → StoreOffset
+store_at x = record { 0 = x }
 
-abbrev pub bufferAt : ℕ → BufferOffset
-bufferAt x = record { 0 = x }
+abbrev pub buffer_at : ℕ → BufferOffset
+buffer_at x = record { 0 = x }
 
 -- the bytes from a up to, not including, e
 abbrev pub range_of : ℕ → ℕ → Range
-range_of a e = record { start = storeAt a; end = storeAt e }
+range_of a e = record { start = store_at a; end = store_at e }
 
 -- where o lies in a buffer whose first byte is that of the store at start; nowhere, if o lies before start
-unfoldable pub inBufferOf : StoreOffset → StoreOffset → InBuffer
-inBufferOf o start = pick (leb start.0 o.0) (BufferAt (bufferAt (o.0 - start.0))) (NotInBuffer Overflow)
+unfoldable pub in_buffer_of : StoreOffset → StoreOffset → InBuffer
+in_buffer_of o start = pick (leb start.0 o.0) (BufferAt (buffer_at (o.0 - start.0))) (NotInBuffer Overflow)
 
 -- at or behind the start it lies as many bytes in
-pub in-buffer-at : (o start : StoreOffset) → start.0 ≤ o.0 → inBufferOf o start ≡ BufferAt (bufferAt (o.0 - start.0))
-unfolding inBufferOf
-in-buffer-at o start h = rw (le-leb start.0 o.0 h)
+pub in_buffer_at : (o start : StoreOffset) → start.0 ≤ o.0 → in_buffer_of o start ≡ BufferAt (buffer_at (o.0 - start.0))
+unfolding in_buffer_of
+in_buffer_at o start h = rw (le-leb start.0 o.0 h)
 
 -- where byte b of a buffer lies on the store, if its first byte lies at start
-unfoldable pub onStoreOf : BufferOffset → StoreOffset → OnStore
-onStoreOf b start = pick (fits (start.0 + b.0)) (StoreAt (storeAt (start.0 + b.0))) (NotOnStore Overflow)
+unfoldable pub on_store_of : BufferOffset → StoreOffset → OnStore
+on_store_of b start = pick (fits (start.0 + b.0)) (StoreAt (store_at (start.0 + b.0))) (NotOnStore Overflow)
 
 -- it lies there, where that is an offset
-pub on-store-at : (b : BufferOffset) (start : StoreOffset) → fits (start.0 + b.0) ≡ true
-    → onStoreOf b start ≡ StoreAt (storeAt (start.0 + b.0))
-unfolding onStoreOf
-on-store-at b start h = rw h
+pub on_store_at : (b : BufferOffset) (start : StoreOffset) → fits (start.0 + b.0) ≡ true
+    → on_store_of b start ≡ StoreAt (store_at (start.0 + b.0))
+unfolding on_store_of
+on_store_at b start h = rw h

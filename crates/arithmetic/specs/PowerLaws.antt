@@ -9,7 +9,7 @@ use Rattle.std.proofs.Math.Arith.{bin_ind}
 use Rattle.std.specs.Int.Bits.{bit_and, and_step, and_self}
 use Rattle.std.proofs.lemmas.Nat.{and_mask}
 use Rattle.std.proofs.Math.Pow.{pow-lt}
-use Rattle.arithmetic.specs.Powers.{isPowerTo}
+use Rattle.arithmetic.specs.Powers.{is_power_to}
 
 -- x is 2 ^ k, for a k of at most n
 pub record PowerOf (n x : ℕ) : Type 0 where
@@ -19,23 +19,23 @@ pub record PowerOf (n x : ℕ) : Type 0 where
 
 -- ---- the test by cases has an exponent, and every exponent passes it
 
-pub exponent : (n x : ℕ) → isPowerTo n x ≡ true → PowerOf n x
+pub exponent : (n x : ℕ) → is_power_to n x ≡ true → PowerOf n x
 exponent zero x e = record { k = 0; most = le_refl 0; is = eqb-true x 1 e }
 exponent (suc n) x e = go (eqb x (2 ^ suc n)) refl e (exponent n x)
   where
-    go : (b : Bool) → eqb x (2 ^ suc n) ≡ b → (b || isPowerTo n x) ≡ true → (isPowerTo n x ≡ true → PowerOf n x) → PowerOf (suc n) x
+    go : (b : Bool) → eqb x (2 ^ suc n) ≡ b → (b || is_power_to n x) ≡ true → (is_power_to n x ≡ true → PowerOf n x) → PowerOf (suc n) x
     go true p e f = record { k = suc n; most = le_refl (suc n); is = eqb-true x (2 ^ suc n) p }
     go false p e f = let r = f e in record { k = r.k; most = omega (arith, r.most); is = r.is }
 
-passes : (n k : ℕ) → k ≤ n → isPowerTo n (2 ^ k) ≡ true
+passes : (n k : ℕ) → k ≤ n → is_power_to n (2 ^ k) ≡ true
 passes zero k h = let e : k ≡ 0 = omega arith in eq-eqb (2 ^ k) 1 (ap (λ (i : ℕ). 2 ^ i) e)
 passes (suc n) k h = ⊎_elim (λ e. last (2 ^ k) (ap (λ (i : ℕ). 2 ^ i) e)) (λ l. other (2 ^ k) (passes n k (le_of_suc-le-suc l)))
     (eq-or-lt_of_le h)
   where
-    last : (x : ℕ) → x ≡ 2 ^ suc n → (eqb x (2 ^ suc n) || isPowerTo n x) ≡ true
+    last : (x : ℕ) → x ≡ 2 ^ suc n → (eqb x (2 ^ suc n) || is_power_to n x) ≡ true
     last x e = rw (eq-eqb x (2 ^ suc n) e)
 
-    other : (x : ℕ) → isPowerTo n x ≡ true → (eqb x (2 ^ suc n) || isPowerTo n x) ≡ true
+    other : (x : ℕ) → is_power_to n x ≡ true → (eqb x (2 ^ suc n) || is_power_to n x) ≡ true
     other x e = rw e (or-true (eqb x (2 ^ suc n)))
 
 -- ---- masks: of a power of two and the number before it, and of no other positive number, no digit is set in both
@@ -86,17 +86,17 @@ same_test false true f g = g refl
 same_test false false f g = refl
 
 -- whether a positive number is one of 2 ^ 0, .., 2 ^ n, by a mask
-pub test : (n x : ℕ) → 0 < x → (eqb (bit_and x (x - 1)) 0 && leb x (2 ^ n)) ≡ isPowerTo n x
-test n x h = same_test (eqb (bit_and x (x - 1)) 0 && leb x (2 ^ n)) (isPowerTo n x) passed tested
+pub test : (n x : ℕ) → 0 < x → (eqb (bit_and x (x - 1)) 0 && leb x (2 ^ n)) ≡ is_power_to n x
+test n x h = same_test (eqb (bit_and x (x - 1)) 0 && leb x (2 ^ n)) (is_power_to n x) passed tested
   where
-    passed : (eqb (bit_and x (x - 1)) 0 && leb x (2 ^ n)) ≡ true → isPowerTo n x ≡ true
+    passed : (eqb (bit_and x (x - 1)) 0 && leb x (2 ^ n)) ≡ true → is_power_to n x ≡ true
     passed e =
         let t = (and-eq-true_iff (eqb (bit_and x (x - 1)) 0) (leb x (2 ^ n))).0 e in
         let p = masked x h (eqb-true _ _ t.0) in
         let m : 2 ^ p.k ≤ 2 ^ n = omega (arith, leb-true x (2 ^ n) t.1, p.is) in
-        ap (isPowerTo n) p.is ∙ passes n p.k (least p.k n m)
+        ap (is_power_to n) p.is ∙ passes n p.k (least p.k n m)
 
-    tested : isPowerTo n x ≡ true → (eqb (bit_and x (x - 1)) 0 && leb x (2 ^ n)) ≡ true
+    tested : is_power_to n x ≡ true → (eqb (bit_and x (x - 1)) 0 && leb x (2 ^ n)) ≡ true
     tested e =
         let p = exponent n x e in
         let d : bit_and x (x - 1) ≡ 0 = ap (λ (y : ℕ). bit_and y (y - 1)) p.is ∙ and_mask (2 ^ p.k) p.k ∙ mod_self (2 ^ p.k) in
@@ -112,7 +112,7 @@ multiple i j h =
     let s : j ≡ (j - i) + i = omega arith in
     ap (λ (k : ℕ). 2 ^ k % 2 ^ i) s ∙ (rw pow-add (mul-mod_left (2 ^ (j - i)) (2 ^ i)))
 
-pub greater : (n a b : ℕ) → isPowerTo n a ≡ true → isPowerTo n b ≡ true → (max a b % a ≡ 0) × (max a b % b ≡ 0)
+pub greater : (n a b : ℕ) → is_power_to n a ≡ true → is_power_to n b ≡ true → (max a b % a ≡ 0) × (max a b % b ≡ 0)
 greater n a b p q =
     let i = exponent n a p in
     let j = exponent n b q in

@@ -32,42 +32,42 @@ number_of Output = 219
 number_of Sheet = 220
 
 -- no refusal has the number of a code of the store
-pub refusal-some : (r : Refusal) → 200 < number_of r
+pub refusal_some : (r : Refusal) → 200 < number_of r
 unfolding number_of
-refusal-some Unfit = omega arith
-refusal-some Segment = omega arith
-refusal-some Overlap = omega arith
-refusal-some Full = omega arith
-refusal-some Buffer = omega arith
-refusal-some TooLong = omega arith
-refusal-some Overflow = omega arith
-refusal-some Slot = omega arith
-refusal-some NoAnswer = omega arith
-refusal-some Unaligned = omega arith
-refusal-some Table = omega arith
-refusal-some Row = omega arith
-refusal-some Saved = omega arith
-refusal-some Undo = omega arith
-refusal-some Reservation = omega arith
-refusal-some Map = omega arith
-refusal-some Window = omega arith
-refusal-some Script = omega arith
-refusal-some Output = omega arith
-refusal-some Sheet = omega arith
+refusal_some Unfit = omega arith
+refusal_some Segment = omega arith
+refusal_some Overlap = omega arith
+refusal_some Full = omega arith
+refusal_some Buffer = omega arith
+refusal_some TooLong = omega arith
+refusal_some Overflow = omega arith
+refusal_some Slot = omega arith
+refusal_some NoAnswer = omega arith
+refusal_some Unaligned = omega arith
+refusal_some Table = omega arith
+refusal_some Row = omega arith
+refusal_some Saved = omega arith
+refusal_some Undo = omega arith
+refusal_some Reservation = omega arith
+refusal_some Map = omega arith
+refusal_some Window = omega arith
+refusal_some Script = omega arith
+refusal_some Output = omega arith
+refusal_some Sheet = omega arith
 
 -- 0 for a call that was carried out
-abbrev pub outcomeNumber : Outcome → ℕ
-outcomeNumber Done = 0
-outcomeNumber (Refused r) = number_of r
+abbrev pub outcome_number : Outcome → ℕ
+outcome_number Done = 0
+outcome_number (Refused r) = number_of r
 
 -- go on where a step was carried out; a refusal gives what it gives
-abbrev pub whenDone : {A : Type 0} → Outcome → A → (Refusal → A) → A
-whenDone Done k z = k
-whenDone (Refused r) k z = z r
+abbrev pub when_done : {A : Type 0} → Outcome → A → (Refusal → A) → A
+when_done Done k z = k
+when_done (Refused r) k z = z r
 
-abbrev pub isDone : Outcome → Bool
-isDone o = whenDone o true (λ r. false)
+abbrev pub is_done : Outcome → Bool
+is_done o = when_done o true (λ r. false)
 
-pub is-done : (o : Outcome) → isDone o ≡ true → o ≡ Done
-is-done Done e = refl
-is-done (Refused r) e = let z : ◌≡◌ {A = ℕ} 0 1 = cc in absurd (omega arith)
+pub is_done_lem : (o : Outcome) → is_done o ≡ true → o ≡ Done
+is_done_lem Done e = refl
+is_done_lem (Refused r) e = let z : ◌≡◌ {A = ℕ} 0 1 = cc in absurd (omega arith)

@@ -13,21 +13,21 @@ unfoldable pub fits : ℕ → Bool
 fits x = ltb x (2 ^ 64)
 
 -- x is a multiple of r
-unfoldable pub isMultiple : ℕ → ℕ → Bool
-isMultiple x r = eqb (x % r) 0
+unfoldable pub is_multiple : ℕ → ℕ → Bool
+is_multiple x r = eqb (x % r) 0
 
 -- "rounds down to r": the greatest multiple of r that is at most x
-unfoldable pub roundDown : ℕ → ℕ → ℕ
-roundDown x r = x - x % r
+unfoldable pub round_down : ℕ → ℕ → ℕ
+round_down x r = x - x % r
 
 -- "rounds up to r": the least multiple of r that is at least x
 unfoldable pub round_up : ℕ → ℕ → ℕ
-round_up x r = roundDown (x + (r - 1)) r
+round_up x r = round_down (x + (r - 1)) r
 
 -- a + b, where that fits
 unfoldable pub sum_of : ℕ → ℕ → Sum
 sum_of a b = pick (fits (a + b)) (Fits (a + b)) Over
 
 -- x rounded up to r, where the sum x + (r - 1) fits
-unfoldable pub upOf : ℕ → ℕ → Sum
-upOf x r = pick (fits (x + (r - 1))) (Fits (round_up x r)) Over
+unfoldable pub up_of : ℕ → ℕ → Sum
+up_of x r = pick (fits (x + (r - 1))) (Fits (round_up x r)) Over

@@ -4,28 +4,28 @@ use Rattle.std.proofs.Common.{sym, ◌∙◌, mod-lt, div-add-mod', le-div_iff_m
 use Rattle.std.proofs.Math.Nat.{mod-zero, mul-mod_left, dvd_of_mod-eq-zero, mod-eq-zero_of_dvd, dvd_trans, dvd-add, dvd-sub, le_of_dvd}
 use Rattle.std.proofs.Math.Decide.{dec_lt, ℕ_discrete}
 use Rattle.std.proofs.lemmas.Bool.{lt-leb}
-use Rattle.arithmetic.specs.Rounding.{pick, fits, roundDown, round_up, sum_of, upOf}
+use Rattle.arithmetic.specs.Rounding.{pick, fits, round_down, round_up, sum_of, up_of}
 use Rattle.arithmetic.specs.declared.offsets.Sum.TheVariants.{Fits, Over}
 
 -- ---- what fits
 
-pub fits-true : (x : ℕ) → x < 2 ^ 64 → fits x ≡ true
+pub fits_true : (x : ℕ) → x < 2 ^ 64 → fits x ≡ true
 unfolding fits
-fits-true x h = lt-ltb x (2 ^ 64) h
+fits_true x h = lt-ltb x (2 ^ 64) h
 
-pub fits-false : (x : ℕ) → 2 ^ 64 ≤ x → fits x ≡ false
+pub fits_false : (x : ℕ) → 2 ^ 64 ≤ x → fits x ≡ false
 unfolding fits
-fits-false x h = le-ltb x (2 ^ 64) h
+fits_false x h = le-ltb x (2 ^ 64) h
 
-pub true-fits : (x : ℕ) → fits x ≡ true → x < 2 ^ 64
+pub true_fits : (x : ℕ) → fits x ≡ true → x < 2 ^ 64
 unfolding fits
-true-fits x e = ltb-true x (2 ^ 64) e
+true_fits x e = ltb-true x (2 ^ 64) e
 
 -- a sum fits where there is room for its second part
 pub room : (a n : ℕ) → a < 2 ^ 64 → leb n (18446744073709551615 - a) ≡ fits (a + n)
 room a n h = elim (dec_lt (a + n) (2 ^ 64)) [
-  | yes l ↦ le-leb n (18446744073709551615 - a) (omega arith) ∙ sym (fits-true (a + n) l)
-  | no l ↦ lt-leb n (18446744073709551615 - a) (omega arith) ∙ sym (fits-false (a + n) (omega arith))
+  | yes l ↦ le-leb n (18446744073709551615 - a) (omega arith) ∙ sym (fits_true (a + n) l)
+  | no l ↦ lt-leb n (18446744073709551615 - a) (omega arith) ∙ sym (fits_false (a + n) (omega arith))
 ]
 
 -- two tests for equality that say the same
@@ -44,9 +44,9 @@ picked_fits : (t : Bool) (u y : ℕ) → pick t (Fits u) Over ≡ Fits y → Pas
 picked_fits true u y e = record { ok = refl; is = cc }
 picked_fits false u y e = let z : ◌≡◌ {A = ℕ} 0 1 = cc in absurd (omega arith)
 
-picked-over : (t : Bool) (u : ℕ) → pick t (Fits u) Over ≡ Over → t ≡ false
-picked-over true u e = cc
-picked-over false u e = refl
+picked_over : (t : Bool) (u : ℕ) → pick t (Fits u) Over ≡ Over → t ≡ false
+picked_over true u e = cc
+picked_over false u e = refl
 
 pub sum_fits : (a b y : ℕ) → sum_of a b ≡ Fits y → Passed (fits (a + b)) (a + b) y
 unfolding sum_of
@@ -54,82 +54,82 @@ sum_fits a b y e = picked_fits (fits (a + b)) (a + b) y e
 
 pub sum_over : (a b : ℕ) → sum_of a b ≡ Over → fits (a + b) ≡ false
 unfolding sum_of
-sum_over a b e = picked-over (fits (a + b)) (a + b) e
+sum_over a b e = picked_over (fits (a + b)) (a + b) e
 
-pub up_fits : (x r y : ℕ) → upOf x r ≡ Fits y → Passed (fits (x + (r - 1))) (round_up x r) y
-unfolding upOf
+pub up_fits : (x r y : ℕ) → up_of x r ≡ Fits y → Passed (fits (x + (r - 1))) (round_up x r) y
+unfolding up_of
 up_fits x r y e = picked_fits (fits (x + (r - 1))) (round_up x r) y e
 
-pub up-over : (x r : ℕ) → upOf x r ≡ Over → fits (x + (r - 1)) ≡ false
-unfolding upOf
-up-over x r e = picked-over (fits (x + (r - 1))) (round_up x r) e
+pub up_over : (x r : ℕ) → up_of x r ≡ Over → fits (x + (r - 1)) ≡ false
+unfolding up_of
+up_over x r e = picked_over (fits (x + (r - 1))) (round_up x r) e
 
 -- nothing but 0 is a multiple of 0
-pub up-zero : (x : ℕ) → x < 2 ^ 64 → upOf x 0 ≡ Fits 0
-unfolding upOf round_up roundDown
-up-zero x h =
+pub up_zero : (x : ℕ) → x < 2 ^ 64 → up_of x 0 ≡ Fits 0
+unfolding up_of round_up round_down
+up_zero x h =
     let z : x + 0 - (x + 0) % 0 ≡ 0 = rw mod-zero (omega arith) in
-    simp (fits-true (x + 0) (omega arith), z)
+    simp (fits_true (x + 0) (omega arith), z)
 
 -- ---- multiples
 
 -- sums, differences and multiples of multiples of r are multiples of r
-pub multiple-add : (a b r : ℕ) → a % r ≡ 0 → b % r ≡ 0 → (a + b) % r ≡ 0
-multiple-add a b r p q = mod-eq-zero_of_dvd r (dvd-add r (dvd_of_mod-eq-zero r p) (dvd_of_mod-eq-zero r q))
+pub multiple_add : (a b r : ℕ) → a % r ≡ 0 → b % r ≡ 0 → (a + b) % r ≡ 0
+multiple_add a b r p q = mod-eq-zero_of_dvd r (dvd-add r (dvd_of_mod-eq-zero r p) (dvd_of_mod-eq-zero r q))
 
-pub multiple-sub : (a b r : ℕ) → a % r ≡ 0 → b % r ≡ 0 → (a - b) % r ≡ 0
-multiple-sub a b r p q = mod-eq-zero_of_dvd r (dvd-sub r (dvd_of_mod-eq-zero r p) (dvd_of_mod-eq-zero r q))
+pub multiple_sub : (a b r : ℕ) → a % r ≡ 0 → b % r ≡ 0 → (a - b) % r ≡ 0
+multiple_sub a b r p q = mod-eq-zero_of_dvd r (dvd-sub r (dvd_of_mod-eq-zero r p) (dvd_of_mod-eq-zero r q))
 
-pub multiple-trans : (a b r : ℕ) → a % b ≡ 0 → b % r ≡ 0 → a % r ≡ 0
-multiple-trans a b r p q = mod-eq-zero_of_dvd r (dvd_trans r (dvd_of_mod-eq-zero r q) (dvd_of_mod-eq-zero b p))
+pub multiple_trans : (a b r : ℕ) → a % b ≡ 0 → b % r ≡ 0 → a % r ≡ 0
+multiple_trans a b r p q = mod-eq-zero_of_dvd r (dvd_trans r (dvd_of_mod-eq-zero r q) (dvd_of_mod-eq-zero b p))
 
-pub multiple-le : (a r : ℕ) → 0 < a → a % r ≡ 0 → r ≤ a
-multiple-le a r h m = le_of_dvd h (dvd_of_mod-eq-zero r m)
+pub multiple_le : (a r : ℕ) → 0 < a → a % r ≡ 0 → r ≤ a
+multiple_le a r h m = le_of_dvd h (dvd_of_mod-eq-zero r m)
 
 -- ---- rounding down: the greatest multiple that is at most x
 
-pub down_le : (x r : ℕ) → roundDown x r ≤ x
-unfolding roundDown
+pub down_le : (x r : ℕ) → round_down x r ≤ x
+unfolding round_down
 down_le x r = omega arith
 
-pub down-near : (x r : ℕ) → 0 < r → x < roundDown x r + r
-unfolding roundDown
-down-near x r h = omega (arith, mod-lt x h)
+pub down_near : (x r : ℕ) → 0 < r → x < round_down x r + r
+unfolding round_down
+down_near x r h = omega (arith, mod-lt x h)
 
 -- by division
-pub down_is : (x r : ℕ) → roundDown x r ≡ x / r * r
-unfolding roundDown
+pub down_is : (x r : ℕ) → round_down x r ≡ x / r * r
+unfolding round_down
 down_is x r = omega (arith, div-add-mod' x r)
 
-pub down-multiple : (x r : ℕ) → roundDown x r % r ≡ 0
-down-multiple x r = rw down_is (mul-mod_left (x / r) r)
+pub down_multiple : (x r : ℕ) → round_down x r % r ≡ 0
+down_multiple x r = rw down_is (mul-mod_left (x / r) r)
 
 pub whole : (y r : ℕ) → y % r ≡ 0 → y ≡ y / r * r
 whole y r m = omega (arith, div-add-mod' y r)
 
-pub down-greatest : (x r y : ℕ) → 0 < r → y % r ≡ 0 → y ≤ x → y ≤ roundDown x r
-down-greatest x r y h m l =
+pub down_greatest : (x r y : ℕ) → 0 < r → y % r ≡ 0 → y ≤ x → y ≤ round_down x r
+down_greatest x r y h m l =
     let w = whole y r m in
     let q : y / r ≤ x / r = (le-div_iff_mul-le h).1 (omega arith) in
     rw down_is (omega (arith, mul-le-mul_right r q))
 
-pub down-same : (x r : ℕ) → x % r ≡ 0 → roundDown x r ≡ x
-unfolding roundDown
-down-same x r m = rw m (omega arith)
+pub down_same : (x r : ℕ) → x % r ≡ 0 → round_down x r ≡ x
+unfolding round_down
+down_same x r m = rw m (omega arith)
 
 -- ---- rounding up: the least multiple that is at least x
 
-pub up-ge : (x r : ℕ) → 0 < r → x ≤ round_up x r
+pub up_ge : (x r : ℕ) → 0 < r → x ≤ round_up x r
 unfolding round_up
-up-ge x r h = omega (arith, down-near (x + (r - 1)) r h)
+up_ge x r h = omega (arith, down_near (x + (r - 1)) r h)
 
-pub up-near : (x r : ℕ) → 0 < r → round_up x r < x + r
+pub up_near : (x r : ℕ) → 0 < r → round_up x r < x + r
 unfolding round_up
-up-near x r h = omega (arith, down_le (x + (r - 1)) r)
+up_near x r h = omega (arith, down_le (x + (r - 1)) r)
 
 pub up_multiple : (x r : ℕ) → round_up x r % r ≡ 0
 unfolding round_up
-up_multiple x r = down-multiple (x + (r - 1)) r
+up_multiple x r = down_multiple (x + (r - 1)) r
 
 pub up_least : (x r y : ℕ) → 0 < r → y % r ≡ 0 → x ≤ y → round_up x r ≤ y
 unfolding round_up
@@ -140,4 +140,4 @@ up_least x r y h m l =
     rw down_is (omega (arith, mul-le-mul_right r k))
 
 pub up_same : (x r : ℕ) → 0 < r → x % r ≡ 0 → round_up x r ≡ x
-up_same x r h m = omega (arith, up-ge x r h, up_least x r x h m (omega arith))
+up_same x r h m = omega (arith, up_ge x r h, up_least x r x h m (omega arith))

@@ -28,33 +28,33 @@ module _ (k i : ℕ) (w : List ℕ) where
   same : i * k + k - i * k ≡ k
   same = omega arith
 
-  pub row-part : take (i * k + k - i * k) (drop (i * k) w) ≡ row k i w
-  row-part = rw same
+  pub row_part : take (i * k + k - i * k) (drop (i * k) w) ≡ row k i w
+  row_part = rw same
 
-  pub part-put : (b : List ℕ) → take (i * k) w ++ (b ++ drop (i * k + k - i * k) (drop (i * k) w)) ≡ put k i w b
-  part-put b = rw same
+  pub part_put : (b : List ℕ) → take (i * k) w ++ (b ++ drop (i * k + k - i * k) (drop (i * k) w)) ≡ put k i w b
+  part_put b = rw same
 
-  pub row-length : i * k + k ≤ length w → length (row k i w) ≡ k
-  row-length h = length-take-le k (drop (i * k) w) (rw length-drop (omega arith))
+  pub row_length : i * k + k ≤ length w → length (row k i w) ≡ k
+  row_length h = length-take-le k (drop (i * k) w) (rw length-drop (omega arith))
 
   pub part_length : i * k + k ≤ length w → length (take (i * k + k - i * k) (drop (i * k) w)) ≡ k
-  part_length h = rw row-part (row-length h)
+  part_length h = rw row_part (row_length h)
 
   -- a word of the row
   pub row_word : (j : ℕ) → j < k → get_or (row k i w) j 0 ≡ get_or w (i * k + j) 0
   row_word j h = get_or-take k (drop (i * k) w) j 0 h ∙ get_or-drop (i * k) w j 0
 
   -- a word written in the row is that word of the whole
-  pub row-set : (j v : ℕ) → j < k → i * k + k ≤ length w → set w (i * k + j) v ≡ put k i w (set (row k i w) j v)
-  row-set j v h l = sym (set_mid_at (i * k) k j w v (rw (row-length l) h))
+  pub row_set : (j v : ℕ) → j < k → i * k + k ≤ length w → set w (i * k + j) v ≡ put k i w (set (row k i w) j v)
+  row_set j v h l = sym (set_mid_at (i * k) k j w v (rw (row_length l) h))
 
 -- ---- the rows decoded
 
 module _ {A : Type 0} (dec : List ℕ → A) (k : ℕ) where
-  pub rows-length : (n : ℕ) (w : List ℕ) → length (rows dec k n w) ≡ n
+  pub rows_length : (n : ℕ) (w : List ℕ) → length (rows dec k n w) ≡ n
   unfolding rows
-  rows-length zero w = refl
-  rows-length (suc n) w = ap suc (rows-length n (drop k w))
+  rows_length zero w = refl
+  rows_length (suc n) w = ap suc (rows_length n (drop k w))
 
   swap : (i : ℕ) → suc i * k ≡ k + i * k
   swap i = suc-mul i k ∙ add_comm _ _
@@ -68,24 +68,24 @@ module _ {A : Type 0} (dec : List ℕ → A) (k : ℕ) where
   put_first : (w b : List ℕ) → put k 0 w b ≡ b ++ drop k w
   put_first w b = rw zero-mul
 
-  put-later : (i : ℕ) (w b : List ℕ) → put k (suc i) w b ≡ take k w ++ put k i (drop k w) b
-  put-later i w b = rw (swap i, take-add k (i * k) w, ← drop-drop (i * k) k w, append_assoc)
+  put_later : (i : ℕ) (w b : List ℕ) → put k (suc i) w b ≡ take k w ++ put k i (drop k w) b
+  put_later i w b = rw (swap i, take-add k (i * k) w, ← drop-drop (i * k) k w, append_assoc)
 
   -- a row put in its place is that row, and the others stay
-  pub rows-put : (n i : ℕ) (w b : List ℕ) → i < n → n * k ≤ length w → length b ≡ k
+  pub rows_put : (n i : ℕ) (w b : List ℕ) → i < n → n * k ≤ length w → length b ≡ k
       → rows dec k n (put k i w b) ≡ set (rows dec k n w) i (dec b)
   unfolding rows
-  rows-put zero i w b h l e = absurd (omega arith)
-  rows-put (suc n) zero w b h l e = rw (put_first w b, take_at b (drop k w) k e, drop_at b (drop k w) k e)
-  rows-put (suc n) (suc i) w b h l e =
+  rows_put zero i w b h l e = absurd (omega arith)
+  rows_put (suc n) zero w b h l e = rw (put_first w b, take_at b (drop k w) k e, drop_at b (drop k w) k e)
+  rows_put (suc n) (suc i) w b h l e =
       let m : n * k + k ≤ length w = rw (suc-mul n k) at l in
       let t : length (take k w) ≡ k = length-take-le k w (omega arith) in
       let q = put k i (drop k w) b in
       rw (
-        put-later i w b,
+        put_later i w b,
         take_at (take k w) q k t,
         drop_at (take k w) q k t,
-        rows-put n i (drop k w) b (omega arith)
+        rows_put n i (drop k w) b (omega arith)
             (rw length-drop (omega arith)) e,
       )
 

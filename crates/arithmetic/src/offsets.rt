@@ -1,7 +1,7 @@
 // Offsets that count from different zeros, ranges of the store, sums that fit 64 bits, rounding.
 ghost use Rattle.std.specs.Prelude.{◌≡◌, ◌%◌, min};
-ghost use Rattle.arithmetic.specs.Rounding.{sum_of, isMultiple, roundDown, upOf};
-ghost use Rattle.arithmetic.specs.Offsets.{inBufferOf, onStoreOf};
+ghost use Rattle.arithmetic.specs.Rounding.{sum_of, is_multiple, round_down, up_of};
+ghost use Rattle.arithmetic.specs.Offsets.{in_buffer_of, on_store_of};
 
 use crate::refusals::Refusal;
 
@@ -46,7 +46,7 @@ pub const LARGEST: u64 = 0xffff_ffff_ffff_ffff;
 impl StoreOffset {
     // The place of this byte in a buffer that holds the store from `start` on.
     pub fn in_buffer(self, start: StoreOffset) -> InBuffer
-        ensures { result ≡ inBufferOf self start }
+        ensures { result ≡ in_buffer_of self start }
     {
         let at = self.0;
         let from = start.0;
@@ -60,7 +60,7 @@ impl StoreOffset {
 impl BufferOffset {
     // The byte of the store at this place of a buffer that holds the store from `start` on.
     pub fn on_store(self, start: StoreOffset) -> OnStore
-        ensures { result ≡ onStoreOf self start }
+        ensures { result ≡ on_store_of self start }
     {
         let Sum::Fits(at) = add(start.0, self.0 as u64) else {
             return OnStore::Refused(Refusal::Overflow);
@@ -94,14 +94,14 @@ pub fn remainder(x: u64, r: u64) -> u64
 
 // The greatest multiple of r that is at most x.
 pub fn round_down(x: u64, r: u64) -> u64
-    ensures { result ≡ roundDown x r }
+    ensures { result ≡ round_down x r }
 {
     x - remainder(x, r)
 }
 
 // The least multiple of r that is at least x.
 pub fn round_up(x: u64, r: u64) -> Sum
-    ensures { result ≡ upOf x r }
+    ensures { result ≡ up_of x r }
 {
     if r == 0 {
         return Sum::Fits(0);
@@ -119,7 +119,7 @@ pub fn lesser(a: u64, b: u64) -> u64
 }
 
 pub fn is_multiple(x: u64, r: u64) -> bool
-    ensures { result ≡ isMultiple x r }
+    ensures { result ≡ is_multiple x r }
 {
     remainder(x, r) == 0
 }

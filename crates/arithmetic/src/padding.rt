@@ -1,7 +1,7 @@
 // Direct or padded; the padded range of a request; the reads of a padded write (imago: readv and writev of storage/ext.rs).
 ghost use Rattle.std.specs.Prelude.{◌≡◌, ◌+◌, ◌%◌, ◌<◌, ◌≤◌, eqb};
 ghost use Rattle.arithmetic.specs.Rounding.{round_up};
-ghost use Rattle.arithmetic.specs.Padding.{paddedOf, paddingOf, isDirect, transferOf, transferRefusal, reads_of};
+ghost use Rattle.arithmetic.specs.Padding.{padded_of, padding_of, is_direct, transfer_of, transfer_refusal, reads_of};
 
 use crate::offsets::{
     BufferOffset, InBuffer, Range, StoreOffset, Sum, add, is_multiple, round_down, round_up,
@@ -55,7 +55,7 @@ fn round_edge(x: u64, l: u64) -> u64
 // The padded range of n bytes at `at`, for a request alignment r and a length alignment l.
 fn pad_to(at: u64, n: u64, r: u64, l: u64) -> Padding
     requires { (0 < r) × (0 < l) × (r ≤ l) × (l % r ≡ 0) }
-    ensures { result ≡ paddedOf r l at n }
+    ensures { result ≡ padded_of r l at n }
 {
     let Sum::Fits(end) = add(at, n) else {
         return Padding::Refused(Refusal::Overflow);
@@ -85,7 +85,7 @@ fn pad_to(at: u64, n: u64, r: u64, l: u64) -> Padding
 
 // The padded range of `length` bytes at `offset`: start down to R, end up to R, the length between up to L.
 pub fn pad(offset: StoreOffset, length: u64, align: Alignments) -> Padding
-    ensures { result ≡ paddingOf align offset length }
+    ensures { result ≡ padding_of align offset length }
 {
     if !align.is_fit() {
         return Padding::Refused(Refusal::Unfit);
@@ -96,7 +96,7 @@ pub fn pad(offset: StoreOffset, length: u64, align: Alignments) -> Padding
 // Whether offset and length are multiples of R, for a vector that is aligned.
 fn is_direct(at: u64, length: u64, r: u64, aligned: bool) -> bool
     requires { 0 < r }
-    ensures { result ≡ isDirect r at length aligned }
+    ensures { result ≡ is_direct r at length aligned }
 {
     let starts = is_multiple(at, r);
     let ends = is_multiple(length, r);
@@ -105,7 +105,7 @@ fn is_direct(at: u64, length: u64, r: u64, aligned: bool) -> bool
 
 // Direct or padded, for a vector of `length` bytes that is or is not aligned.
 pub fn plan_transfer(offset: StoreOffset, length: u64, aligned: bool, align: Alignments) -> Transfer
-    ensures { result ≡ transferOf align offset length aligned }
+    ensures { result ≡ transfer_of align offset length aligned }
 {
     if !align.is_fit() {
         return Transfer::Refused(Refusal::Unfit);
@@ -130,7 +130,7 @@ pub fn plan_transfer(offset: StoreOffset, length: u64, aligned: bool, align: Ali
 impl Transfer {
     // Why it is refused; of one that is not, 207.
     pub fn refusal(self) -> Refusal
-        ensures { result ≡ transferRefusal self }
+        ensures { result ≡ transfer_refusal self }
     {
         match self {
             Transfer::Direct(_) => Refusal::Overflow,

@@ -1,7 +1,7 @@
 // pure_write_full_zeroes as a plan: how many chunks it writes, and which (imago: storage/mod.rs).
 ghost use Rattle.std.specs.Prelude.{true, ◌≡◌, ◌+◌, ◌<◌};
 ghost use Rattle.arithmetic.specs.Rounding.{fits};
-ghost use Rattle.arithmetic.specs.Planner.{planOutcome, chunkCount, plannedChunk, count_of, plannedOf};
+ghost use Rattle.arithmetic.specs.Planner.{plan_outcome, chunk_count, planned_chunk, count_of, planned_of};
 
 use crate::offsets::{LARGEST, Range, StoreOffset, is_multiple, lesser};
 use crate::refusals::{Outcome, Refusal};
@@ -21,7 +21,7 @@ pub enum Planned {
 
 // Whether there is a plan: 201, then 210, then 207.
 fn check(offset: StoreOffset, length: u64, settings: Settings) -> Outcome
-    ensures { result ≡ planOutcome settings offset length }
+    ensures { result ≡ plan_outcome settings offset length }
 {
     if !settings.is_fit() {
         return Outcome::Refused(Refusal::Unfit);
@@ -42,7 +42,7 @@ fn check(offset: StoreOffset, length: u64, settings: Settings) -> Outcome
 
 fn chunk_count(n: u64, bounce: u64) -> u64
     requires { 0 < bounce }
-    ensures { result ≡ chunkCount bounce n }
+    ensures { result ≡ chunk_count bounce n }
 {
     let full = n / bounce;
     if n % bounce == 0 { full } else { full + 1 }
@@ -61,7 +61,7 @@ pub fn count_chunks(offset: StoreOffset, length: u64, settings: Settings) -> Cou
 // Chunk i of a range of n bytes that fits.
 fn chunk_at(at: u64, n: u64, bounce: u64, i: u64) -> Range
     requires { (0 < bounce) × (fits (at + n) ≡ true) }
-    ensures { result ≡ plannedChunk bounce at n i }
+    ensures { result ≡ planned_chunk bounce at n i }
 {
     let full = n / bounce;
     if full < i {
@@ -83,7 +83,7 @@ fn chunk_at(at: u64, n: u64, bounce: u64, i: u64) -> Range
 
 // Chunk i; past the last one an empty range at the end.
 pub fn plan_chunk(offset: StoreOffset, length: u64, settings: Settings, i: u64) -> Planned
-    ensures { result ≡ plannedOf settings offset length i }
+    ensures { result ≡ planned_of settings offset length i }
 {
     match check(offset, length, settings) {
         Outcome::Refused(r) => Planned::Refused(r),

@@ -1,6 +1,6 @@
 // Why a call was refused.
 ghost use Rattle.std.specs.Prelude.{◌≡◌};
-ghost use Rattle.arithmetic.specs.Refusals.{number_of, outcomeNumber};
+ghost use Rattle.arithmetic.specs.Refusals.{number_of, outcome_number};
 
 #[derive(Drop)]
 pub enum Refusal {
@@ -64,7 +64,7 @@ pub enum Outcome {
 
 impl Outcome {
     pub fn number(self) -> u8
-        ensures { result ≡ outcomeNumber self }
+        ensures { result ≡ outcome_number self }
     {
         match self {
             Outcome::Done => 0,

@@ -1,8 +1,8 @@
 // Settings: the store's alignments, the bounce buffer's length, the lent buffers; what opening tests.
 ghost use Rattle.std.specs.Prelude.{true, ◌≡◌, ◌+◌};
 ghost use Rattle.arithmetic.specs.Rounding.{fits};
-ghost use Rattle.arithmetic.specs.Settings.{isAlignment, lengthAlign, alignmentsFit, settingsFit, buffersFit, openingOf, alignments};
-ghost use Rattle.arithmetic.specs.Settings.{profileOf};
+ghost use Rattle.arithmetic.specs.Settings.{is_alignment, length_align, alignments_fit, settings_fit, buffers_fit, opening_of, alignments};
+ghost use Rattle.arithmetic.specs.Settings.{profile_of};
 
 use crate::offsets::{LARGEST, is_multiple};
 use crate::refusals::{Outcome, Refusal};
@@ -52,7 +52,7 @@ const SLOTS: u64 = 8;
 
 // Whether x is a power of two, which has no digit in common with the number before it, and at most 65,536.
 fn is_alignment(x: u64) -> bool
-    ensures { result ≡ isAlignment x }
+    ensures { result ≡ is_alignment x }
 {
     if x == 0 {
         return false;
@@ -63,7 +63,7 @@ fn is_alignment(x: u64) -> bool
 impl Alignments {
     // L: the greater of the memory and the request alignment.
     pub fn length_align(self) -> u64
-        ensures { result ≡ lengthAlign self }
+        ensures { result ≡ length_align self }
     {
         if self.mem < self.req {
             self.req
@@ -73,7 +73,7 @@ impl Alignments {
     }
 
     pub fn is_fit(self) -> bool
-        ensures { result ≡ alignmentsFit self }
+        ensures { result ≡ alignments_fit self }
     {
         let mem = is_alignment(self.mem);
         let req = is_alignment(self.req);
@@ -86,7 +86,7 @@ impl Alignments {
 impl Settings {
     // Whether opening accepts the alignments and the bounce buffer's length: false is refusal 201.
     pub fn is_fit(self) -> bool
-        ensures { result ≡ settingsFit self }
+        ensures { result ≡ settings_fit self }
     {
         let align = self.align;
         let len = self.bounce;
@@ -110,8 +110,8 @@ impl Lent {
 
 impl Buffers {
     fn is_fit(self, s: Settings) -> bool
-        requires { settingsFit s ≡ true }
-        ensures { result ≡ buffersFit s self }
+        requires { settings_fit s ≡ true }
+        ensures { result ≡ buffers_fit s self }
     {
         let align = s.align;
         let data = self.data;
@@ -125,7 +125,7 @@ impl Buffers {
 
 // What opening answers: 201 for unfit settings, then 205 for unfit buffers.
 pub fn check_opening(s: Settings, b: Buffers) -> Outcome
-    ensures { result ≡ openingOf s b }
+    ensures { result ≡ opening_of s b }
 {
     if !s.is_fit() {
         return Outcome::Refused(Refusal::Unfit);
@@ -149,7 +149,7 @@ fn make_row(mem: u64, req: u64, zero: u64, discard: u64) -> Profile
 
 // The alignments of a drive profile.
 pub fn drive_profile(index: usize) -> Profile
-    ensures { result ≡ profileOf index }
+    ensures { result ≡ profile_of index }
 {
     match index {
         0 => make_row(1, 1, 1, 1),

@@ -1,7 +1,7 @@
 // Cuts of zero and discard jobs, and the chunks of write_full_zeroes (imago: write_efficient_zeroes, discard, write_full_zeroes of
 // storage/ext.rs).
 ghost use Rattle.std.specs.Prelude.{true, ltb, ◌≡◌, ◌<◌};
-ghost use Rattle.arithmetic.specs.Zeroes.{cutFits, cut_of, zeroCutOf, discardCutOf, chunkLength, chunk_of};
+ghost use Rattle.arithmetic.specs.Zeroes.{cut_fits, cut_of, zero_cut_of, discard_cut_of, chunk_length, chunk_of};
 
 use crate::offsets::{LARGEST, Range, StoreOffset, lesser, remainder, round_down};
 use crate::refusals::Refusal;
@@ -42,7 +42,7 @@ pub enum Chunk {
 // Whether the sums of a cut fit.
 fn cut_fits(at: u64, length: u64, z: u64) -> bool
     requires { 0 < z }
-    ensures { result ≡ cutFits z at length }
+    ensures { result ≡ cut_fits z at length }
 {
     let room = LARGEST - at;
     (length <= room) & (z - 1 <= room)
@@ -50,7 +50,7 @@ fn cut_fits(at: u64, length: u64, z: u64) -> bool
 
 // The cut of a range whose sums fit.
 fn cut_at(at: u64, length: u64, z: u64) -> Cut
-    requires { (0 < z) × (cutFits z at length ≡ true) }
+    requires { (0 < z) × (cut_fits z at length ≡ true) }
     ensures { result ≡ cut_of z at length }
 {
     let last = at + (z - 1);
@@ -81,7 +81,7 @@ fn has_bytes(r: Range) -> bool
 
 // What write_zeroes and write_allocated_zeroes do with `length` bytes at `offset`.
 pub fn zero_cut(offset: StoreOffset, length: u64, align: Alignments) -> ZeroCut
-    ensures { result ≡ zeroCutOf align offset length }
+    ensures { result ≡ zero_cut_of align offset length }
 {
     if !align.is_fit() {
         return ZeroCut::Refused(Refusal::Unfit);
@@ -107,7 +107,7 @@ pub fn zero_cut(offset: StoreOffset, length: u64, align: Alignments) -> ZeroCut
 
 // What discard does with `length` bytes at `offset`.
 pub fn discard_cut(offset: StoreOffset, length: u64, align: Alignments) -> DiscardCut
-    ensures { result ≡ discardCutOf align offset length }
+    ensures { result ≡ discard_cut_of align offset length }
 {
     if !align.is_fit() {
         return DiscardCut::Refused(Refusal::Unfit);
@@ -128,7 +128,7 @@ pub fn discard_cut(offset: StoreOffset, length: u64, align: Alignments) -> Disca
 // The length of the first chunk of n bytes at `at`.
 fn chunk_length(at: u64, n: u64, r: u64, bounce: u64) -> u64
     requires { 0 < r }
-    ensures { result ≡ chunkLength r bounce at n }
+    ensures { result ≡ chunk_length r bounce at n }
 {
     let off = remainder(at, r);
     if off == 0 {

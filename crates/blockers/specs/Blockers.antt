@@ -1,7 +1,7 @@
 -- Document 01, "Blockers": who notes whom, and who waits.
 use Rattle.std.specs.Prelude.{Bool, true, false, ◌&&◌, not, List, [], map, ℕ, ltb, get_or, set, replicate}
 use Rattle.arithmetic.specs.Rounding.{pick}
-use Rattle.arithmetic.specs.Loops.{anyBelow}
+use Rattle.arithmetic.specs.Loops.{any_below}
 use Rattle.arithmetic.specs.Offsets.{range_of}
 use Rattle.arithmetic.specs.declared.offsets.Range.{Range}
 use Rattle.arithmetic.specs.declared.refusals.Refusal.TheVariants.{Slot}
@@ -26,8 +26,8 @@ abbrev pub strength : Bool → Kind
 strength true = Strong
 strength false = Weak
 
-abbrev pub isEntered : Blocker → Bool
-isEntered b = present b.kind
+abbrev pub is_entered : Blocker → Bool
+is_entered b = present b.kind
 
 -- "Entering, a weak one notes every strong one that overlaps, a strong one every overlapping one of both kinds."
 unfoldable pub conflict : Kind → Kind → Bool
@@ -44,8 +44,8 @@ unfoldable pub notes : Kind → Range → Blocker → Bool
 notes k r b = conflict k b.kind && overlaps b.range r
 
 -- the notes of one that enters: a test for each slot, those that still wait too
-unfoldable pub notesOf : Kind → Range → Blockers → List Bool
-notesOf k r b = map (notes k r) b.slots
+unfoldable pub notes_of : Kind → Range → Blockers → List Bool
+notes_of k r b = map (notes k r) b.slots
 
 abbrev pub vacant : Blocker
 vacant = record { kind = Absent; range = range_of 0 0; noted = replicate 8 false }
@@ -54,23 +54,23 @@ vacant = record { kind = Absent; range = range_of 0 0; noted = replicate 8 false
 abbrev pub nowhere : Blocker
 nowhere = record { kind = Absent; range = range_of 0 0; noted = [] }
 
-abbrev pub blockerAt : Blockers → ℕ → Blocker
-blockerAt b p = get_or b.slots p nowhere
+abbrev pub blocker_at : Blockers → ℕ → Blocker
+blocker_at b p = get_or b.slots p nowhere
 
-unfoldable pub noBlockers : Blockers
-noBlockers = record { slots = replicate 8 vacant }
+unfoldable pub no_blockers : Blockers
+no_blockers = record { slots = replicate 8 vacant }
 
 abbrev pub refused : Blockers → Changed
 refused b = record { blockers = b; outcome = Refused Slot }
 
-abbrev pub changedTo : List Blocker → Changed
-changedTo l = record { blockers = record { slots = l }; outcome = Done }
+abbrev pub changed_to : List Blocker → Changed
+changed_to l = record { blockers = record { slots = l }; outcome = Done }
 
 -- "It is entered even while it waits." Past slot 7, and where one is entered: 208.
 unfoldable pub entered_of : Kind → ℕ → Range → Blockers → Changed
 entered_of k p r b =
-    pick (ltb p 8 && not (isEntered (blockerAt b p)))
-    (changedTo (set b.slots p (record { kind = k; range = r; noted = notesOf k r b })))
+    pick (ltb p 8 && not (is_entered (blocker_at b p)))
+    (changed_to (set b.slots p (record { kind = k; range = r; noted = notes_of k r b })))
     (refused b)
 
 -- b without p among those that it noted
@@ -80,14 +80,14 @@ forgetting p b = record { kind = b.kind; range = b.range; noted = set b.noted p 
 -- "It leaves when its piece ends": it is gone, and nobody notes it any more. Past slot 7, and where none is entered: 208.
 unfoldable pub left_of : ℕ → Blockers → Changed
 left_of p b =
-    pick (ltb p 8 && isEntered (blockerAt b p))
-    (changedTo (set (map (forgetting p) b.slots) p vacant))
+    pick (ltb p 8 && is_entered (blocker_at b p))
+    (changed_to (set (map (forgetting p) b.slots) p vacant))
     (refused b)
 
 -- p has noted q
-abbrev pub hasNoted : Blockers → ℕ → ℕ → Bool
-hasNoted b p q = get_or (blockerAt b p).noted q false
+abbrev pub has_noted : Blockers → ℕ → ℕ → Bool
+has_noted b p q = get_or (blocker_at b p).noted q false
 
 -- "It waits exactly while one that it noted is still there."
-unfoldable pub waitsOf : ℕ → Blockers → Bool
-waitsOf p b = anyBelow 8 (λ q. hasNoted b p q && isEntered (blockerAt b q))
+unfoldable pub waits_of : ℕ → Blockers → Bool
+waits_of p b = any_below 8 (λ q. has_noted b p q && is_entered (blocker_at b q))

@@ -1,8 +1,8 @@
 // Layer 3: weak and strong write blockers by slot (imago: storage/drivers.rs). A blocker is entered even while it waits, notes
 // the slots of those it must wait for, and waits exactly while one of them is still there.
 ghost use Rattle.std.specs.Prelude.{map, ◌≡◌, ◌<◌};
-ghost use Rattle.blockers.specs.Blockers.{overlaps, isEntered, conflict, notes, notesOf, vacant, noBlockers, forgetting, refused};
-ghost use Rattle.blockers.specs.Blockers.{entered_of, left_of, waitsOf, strength};
+ghost use Rattle.blockers.specs.Blockers.{overlaps, is_entered, conflict, notes, notes_of, vacant, no_blockers, forgetting, refused};
+ghost use Rattle.blockers.specs.Blockers.{entered_of, left_of, waits_of, strength};
 
 use arithmetic::offsets::{Range, StoreOffset};
 use arithmetic::refusals::{Outcome, Refusal};
@@ -99,7 +99,7 @@ fn refuse(b: Blockers) -> Changed
 
 impl Blocker {
     fn is_entered(self) -> bool
-        ensures { result ≡ isEntered self }
+        ensures { result ≡ is_entered self }
     {
         let kind = self.kind;
         match kind {
@@ -131,7 +131,7 @@ impl Blocker {
 impl Blockers {
     // No blocker entered.
     pub fn new() -> Blockers
-        ensures { result ≡ noBlockers }
+        ensures { result ≡ no_blockers }
     {
         let b = make_vacant();
         Blockers { slots: [b; 8] }
@@ -139,7 +139,7 @@ impl Blockers {
 
     // Which slots' blockers one of this kind over `range` must wait for.
     fn notes(self, kind: Kind, range: Range) -> [bool; 8]
-        ensures { result ≡ notesOf kind range self }
+        ensures { result ≡ notes_of kind range self }
     {
         let mut noted = [false; 8];
         let mut i = 0;
@@ -224,7 +224,7 @@ impl Blockers {
 
     // Whether the slot's blocker waits: one that it noted is still there. Past slot 7 none waits.
     pub fn waits(self, slot: usize) -> bool
-        ensures { result ≡ waitsOf slot self }
+        ensures { result ≡ waits_of slot self }
     {
         if SLOTS <= slot {
             return false;

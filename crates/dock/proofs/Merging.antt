@@ -13,18 +13,18 @@ use Rattle.arithmetic.specs.Rounding.{pick}
 use Rattle.arithmetic.specs.SettingsLaws.{and_left, and_right}
 use Rattle.arithmetic.specs.declared.refusals.Outcome.{Outcome}
 use Rattle.arithmetic.specs.declared.refusals.Outcome.TheVariants.{Done}
-use Rattle.vectors.specs.Vectors.{put, bytes_of, segmentsOf, copies, isValid, outcomeOf, scatterOf}
-use Rattle.vectors.specs.ByteLaws.{bytes-length}
+use Rattle.vectors.specs.Vectors.{put, bytes_of, segments_of, copies, is_valid, outcome_of, scatter_of}
+use Rattle.vectors.specs.ByteLaws.{bytes_length}
 use Rattle.vectors.specs.SegmentLaws.{valid}
 use Rattle.vectors.specs.declared.vector.IoVector.{IoVector}
-use Rattle.stages.specs.Stages.{size_of, usesBounce, liesIn, isSound, secondAt}
+use Rattle.stages.specs.Stages.{size_of, uses_bounce, lies_in, is_sound, second_at}
 use Rattle.stages.specs.declared.state.Job.{Job}
 use Rattle.stages.specs.declared.state.State.{State}
 use Rattle.stages.specs.declared.state.Phase.{Phase}
 use Rattle.stages.specs.declared.state.Phase.TheVariants.{Free, Ended, DirectRead, BouncedRead, FirstRead, SecondRead, BouncedWrite, DirectWrite, ZeroRequest, DiscardRequest}
 use Rattle.dock.proofs.SlotsOf.{share_in}
-use Rattle.dock.specs.Begin.{fills, isWriteJob, isBouncedWrite, source_of, sourceFits, mergedAt, filled, InShare}
-use Rattle.dock.specs.Tell.{hands, copiedAt, isBouncedRead, handed}
+use Rattle.dock.specs.Begin.{fills, is_write_job, is_bounced_write, source_of, source_fits, merged_at, filled, InShare}
+use Rattle.dock.specs.Tell.{hands, copied_at, is_bounced_read, handed}
 
 -- a lent part put back
 back : (l : List ℕ) (a n : ℕ) (ys : List ℕ) → length ys ≡ n → put_mid a (a + n - a) l ys ≡ put l a ys
@@ -34,63 +34,63 @@ back l a n ys e = let k : a + n - a ≡ length ys = omega arith in rw k
 unchanged : (l : List ℕ) (a n : ℕ) → put_mid a (a + n - a) l (take n (drop a l)) ≡ l
 unchanged l a n = let k : a + n - a ≡ n = omega arith in rw k (put_same a n l)
 
-part-long : (l : List ℕ) (a n : ℕ) → a + n ≤ length l → length (take n (drop a l)) ≡ n
-part-long l a n h = length-take-le n (drop a l) (omega (arith, length-drop a l))
+part_long : (l : List ℕ) (a n : ℕ) → a + n ≤ length l → length (take n (drop a l)) ≡ n
+part_long l a n h = length-take-le n (drop a l) (omega (arith, length-drop a l))
 
 -- the bytes of a vector that is copied are as many as asked
-copied-long : (memory : List ℕ) (v : IoVector) (n : ℕ) → copies memory v n ≡ true → length (bytes_of memory (segmentsOf v)) ≡ n
+copied_long : (memory : List ℕ) (v : IoVector) (n : ℕ) → copies memory v n ≡ true → length (bytes_of memory (segments_of v)) ≡ n
 unfolding copies
-copied-long memory v n e =
-    let w = valid (length memory) v (and_left (isValid (length memory) v) (eqb n v.total) e) in
-    bytes-length memory (segmentsOf v) w.fit.lie ∙ sym w.total ∙ sym (eqb-true n v.total (and_right (isValid (length memory) v) (eqb n v.total) e))
+copied_long memory v n e =
+    let w = valid (length memory) v (and_left (is_valid (length memory) v) (eqb n v.total) e) in
+    bytes_length memory (segments_of v) w.fit.lie ∙ sym w.total ∙ sym (eqb-true n v.total (and_right (is_valid (length memory) v) (eqb n v.total) e))
 
 module _ (a n : ℕ) (j : Job) (v : IoVector) (memory scratch : List ℕ) (h : a + n ≤ length scratch) where
   -- a write's vector is copied in, or refused
-  pub merged-write : isWriteJob j ≡ true → (r : Outcome) (ys : List ℕ)
-      → r ≡ outcomeOf (copies memory v (length (take (a + n - a) (drop a scratch))))
-      → ys ≡ pick (copies memory v (length (take (a + n - a) (drop a scratch)))) (bytes_of memory (segmentsOf v)) (take (a + n - a) (drop a scratch))
-      → fills r (put_mid a (a + n - a) scratch ys) ≡ mergedAt a n j v memory scratch
-  unfolding mergedAt sourceFits source_of
-  merged-write w r ys p q =
+  pub merged_write : is_write_job j ≡ true → (r : Outcome) (ys : List ℕ)
+      → r ≡ outcome_of (copies memory v (length (take (a + n - a) (drop a scratch))))
+      → ys ≡ pick (copies memory v (length (take (a + n - a) (drop a scratch)))) (bytes_of memory (segments_of v)) (take (a + n - a) (drop a scratch))
+      → fills r (put_mid a (a + n - a) scratch ys) ≡ merged_at a n j v memory scratch
+  unfolding merged_at source_fits source_of
+  merged_write w r ys p q =
       let k : a + n - a ≡ n = omega arith in
-      let long = part-long scratch a n h in
-      let p1 : r ≡ outcomeOf (copies memory v (length (take n (drop a scratch)))) = rw k at p in
-      let q1 : ys ≡ pick (copies memory v (length (take n (drop a scratch)))) (bytes_of memory (segmentsOf v)) (take n (drop a scratch)) = rw k at q in
-      let p2 : r ≡ outcomeOf (copies memory v n) = rw long at p1 in
-      let q2 : ys ≡ pick (copies memory v n) (bytes_of memory (segmentsOf v)) (take n (drop a scratch)) = rw long at q1 in
+      let long = part_long scratch a n h in
+      let p1 : r ≡ outcome_of (copies memory v (length (take n (drop a scratch)))) = rw k at p in
+      let q1 : ys ≡ pick (copies memory v (length (take n (drop a scratch)))) (bytes_of memory (segments_of v)) (take n (drop a scratch)) = rw k at q in
+      let p2 : r ≡ outcome_of (copies memory v n) = rw long at p1 in
+      let q2 : ys ≡ pick (copies memory v n) (bytes_of memory (segments_of v)) (take n (drop a scratch)) = rw long at q1 in
       go (copies memory v n) refl p2 q2
     where
-      go : (t : Bool) → copies memory v n ≡ t → r ≡ outcomeOf t → ys ≡ pick t (bytes_of memory (segmentsOf v)) (take n (drop a scratch))
-          → fills r (put_mid a (a + n - a) scratch ys) ≡ mergedAt a n j v memory scratch
-      go true c p q = rw (p, q, back scratch a n (bytes_of memory (segmentsOf v)) (copied-long memory v n c)) (simp (w, c))
+      go : (t : Bool) → copies memory v n ≡ t → r ≡ outcome_of t → ys ≡ pick t (bytes_of memory (segments_of v)) (take n (drop a scratch))
+          → fills r (put_mid a (a + n - a) scratch ys) ≡ merged_at a n j v memory scratch
+      go true c p q = rw (p, q, back scratch a n (bytes_of memory (segments_of v)) (copied_long memory v n c)) (simp (w, c))
       go false c p q = rw (p, q, unchanged scratch a n) (simp (w, c))
 
   -- zeroes
-  pub merged-zeroes : isWriteJob j ≡ false → (ys : List ℕ) → ys ≡ replicate (length (take (a + n - a) (drop a scratch))) 0
-      → fills Done (put_mid a (a + n - a) scratch ys) ≡ mergedAt a n j v memory scratch
-  unfolding mergedAt sourceFits source_of
-  merged-zeroes w ys p =
+  pub merged_zeroes : is_write_job j ≡ false → (ys : List ℕ) → ys ≡ replicate (length (take (a + n - a) (drop a scratch))) 0
+      → fills Done (put_mid a (a + n - a) scratch ys) ≡ merged_at a n j v memory scratch
+  unfolding merged_at source_fits source_of
+  merged_zeroes w ys p =
       let k : a + n - a ≡ n = omega arith in
       let p1 : ys ≡ replicate (length (take n (drop a scratch))) 0 = rw k at p in
-      let p2 : ys ≡ replicate n 0 = rw (part-long scratch a n h) at p1 in
+      let p2 : ys ≡ replicate n 0 = rw (part_long scratch a n h) at p1 in
       rw (p2, back scratch a n (replicate n 0) (length-replicate n 0)) (simp w)
 
 -- n bytes of the scratch into the segments
-pub copied-out : (a n : ℕ) (v : IoVector) (memory scratch : List ℕ) → a + n ≤ length scratch → (r : Outcome) (ys : List ℕ)
-    → r ≡ outcomeOf (copies memory v (length (take (a + n - a) (drop a scratch))))
-    → ys ≡ pick (copies memory v (length (take (a + n - a) (drop a scratch)))) (scatterOf memory (segmentsOf v) (take (a + n - a) (drop a scratch))) memory
-    → hands r ys ≡ copiedAt a n v memory scratch
-unfolding copiedAt
-copied-out a n v memory scratch h r ys p q =
+pub copied_out_lem : (a n : ℕ) (v : IoVector) (memory scratch : List ℕ) → a + n ≤ length scratch → (r : Outcome) (ys : List ℕ)
+    → r ≡ outcome_of (copies memory v (length (take (a + n - a) (drop a scratch))))
+    → ys ≡ pick (copies memory v (length (take (a + n - a) (drop a scratch)))) (scatter_of memory (segments_of v) (take (a + n - a) (drop a scratch))) memory
+    → hands r ys ≡ copied_at a n v memory scratch
+unfolding copied_at
+copied_out_lem a n v memory scratch h r ys p q =
     let k : a + n - a ≡ n = omega arith in
-    let p2 : r ≡ outcomeOf (copies memory v (length (take n (drop a scratch)))) = rw k at p in
-    let q2 : ys ≡ pick (copies memory v (length (take n (drop a scratch)))) (scatterOf memory (segmentsOf v) (take n (drop a scratch))) memory = rw k at q in
-    let p3 : r ≡ outcomeOf (copies memory v n) = rw (part-long scratch a n h) at p2 in
-    let q3 : ys ≡ pick (copies memory v n) (scatterOf memory (segmentsOf v) (take n (drop a scratch))) memory = rw (part-long scratch a n h) at q2 in
+    let p2 : r ≡ outcome_of (copies memory v (length (take n (drop a scratch)))) = rw k at p in
+    let q2 : ys ≡ pick (copies memory v (length (take n (drop a scratch)))) (scatter_of memory (segments_of v) (take n (drop a scratch))) memory = rw k at q in
+    let p3 : r ≡ outcome_of (copies memory v n) = rw (part_long scratch a n h) at p2 in
+    let q3 : ys ≡ pick (copies memory v n) (scatter_of memory (segments_of v) (take n (drop a scratch))) memory = rw (part_long scratch a n h) at q2 in
     go (copies memory v n) refl p3 q3
   where
-    go : (t : Bool) → copies memory v n ≡ t → r ≡ outcomeOf t → ys ≡ pick t (scatterOf memory (segmentsOf v) (take n (drop a scratch))) memory
-        → hands r ys ≡ copiedAt a n v memory scratch
+    go : (t : Bool) → copies memory v n ≡ t → r ≡ outcome_of t → ys ≡ pick t (scatter_of memory (segments_of v) (take n (drop a scratch))) memory
+        → hands r ys ≡ copied_at a n v memory scratch
     go true c p q = rw (p, q) (simp c)
     go false c p q = rw (p, q) (simp c)
 
@@ -101,47 +101,47 @@ uses true t e p = e
 uses false t e p = let z : ◌≡◌ {A = Bool} false true = p in cc
 
 -- the asked bytes of a sound state lie in the share of slot p
-pub in-share : (p b : ℕ) (x : State) (n : ℕ) → p < 8 → isSound b x ≡ true → 8 * b ≤ n → InShare (p * b) x n
-unfolding isSound liesIn
-in-share p b x n h e k u =
-    let l = uses (usesBounce x.phase) (liesIn b x.stage) e u in
+pub in_share : (p b : ℕ) (x : State) (n : ℕ) → p < 8 → is_sound b x ≡ true → 8 * b ≤ n → InShare (p * b) x n
+unfolding is_sound lies_in
+in_share p b x n h e k u =
+    let l = uses (uses_bounce x.phase) (lies_in b x.stage) e u in
     let g = x.stage in
     let t1 = leb (g.head.0 + size_of g.asked) b in
     let t2 = leb (size_of g.request) b in
     let t3 = leb (size_of g.first) b in
-    let t4 = leb (secondAt g + size_of g.second) b in
+    let t4 = leb (second_at g + size_of g.second) b in
     let m = leb-true (g.head.0 + size_of g.asked) b (and_left t1 t2 (and_left (t1 && t2) t3 (and_left (t1 && t2 && t3) t4 l))) in
     omega (arith, m, share_in p b h)
 
 -- the phases that are copied out use the bounce buffer
-pub reads-use : (ph : Phase) → isBouncedRead ph ≡ true → usesBounce ph ≡ true
-reads-use Free e = e
-reads-use Ended e = e
-reads-use DirectRead e = e
-reads-use BouncedRead e = refl
-reads-use FirstRead e = refl
-reads-use SecondRead e = refl
-reads-use BouncedWrite e = refl
-reads-use DirectWrite e = e
-reads-use ZeroRequest e = e
-reads-use DiscardRequest e = e
+pub reads_use : (ph : Phase) → is_bounced_read ph ≡ true → uses_bounce ph ≡ true
+reads_use Free e = e
+reads_use Ended e = e
+reads_use DirectRead e = e
+reads_use BouncedRead e = refl
+reads_use FirstRead e = refl
+reads_use SecondRead e = refl
+reads_use BouncedWrite e = refl
+reads_use DirectWrite e = e
+reads_use ZeroRequest e = e
+reads_use DiscardRequest e = e
 
 -- ---- what fill and hand_out give
 
 module _ (share : ℕ) (x : State) (v : IoVector) (memory scratch : List ℕ) where
-  pub filled-write : isBouncedWrite x.phase ≡ true → filled share x v memory scratch ≡ mergedAt (share + x.stage.head.0) (size_of x.stage.asked) x.job v memory scratch
+  pub filled_write : is_bounced_write x.phase ≡ true → filled share x v memory scratch ≡ merged_at (share + x.stage.head.0) (size_of x.stage.asked) x.job v memory scratch
   unfolding filled
-  filled-write e = simp e
+  filled_write e = simp e
 
-  pub filled_none : isBouncedWrite x.phase ≡ false → filled share x v memory scratch ≡ fills Done scratch
+  pub filled_none : is_bounced_write x.phase ≡ false → filled share x v memory scratch ≡ fills Done scratch
   unfolding filled
   filled_none e = simp e
 
 module _ (share : ℕ) (x : State) (code : ℕ) (v : IoVector) (memory scratch : List ℕ) where
-  pub handed-read : (isBouncedRead x.phase && eqb code 0) ≡ true → handed share x code v memory scratch ≡ copiedAt (share + x.stage.head.0) (size_of x.stage.asked) v memory scratch
+  pub handed_read : (is_bounced_read x.phase && eqb code 0) ≡ true → handed share x code v memory scratch ≡ copied_at (share + x.stage.head.0) (size_of x.stage.asked) v memory scratch
   unfolding handed
-  handed-read e = simp e
+  handed_read e = simp e
 
-  pub handed-none : (isBouncedRead x.phase && eqb code 0) ≡ false → handed share x code v memory scratch ≡ hands Done memory
+  pub handed_none : (is_bounced_read x.phase && eqb code 0) ≡ false → handed share x code v memory scratch ≡ hands Done memory
   unfolding handed
-  handed-none e = simp e
+  handed_none e = simp e

@@ -8,27 +8,27 @@ use borrow.Author.Tests.{leb-true, ltb-true, eqb-true}
 use Rattle.arithmetic.specs.SettingsLaws.{and_left, and_right}
 use Rattle.arithmetic.specs.declared.settings.Settings.{Settings}
 use Rattle.arithmetic.specs.declared.settings.Buffers.{Buffers}
-use Rattle.stages.specs.Stages.{isSound}
+use Rattle.stages.specs.Stages.{is_sound}
 use Rattle.stages.specs.declared.state.State.{State}
 use Rattle.dock.specs.Begin.{InShare}
-use Rattle.dock.specs.Next.{isSoundIn, isSoundAt}
-use Rattle.dock.proofs.Merging.{in-share}
-use Rattle.dock.proofs.SlotsOf.{share-room-sound}
-use Rattle.dock.specs.SlotLaws.{sound-share}
+use Rattle.dock.specs.Next.{is_sound_in, is_sound_at}
+use Rattle.dock.proofs.Merging.{in_share}
+use Rattle.dock.proofs.SlotsOf.{share_room_sound}
+use Rattle.dock.specs.SlotLaws.{sound_share}
 
-module _ (p : ℕ) (x : State) (s : Settings) (b : Buffers) (n : ℕ) (e : isSoundAt p x s b n ≡ true) where
+module _ (p : ℕ) (x : State) (s : Settings) (b : Buffers) (n : ℕ) (e : is_sound_at p x s b n ≡ true) where
   lent : n ≡ b.scratch.length
-  unfolding isSoundAt
-  lent = eqb-true n b.scratch.length (and_right (ltb p 8 && isSoundIn x s b) _ e)
+  unfolding is_sound_at
+  lent = eqb-true n b.scratch.length (and_right (ltb p 8 && is_sound_in x s b) _ e)
 
-  sound : isSoundIn x s b ≡ true
-  unfolding isSoundAt
-  sound = and_right (ltb p 8) _ (and_left (ltb p 8 && isSoundIn x s b) _ e)
+  sound : is_sound_in x s b ≡ true
+  unfolding is_sound_at
+  sound = and_right (ltb p 8) _ (and_left (ltb p 8 && is_sound_in x s b) _ e)
 
   pub room : p * s.bounce + s.bounce ≤ n
-  unfolding isSoundAt
-  room = omega (arith, lent, share-room-sound p x s b (ltb-true p 8 (and_left (ltb p 8) _ (and_left (ltb p 8 && isSoundIn x s b) _ e))) sound)
+  unfolding is_sound_at
+  room = omega (arith, lent, share_room_sound p x s b (ltb-true p 8 (and_left (ltb p 8) _ (and_left (ltb p 8 && is_sound_in x s b) _ e))) sound)
 
-  pub sound-in-share : InShare (p * s.bounce) x n
-  unfolding isSoundAt isSoundIn
-  sound-in-share = in-share p s.bounce x n (ltb-true p 8 (and_left (ltb p 8) _ (and_left (ltb p 8 && isSoundIn x s b) _ e))) (sound-share x s b sound) (omega (arith, lent, leb-true (8 * s.bounce) b.scratch.length (and_right (isSound s.bounce x) _ sound)))
+  pub sound_in_share : InShare (p * s.bounce) x n
+  unfolding is_sound_at is_sound_in
+  sound_in_share = in_share p s.bounce x n (ltb-true p 8 (and_left (ltb p 8) _ (and_left (ltb p 8 && is_sound_in x s b) _ e))) (sound_share x s b sound) (omega (arith, lent, leb-true (8 * s.bounce) b.scratch.length (and_right (is_sound s.bounce x) _ sound)))

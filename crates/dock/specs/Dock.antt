@@ -1,10 +1,10 @@
 -- The dock: settings, lent buffers, blockers, and for each of the 8 slots a job's state and vector. Document 01, "Settings" and "Events".
 use Rattle.std.specs.Prelude.{Bool, true, false, ◌&&◌, ◌||◌, not, List, [], ◌∷◌, ℕ, suc, ◌*◌, ltb, eqb, length, get_or, replicate}
 use Rattle.arithmetic.specs.Rounding.{pick}
-use Rattle.arithmetic.specs.Refusals.{whenDone}
-use Rattle.arithmetic.specs.Loops.{anyBelow}
-use Rattle.arithmetic.specs.Offsets.{bufferAt, range_of}
-use Rattle.arithmetic.specs.Settings.{openingOf, profileOf, alignments}
+use Rattle.arithmetic.specs.Refusals.{when_done}
+use Rattle.arithmetic.specs.Loops.{any_below}
+use Rattle.arithmetic.specs.Offsets.{buffer_at, range_of}
+use Rattle.arithmetic.specs.Settings.{opening_of, profile_of, alignments}
 use Rattle.arithmetic.specs.declared.refusals.Refusal.TheVariants.{Buffer}
 use Rattle.arithmetic.specs.declared.refusals.Outcome.{Outcome}
 use Rattle.arithmetic.specs.declared.refusals.Outcome.TheVariants.{Done, Refused}
@@ -12,11 +12,11 @@ use Rattle.arithmetic.specs.declared.settings.Settings.{Settings}
 use Rattle.arithmetic.specs.declared.settings.Buffers.{Buffers}
 use Rattle.arithmetic.specs.declared.settings.Profile.{Profile}
 use Rattle.arithmetic.specs.declared.settings.Profile.TheVariants.{Of, Refused as NoProfile}
-use Rattle.vectors.specs.Vectors.{vectorOf, segmentsOf, overlapOf, selfOverlapOf}
+use Rattle.vectors.specs.Vectors.{vector_of, segments_of, overlap_of, self_overlap_of}
 use Rattle.vectors.specs.declared.vector.IoVector.{IoVector}
-use Rattle.blockers.specs.Blockers.{noBlockers, waitsOf}
+use Rattle.blockers.specs.Blockers.{no_blockers, waits_of}
 use Rattle.blockers.specs.declared.Blockers.{Blockers}
-use Rattle.stages.specs.Stages.{isFree, isPending}
+use Rattle.stages.specs.Stages.{is_free, is_pending}
 use Rattle.stages.specs.declared.state.Job.{Job}
 use Rattle.stages.specs.declared.state.Job.TheVariants.{Read, Write, Zeroes, AllocatedZeroes, Discard}
 use Rattle.stages.specs.declared.state.Phase.TheVariants.{Free}
@@ -28,8 +28,8 @@ use Rattle.dock.specs.declared.open.Opened.{Opened}
 -- ---- opening
 
 -- what is read past slot 7
-abbrev pub noState : State
-noState = record {
+abbrev pub no_state : State
+no_state = record {
   phase = Free;
   answer = 0;
   job = Read;
@@ -41,87 +41,87 @@ noState = record {
     request = range_of 0 0;
     first = range_of 0 0;
     second = range_of 0 0;
-    head = bufferAt 0;
+    head = buffer_at 0;
     strong = false;
   };
 }
 
-abbrev pub noVector : IoVector
-noVector = record { segments = []; count = 0; total = 0 }
+abbrev pub no_vector : IoVector
+no_vector = record { segments = []; count = 0; total = 0 }
 
 -- the state of a free slot
 unfoldable pub vacant : State
-vacant = noState
+vacant = no_state
 
 -- "An opened dock has eight free places."
 unfoldable pub fresh : Settings → Buffers → Dock
-fresh s b = record { settings = s; buffers = b; blockers = noBlockers; states = replicate 8 vacant; vectors = replicate 8 (vectorOf []) }
+fresh s b = record { settings = s; buffers = b; blockers = no_blockers; states = replicate 8 vacant; vectors = replicate 8 (vector_of []) }
 
 -- a refused opening returns a dock that refuses every begin likewise
-unfoldable pub openOf : Settings → Buffers → Opened
-openOf s b = record { dock = fresh s b; outcome = openingOf s b }
+unfoldable pub open_of : Settings → Buffers → Opened
+open_of s b = record { dock = fresh s b; outcome = opening_of s b }
 
-abbrev pub openBy : Profile → ℕ → Buffers → Opened
-openBy (Of a) bounce b = openOf (record { align = a; bounce = bounce }) b
-openBy (NoProfile r) bounce b = record { dock = fresh (record { align = alignments 0 0 0 0; bounce = bounce }) b; outcome = Refused r }
+abbrev pub open_by : Profile → ℕ → Buffers → Opened
+open_by (Of a) bounce b = open_of (record { align = a; bounce = bounce }) b
+open_by (NoProfile r) bounce b = record { dock = fresh (record { align = alignments 0 0 0 0; bounce = bounce }) b; outcome = Refused r }
 
-unfoldable pub openProfileOf : ℕ → ℕ → Buffers → Opened
-openProfileOf index bounce b = openBy (profileOf index) bounce b
+unfoldable pub open_profile_of : ℕ → ℕ → Buffers → Opened
+open_profile_of index bounce b = open_by (profile_of index) bounce b
 
 -- ---- what a dock has
 
-abbrev pub stateAt : Dock → ℕ → State
-stateAt d p = get_or d.states p noState
+abbrev pub state_at : Dock → ℕ → State
+state_at d p = get_or d.states p no_state
 
-abbrev pub vectorAt : Dock → ℕ → IoVector
-vectorAt d p = get_or d.vectors p noVector
+abbrev pub vector_at : Dock → ℕ → IoVector
+vector_at d p = get_or d.vectors p no_vector
 
 -- "205: [..] a length other than at opening"
-unfoldable pub lentFits : Buffers → ℕ → ℕ → Bool
-lentFits b m n = eqb m b.«data».length && eqb n b.scratch.length
+unfoldable pub lent_fits : Buffers → ℕ → ℕ → Bool
+lent_fits b m n = eqb m b.«data».length && eqb n b.scratch.length
 
 -- what a begin is lent: 201 and 205 as at opening, then 205
 unfoldable pub lent_of : Settings → Buffers → ℕ → ℕ → Outcome
-lent_of s b m n = whenDone (openingOf s b) (pick (lentFits b m n) Done (Refused Buffer)) Refused
+lent_of s b m n = when_done (opening_of s b) (pick (lent_fits b m n) Done (Refused Buffer)) Refused
 
 -- "A request is out, or due": the slot's job has one and does not wait
-unfoldable pub isOutBy : Blockers → State → ℕ → Bool
-isOutBy b x p = isPending x.phase && not (waitsOf p b)
+unfoldable pub is_out_by : Blockers → State → ℕ → Bool
+is_out_by b x p = is_pending x.phase && not (waits_of p b)
 
-unfoldable pub isOut : Dock → ℕ → Bool
-isOut d p = ltb p 8 && isOutBy d.blockers (stateAt d p) p
+unfoldable pub is_out : Dock → ℕ → Bool
+is_out d p = ltb p 8 && is_out_by d.blockers (state_at d p) p
 
 -- where slot p's share of the scratch starts
-abbrev pub shareAt : Dock → ℕ → ℕ
-shareAt d p = p * d.settings.bounce
+abbrev pub share_at : Dock → ℕ → ℕ
+share_at d p = p * d.settings.bounce
 
 -- ---- 203
 
-abbrev pub isReadJob : Job → Bool
-isReadJob Read = true
-isReadJob Write = false
-isReadJob Zeroes = false
-isReadJob AllocatedZeroes = false
-isReadJob Discard = false
+abbrev pub is_read_job : Job → Bool
+is_read_job Read = true
+is_read_job Write = false
+is_read_job Zeroes = false
+is_read_job AllocatedZeroes = false
+is_read_job Discard = false
 
 -- "a read's pieces overlap a piece of a job in flight, or a write's overlap a read's in flight"
-unfoldable pub meetsOf : State → IoVector → Job → IoVector → Bool
-meetsOf x w j v = not (isFree x.phase) && (isReadJob j || isReadJob x.job) && overlapOf (segmentsOf v) (segmentsOf w)
+unfoldable pub meets_of : State → IoVector → Job → IoVector → Bool
+meets_of x w j v = not (is_free x.phase) && (is_read_job j || is_read_job x.job) && overlap_of (segments_of v) (segments_of w)
 
-unfoldable pub meetsAt : List State → List IoVector → Job → IoVector → ℕ → Bool
-meetsAt xs vs j v q = meetsOf (get_or xs q noState) (get_or vs q noVector) j v
+unfoldable pub meets_at : List State → List IoVector → Job → IoVector → ℕ → Bool
+meets_at xs vs j v q = meets_of (get_or xs q no_state) (get_or vs q no_vector) j v
 
 -- "pieces of one read overlap"
-abbrev pub meetsItself : Job → IoVector → Bool
-meetsItself j v = isReadJob j && selfOverlapOf (segmentsOf v)
+abbrev pub meets_itself : Job → IoVector → Bool
+meets_itself j v = is_read_job j && self_overlap_of (segments_of v)
 
 -- "pieces of one read overlap, or [..]"
-unfoldable pub overlapsOf : List State → List IoVector → Job → IoVector → Bool
-overlapsOf xs vs j v = meetsItself j v || anyBelow 8 (meetsAt xs vs j v)
+unfoldable pub overlaps_of : List State → List IoVector → Job → IoVector → Bool
+overlaps_of xs vs j v = meets_itself j v || any_below 8 (meets_at xs vs j v)
 
 -- ---- places
 
 -- "the lowest free place": the count where there is none
-unfoldable pub firstFree : List State → ℕ
-firstFree [] = 0
-firstFree (x ∷ xs) = pick (isFree x.phase) 0 (suc (firstFree xs))
+unfoldable pub first_free : List State → ℕ
+first_free [] = 0
+first_free (x ∷ xs) = pick (is_free x.phase) 0 (suc (first_free xs))

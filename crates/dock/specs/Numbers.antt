@@ -27,32 +27,32 @@ abbrev pub valued : List ℕ → Paper
 valued l = record { number = None; values = l }
 
 -- begin: "A job with no request to make returns 0"; a job that gets a place has the place as its value, and no number: place 0 is not 0
-abbrev pub begunPaper : Begun → Paper
-begunPaper Done = numbered 0
-begunPaper (Admitted p) = valued (p ∷ [])
-begunPaper (BeginRefused r) = numbered (number_of r)
+abbrev pub begun_paper : Begun → Paper
+begun_paper Done = numbered 0
+begun_paper (Admitted p) = valued (p ∷ [])
+begun_paper (BeginRefused r) = numbered (number_of r)
 
-abbrev pub kindNumber : Kind → ℕ
-kindNumber Read = 0
-kindNumber Write = 1
-kindNumber Zero = 2
-kindNumber AllocatedZero = 3
-kindNumber Discard = 4
+abbrev pub kind_number : Kind → ℕ
+kind_number Read = 0
+kind_number Write = 1
+kind_number Zero = 2
+kind_number AllocatedZero = 3
+kind_number Discard = 4
 
 -- next: "waiting, the request, or the final answer"; a request is its kind, store offset, length and number of pieces
-abbrev pub duePaper : Due → Paper
-duePaper Waiting = valued []
-duePaper (Make q) = valued (kindNumber q.kind ∷ q.offset.0 ∷ q.length ∷ q.segments ∷ [])
-duePaper (Answer a) = numbered a
-duePaper (NotDue r) = numbered (number_of r)
+abbrev pub due_paper : Due → Paper
+due_paper Waiting = valued []
+due_paper (Make q) = valued (kind_number q.kind ∷ q.offset.0 ∷ q.length ∷ q.segments ∷ [])
+due_paper (Answer a) = numbered a
+due_paper (NotDue r) = numbered (number_of r)
 
 -- a request's piece: 0 for the data, 1 for the scratch, then its start and its length there
-abbrev pub piecePaper : Piece → Paper
-piecePaper (InData s) = valued (0 ∷ s.start ∷ s.length ∷ [])
-piecePaper (InScratch s) = valued (1 ∷ s.start ∷ s.length ∷ [])
-piecePaper (NoPiece r) = numbered (number_of r)
+abbrev pub piece_paper : Piece → Paper
+piece_paper (InData s) = valued (0 ∷ s.start ∷ s.length ∷ [])
+piece_paper (InScratch s) = valued (1 ∷ s.start ∷ s.length ∷ [])
+piece_paper (NoPiece r) = numbered (number_of r)
 
 -- "Collect returns the final answer."
-abbrev pub collectedPaper : Collected → Paper
-collectedPaper (Final a) = numbered a
-collectedPaper (NotCollected r) = numbered (number_of r)
+abbrev pub collected_paper : Collected → Paper
+collected_paper (Final a) = numbered a
+collected_paper (NotCollected r) = numbered (number_of r)

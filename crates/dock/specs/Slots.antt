@@ -11,32 +11,32 @@ use Rattle.stages.specs.declared.told.Step.{Step}
 use Rattle.stages.specs.declared.told.Step.TheVariants.{Stays, Ends, Enters}
 use Rattle.stages.specs.declared.plan.Plan.{Plan}
 use Rattle.stages.specs.declared.plan.Plan.TheVariants.{Done as NothingToDo, Started, Refused as PlanRefused}
-use Rattle.dock.specs.Begin.{Filled, fills, isBouncedWrite, filled}
-use Rattle.dock.specs.Next.{isSoundAt}
-use Rattle.dock.specs.Tell.{Handed, hands, isBouncedRead, handed}
+use Rattle.dock.specs.Begin.{Filled, fills, is_bounced_write, filled}
+use Rattle.dock.specs.Next.{is_sound_at}
+use Rattle.dock.specs.Tell.{Handed, hands, is_bounced_read, handed}
 
 -- "Then the vector is copied in": into the share of slot p
-unfoldable pub filledShare : ℕ → Settings → Buffers → State → IoVector → List ℕ → List ℕ → Filled
-filledShare p s b x v memory scratch =
-    pick (isBouncedWrite x.phase)
-    (pick (isSoundAt p x s b (length scratch)) (filled (p * s.bounce) x v memory scratch) (fills (Refused Slot) scratch))
+unfoldable pub filled_share : ℕ → Settings → Buffers → State → IoVector → List ℕ → List ℕ → Filled
+filled_share p s b x v memory scratch =
+    pick (is_bounced_write x.phase)
+    (pick (is_sound_at p x s b (length scratch)) (filled (p * s.bounce) x v memory scratch) (fills (Refused Slot) scratch))
     (fills Done scratch)
 
 -- "then the asked bytes are copied out": of the share of slot p
-unfoldable pub handedShare : ℕ → Settings → Buffers → State → ℕ → IoVector → List ℕ → List ℕ → Handed
-handedShare p s b x code v memory scratch =
-    pick (isBouncedRead x.phase && eqb code 0)
-    (pick (isSoundAt p x s b (length scratch)) (handed (p * s.bounce) x code v memory scratch) (hands (Refused Slot) memory))
+unfoldable pub handed_share : ℕ → Settings → Buffers → State → ℕ → IoVector → List ℕ → List ℕ → Handed
+handed_share p s b x code v memory scratch =
+    pick (is_bounced_read x.phase && eqb code 0)
+    (pick (is_sound_at p x s b (length scratch)) (handed (p * s.bounce) x code v memory scratch) (hands (Refused Slot) memory))
     (hands Done memory)
 
 -- the job that a plan starts, in any slot and over any buffers, is sound there
 abbrev pub PlanSound : ℕ → Settings → Buffers → ℕ → Plan → Type 0
 PlanSound p s b n NothingToDo = Unit {0}
 PlanSound p s b n (PlanRefused r) = Unit {0}
-PlanSound p s b n (Started x) = isSoundAt p x s b n ≡ true
+PlanSound p s b n (Started x) = is_sound_at p x s b n ≡ true
 
 -- the job whose bytes a step moves is sound there
 abbrev pub StepSound : ℕ → Settings → Buffers → State → ℕ → Step → Type 0
-StepSound p s b x n (Stays y) = isSoundAt p y s b n ≡ true
-StepSound p s b x n (Ends y) = isSoundAt p x s b n ≡ true
-StepSound p s b x n (Enters y) = isSoundAt p y s b n ≡ true
+StepSound p s b x n (Stays y) = is_sound_at p y s b n ≡ true
+StepSound p s b x n (Ends y) = is_sound_at p x s b n ≡ true
+StepSound p s b x n (Enters y) = is_sound_at p y s b n ≡ true

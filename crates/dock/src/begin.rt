@@ -1,8 +1,8 @@
 // Begin: of a read, a write, zeroes or a discard.
 ghost use Rattle.std.specs.Prelude.{◌≡◌, length};
-ghost use Rattle.dock.specs.Begin.{InShare, begins, blockersWith, isAligned, read_of, writeOf, zeroesOf, discardOf, selectedOf};
-ghost use Rattle.dock.specs.Begin.{plan_of, beginOf, enters, enterAt, decidedOf, PlanInShare, admitNone, admits, admitAt};
-ghost use Rattle.vectors.specs.Vectors.{alignmentOf};
+ghost use Rattle.dock.specs.Begin.{InShare, begins, blockers_with, is_aligned, read_of, write_of, zeroes_of, discard_of, selected_of};
+ghost use Rattle.dock.specs.Begin.{plan_of, begin_of, enters, enter_at, decided_of, PlanInShare, admit_none, admits, admit_at};
+ghost use Rattle.vectors.specs.Vectors.{alignment_of};
 
 use crate::bytes::fill;
 use crate::dock::{Dock, SLOTS, check_lent, first_free, meets, meets_itself};
@@ -62,7 +62,7 @@ impl Asked {
 
     // A write of the vector's bytes at `offset`.
     pub fn write(offset: StoreOffset, vector: IoVector) -> Asked
-        ensures { result ≡ writeOf offset vector }
+        ensures { result ≡ write_of offset vector }
     {
         Asked {
             job: Job::Write,
@@ -74,7 +74,7 @@ impl Asked {
 
     // Zeroes over n bytes at `offset`, plain or allocating.
     pub fn zeroes(allocate: bool, offset: StoreOffset, n: u64) -> Asked
-        ensures { result ≡ zeroesOf allocate offset n }
+        ensures { result ≡ zeroes_of allocate offset n }
     {
         Asked {
             job: zero_job(allocate),
@@ -86,7 +86,7 @@ impl Asked {
 
     // A discard of n bytes at `offset`.
     pub fn discard(offset: StoreOffset, n: u64) -> Asked
-        ensures { result ≡ discardOf offset n }
+        ensures { result ≡ discard_of offset n }
     {
         Asked {
             job: Job::Discard,
@@ -99,7 +99,7 @@ impl Asked {
 
 // The vector of a job: zeroes and discards have an empty one.
 pub fn select_vector(job: Job, vector: IoVector) -> IoVector
-    ensures { result ≡ selectedOf job vector }
+    ensures { result ≡ selected_of job vector }
 {
     match job {
         Job::Read => vector,
@@ -112,7 +112,7 @@ pub fn select_vector(job: Job, vector: IoVector) -> IoVector
 
 // Whether the vector is aligned for direct requests.
 fn is_aligned(v: IoVector, align: Alignments, data: Lent) -> bool
-    ensures { result ≡ isAligned (alignmentOf align «data» v) }
+    ensures { result ≡ is_aligned (alignment_of align «data» v) }
 {
     let answer = v.is_aligned(align, data);
     let Alignment::Aligned = answer else {
@@ -140,7 +140,7 @@ pub fn plan_asked(asked: Asked, settings: Settings, buffers: Buffers) -> Plan
 
 // The plan, where nothing refuses it: 201 and 205 by what is lent, 202, the plan's own, 203, 204.
 pub fn decide(lent: Outcome, valid: bool, plan: Plan, met: bool, free: usize) -> Plan
-    ensures { result ≡ decidedOf lent valid plan met free }
+    ensures { result ≡ decided_of lent valid plan met free }
 {
     if let Outcome::Refused(r) = lent {
         return Plan::Refused(r);
@@ -162,7 +162,7 @@ pub fn decide(lent: Outcome, valid: bool, plan: Plan, met: bool, free: usize) ->
 
 // The blockers once the stage of the job in `slot` has entered: strong for a padded write, none for a read.
 fn enter_blocker(b: Blockers, slot: usize, x: State) -> Changed
-    ensures { result ≡ blockersWith b slot x }
+    ensures { result ≡ blockers_with b slot x }
 {
     let phase = x.phase;
     let stage = x.stage;
@@ -190,7 +190,7 @@ pub(crate) fn enter(
     scratch: &mut [u8],
 ) -> Changed
     requires { InShare share x (length scratch.old) }
-    ensures { enters result scratch.new ≡ enterAt b slot share x v «data».now scratch.old }
+    ensures { enters result scratch.new ≡ enter_at b slot share x v «data».now scratch.old }
 {
     let entered = enter_blocker(b, slot, x);
     let there = entered.outcome;
@@ -203,7 +203,7 @@ pub(crate) fn enter(
 }
 
 fn admit_none(b: Blockers, answer: Begun) -> Admission
-    ensures { result ≡ admitNone b answer }
+    ensures { result ≡ admit_none b answer }
 {
     Admission {
         answer,
@@ -223,7 +223,7 @@ fn admit(
     scratch: &mut [u8],
 ) -> Admission
     requires { PlanInShare slot bounce (length scratch.old) plan }
-    ensures { admits result scratch.new ≡ admitAt b slot bounce v «data».now scratch.old plan }
+    ensures { admits result scratch.new ≡ admit_at b slot bounce v «data».now scratch.old plan }
 {
     let x = match plan {
         Plan::Done => return admit_none(b, Begun::Done),
@@ -247,7 +247,7 @@ fn admit(
 impl Dock {
     // Begin what is asked, in the lowest free slot.
     pub fn begin(mut self, asked: Asked, data: &[u8], scratch: &mut [u8]) -> Beginning
-        ensures { begins result scratch.new ≡ beginOf self asked «data».now scratch.old }
+        ensures { begins result scratch.new ≡ begin_of self asked «data».now scratch.old }
     {
         let settings = self.settings;
         let buffers = self.buffers;

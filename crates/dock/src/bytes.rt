@@ -1,8 +1,8 @@
 // What is copied between the data and a slot's share of the scratch.
 ghost use Rattle.std.specs.Prelude.{◌≡◌, ◌+◌, ◌≤◌, length};
-ghost use Rattle.dock.specs.Begin.{isWriteJob, isBouncedWrite, fills, mergedAt, filled, InShare};
-ghost use Rattle.dock.specs.Tell.{isBouncedRead, hands, copiedAt, handed};
-ghost use Rattle.dock.specs.Slots.{filledShare, handedShare};
+ghost use Rattle.dock.specs.Begin.{is_write_job, is_bounced_write, fills, merged_at, filled, InShare};
+ghost use Rattle.dock.specs.Tell.{is_bounced_read, hands, copied_at, handed};
+ghost use Rattle.dock.specs.Slots.{filled_share, handed_share};
 
 use crate::next::is_sound_at;
 use arithmetic::refusals::{Outcome, Refusal};
@@ -12,7 +12,7 @@ use vectors::bytes::fill_bytes;
 use vectors::vector::IoVector;
 
 fn is_write_job(j: Job) -> bool
-    ensures { result ≡ isWriteJob j }
+    ensures { result ≡ is_write_job j }
 {
     match j {
         Job::Read => false,
@@ -24,7 +24,7 @@ fn is_write_job(j: Job) -> bool
 }
 
 pub fn is_bounced_write(p: Phase) -> bool
-    ensures { result ≡ isBouncedWrite p }
+    ensures { result ≡ is_bounced_write p }
 {
     match p {
         Phase::Free => false,
@@ -41,7 +41,7 @@ pub fn is_bounced_write(p: Phase) -> bool
 }
 
 pub fn is_bounced_read(p: Phase) -> bool
-    ensures { result ≡ isBouncedRead p }
+    ensures { result ≡ is_bounced_read p }
 {
     match p {
         Phase::Free => false,
@@ -60,7 +60,7 @@ pub fn is_bounced_read(p: Phase) -> bool
 // n bytes of what the job writes, its vector's or zeroes, into the scratch from `start` on.
 fn merge(start: usize, n: usize, job: Job, v: IoVector, data: &[u8], scratch: &mut [u8]) -> Outcome
     requires { start + n ≤ length scratch.old }
-    ensures { fills result scratch.new ≡ mergedAt start n job v «data».now scratch.old }
+    ensures { fills result scratch.new ≡ merged_at start n job v «data».now scratch.old }
 {
     let end = start + n;
     if is_write_job(job) {
@@ -94,7 +94,7 @@ pub(crate) fn fill(share: usize, x: State, v: IoVector, data: &[u8], scratch: &m
 // n bytes of the scratch from `start` on into the vector's segments.
 fn copy_out(start: usize, n: usize, v: IoVector, data: &mut [u8], scratch: &[u8]) -> Outcome
     requires { start + n ≤ length scratch.now }
-    ensures { hands result «data».new ≡ copiedAt start n v «data».old scratch.now }
+    ensures { hands result «data».new ≡ copied_at start n v «data».old scratch.now }
 {
     let end = start + n;
     let copied = v.copy_from_slice(data, &scratch[start..end]);
@@ -138,7 +138,7 @@ pub fn fill_share(
     data: &[u8],
     scratch: &mut [u8],
 ) -> Outcome
-    ensures { fills result scratch.new ≡ filledShare slot settings buffers x v «data».now scratch.old }
+    ensures { fills result scratch.new ≡ filled_share slot settings buffers x v «data».now scratch.old }
 {
     let phase = x.phase;
     if !is_bounced_write(phase) {
@@ -162,7 +162,7 @@ pub fn hand_out_share(
     data: &mut [u8],
     scratch: &[u8],
 ) -> Outcome
-    ensures { hands result «data».new ≡ handedShare slot settings buffers x code v «data».old
+    ensures { hands result «data».new ≡ handed_share slot settings buffers x code v «data».old
         scratch.now }
 {
     let phase = x.phase;

@@ -1,6 +1,6 @@
 // The dock by value, and what it has in its slots.
 ghost use Rattle.std.specs.Prelude.{◌≡◌};
-ghost use Rattle.dock.specs.Dock.{lentFits, lent_of, isReadJob, meetsOf, meetsItself, firstFree};
+ghost use Rattle.dock.specs.Dock.{lent_fits, lent_of, is_read_job, meets_of, meets_itself, first_free};
 
 use arithmetic::refusals::{Outcome, Refusal};
 use arithmetic::settings::{Buffers, Settings, check_opening};
@@ -21,7 +21,7 @@ pub const SLOTS: usize = 8;
 
 // Whether the lent buffers have their lengths of opening: false is refusal 205.
 pub fn lent_fits(b: Buffers, data_len: usize, scratch_len: usize) -> bool
-    ensures { result ≡ lentFits b data_len scratch_len }
+    ensures { result ≡ lent_fits b data_len scratch_len }
 {
     let data = b.data;
     let scratch = b.scratch;
@@ -44,7 +44,7 @@ pub fn check_lent(s: Settings, b: Buffers, data_len: usize, scratch_len: usize) 
 }
 
 pub fn is_read_job(j: Job) -> bool
-    ensures { result ≡ isReadJob j }
+    ensures { result ≡ is_read_job j }
 {
     match j {
         Job::Read => true,
@@ -57,7 +57,7 @@ pub fn is_read_job(j: Job) -> bool
 
 // Whether a job's vector meets that of another job, of which one reads.
 pub fn meets(x: State, w: IoVector, j: Job, v: IoVector) -> bool
-    ensures { result ≡ meetsOf x w j v }
+    ensures { result ≡ meets_of x w j v }
 {
     let phase = x.phase;
     let job = x.job;
@@ -73,7 +73,7 @@ pub fn meets(x: State, w: IoVector, j: Job, v: IoVector) -> bool
 
 // Whether a vector that is read into meets itself.
 pub fn meets_itself(j: Job, v: IoVector) -> bool
-    ensures { result ≡ meetsItself j v }
+    ensures { result ≡ meets_itself j v }
 {
     if is_read_job(j) {
         return v.overlaps_itself();
@@ -83,7 +83,7 @@ pub fn meets_itself(j: Job, v: IoVector) -> bool
 
 // The lowest free slot; 8 where there is none.
 pub fn first_free(states: [State; 8]) -> usize
-    ensures { result ≡ firstFree states }
+    ensures { result ≡ first_free states }
 {
     let mut i = 0;
     while i < SLOTS {

@@ -1,9 +1,9 @@
 // What is due, and where the pieces of a request lie.
 ghost use Rattle.std.specs.Prelude.{true, ◌≡◌, ◌+◌, ◌<◌, ◌^◌, length};
-ghost use Rattle.stages.specs.Stages.{isSound};
-ghost use Rattle.dock.specs.Dock.{isOutBy};
-ghost use Rattle.dock.specs.Next.{dueIn, next_of, isSoundIn, isSoundAt, inScratch, inData, pieceBy, pieceIn, piece_at, piece_of, part_of};
-ghost use Rattle.dock.specs.Next.{bytes_at, pieceBytes};
+ghost use Rattle.stages.specs.Stages.{is_sound};
+ghost use Rattle.dock.specs.Dock.{is_out_by};
+ghost use Rattle.dock.specs.Next.{due_in, next_of, is_sound_in, is_sound_at, in_scratch, in_data, piece_by, piece_in, piece_at, piece_of, part_of};
+ghost use Rattle.dock.specs.Next.{bytes_at, piece_bytes};
 
 use crate::dock::{Dock, SLOTS, lent_fits};
 use arithmetic::refusals::Refusal;
@@ -31,7 +31,7 @@ pub enum Piece {
 
 // Whether the request of the job x in `slot` is out: it has one, and does not wait.
 pub fn is_out(b: Blockers, x: State, slot: usize) -> bool
-    ensures { result ≡ isOutBy b x slot }
+    ensures { result ≡ is_out_by b x slot }
 {
     let phase = x.phase;
     if is_free(phase) {
@@ -45,7 +45,7 @@ pub fn is_out(b: Blockers, x: State, slot: usize) -> bool
 
 // Whether the bytes of the job x lie in its share, and the shares in the scratch.
 pub fn is_sound_in(x: State, settings: Settings, buffers: Buffers) -> bool
-    ensures { result ≡ isSoundIn x settings buffers }
+    ensures { result ≡ is_sound_in x settings buffers }
 {
     let scratch = buffers.scratch;
     x.is_sound(settings.bounce) & (settings.bounce <= scratch.length / 8)
@@ -59,7 +59,7 @@ pub fn is_sound_at(
     buffers: Buffers,
     scratch_len: usize,
 ) -> bool
-    ensures { result ≡ isSoundAt slot x settings buffers scratch_len }
+    ensures { result ≡ is_sound_at slot x settings buffers scratch_len }
 {
     let scratch = buffers.scratch;
     (slot < SLOTS) & is_sound_in(x, settings, buffers) & (scratch_len as u64 == scratch.length)
@@ -67,7 +67,7 @@ pub fn is_sound_at(
 
 // What the job x needs now, which waits or not and whose vector has `count` segments.
 pub fn due_now(x: State, waits: bool, count: usize) -> Due
-    ensures { result ≡ dueIn x waits count }
+    ensures { result ≡ due_in x waits count }
 {
     let phase = x.phase;
     if is_free(phase) {
@@ -102,7 +102,7 @@ impl Dock {
 
 // n bytes of the scratch from `start` on, as a request's only piece.
 fn in_scratch(i: usize, start: u64, n: u64) -> Piece
-    ensures { result ≡ inScratch i start n }
+    ensures { result ≡ in_scratch i start n }
 {
     if i != 0 {
         return Piece::Refused(Refusal::Slot);
@@ -118,7 +118,7 @@ fn in_scratch(i: usize, start: u64, n: u64) -> Piece
 
 // Segment i of a vector over `data_len` bytes.
 fn in_data(i: usize, data_len: usize, v: IoVector) -> Piece
-    ensures { result ≡ inData i data_len v }
+    ensures { result ≡ in_data i data_len v }
 {
     if !v.is_valid(data_len) {
         return Piece::Refused(Refusal::Slot);
@@ -132,8 +132,8 @@ fn in_data(i: usize, data_len: usize, v: IoVector) -> Piece
 
 // Piece i of the request of the job x, whose share starts at `share` and has `bounce` bytes.
 fn piece_of(x: State, v: IoVector, share: u64, bounce: u64, i: usize, data_len: usize) -> Piece
-    requires { (isSound bounce x ≡ true) × (share + bounce < 2 ^ 64) }
-    ensures { result ≡ pieceBy x.phase share i data_len x v }
+    requires { (is_sound bounce x ≡ true) × (share + bounce < 2 ^ 64) }
+    ensures { result ≡ piece_by x.phase share i data_len x v }
 {
     let phase = x.phase;
     let stage = x.stage;
@@ -164,7 +164,7 @@ pub fn piece_in(
     i: usize,
     data_len: usize,
 ) -> Piece
-    ensures { result ≡ pieceIn slot settings buffers x v i data_len }
+    ensures { result ≡ piece_in slot settings buffers x v i data_len }
 {
     if SLOTS <= slot {
         return Piece::Refused(Refusal::Slot);
@@ -263,7 +263,7 @@ impl Dock {
 
     // Piece i of the request that is out in `slot`, for the store to write; empty where `piece_place` refuses.
     pub fn piece<'a>(self, slot: usize, i: usize, data: &'a [u8], scratch: &'a [u8]) -> &'a [u8]
-        ensures { result.now ≡ pieceBytes self slot i «data».now scratch.now }
+        ensures { result.now ≡ piece_bytes self slot i «data».now scratch.now }
     {
         let settings = self.settings;
         let buffers = self.buffers;
@@ -287,7 +287,7 @@ impl Dock {
         data: &'a mut [u8],
         scratch: &'a mut [u8],
     ) -> &'a mut [u8]
-        ensures { result.now ≡ pieceBytes self slot i «data».old scratch.old }
+        ensures { result.now ≡ piece_bytes self slot i «data».old scratch.old }
     {
         let settings = self.settings;
         let buffers = self.buffers;

@@ -1,6 +1,6 @@
 // Document 01's number for each case of an answer.
 ghost use Rattle.std.specs.Prelude.{◌≡◌};
-ghost use Rattle.dock.specs.Numbers.{begunPaper, duePaper, piecePaper, collectedPaper};
+ghost use Rattle.dock.specs.Numbers.{begun_paper, due_paper, piece_paper, collected_paper};
 
 use crate::begin::Begun;
 use crate::next::{Due, Piece};
@@ -15,7 +15,7 @@ pub enum Number {
 
 impl Begun {
     pub fn number(self) -> Number
-        ensures { result ≡ (begunPaper self).number }
+        ensures { result ≡ (begun_paper self).number }
     {
         match self {
             Begun::Done => Number::Of(0),
@@ -27,7 +27,7 @@ impl Begun {
 
 impl Due {
     pub fn number(self) -> Number
-        ensures { result ≡ (duePaper self).number }
+        ensures { result ≡ (due_paper self).number }
     {
         match self {
             Due::Waiting => Number::None,
@@ -40,7 +40,7 @@ impl Due {
 
 impl Piece {
     pub fn number(self) -> Number
-        ensures { result ≡ (piecePaper self).number }
+        ensures { result ≡ (piece_paper self).number }
     {
         match self {
             Piece::InData(_) => Number::None,
@@ -52,7 +52,7 @@ impl Piece {
 
 impl Collected {
     pub fn number(self) -> Number
-        ensures { result ≡ (collectedPaper self).number }
+        ensures { result ≡ (collected_paper self).number }
     {
         match self {
             Collected::Final(code) => Number::Of(code),

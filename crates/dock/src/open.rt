@@ -1,6 +1,6 @@
 // Opening, with alignments or by drive profile.
 ghost use Rattle.std.specs.Prelude.{◌≡◌};
-ghost use Rattle.dock.specs.Dock.{vacant, fresh, openOf, openBy};
+ghost use Rattle.dock.specs.Dock.{vacant, fresh, open_of, open_by};
 
 use crate::dock::Dock;
 use arithmetic::offsets::{BufferOffset, Range, StoreOffset};
@@ -61,7 +61,7 @@ fn make_fresh(settings: Settings, buffers: Buffers) -> Dock
 
 // Open with alignments: refused with 201, then 205.
 pub fn open(settings: Settings, buffers: Buffers) -> Opened
-    ensures { result ≡ openOf settings buffers }
+    ensures { result ≡ open_of settings buffers }
 {
     let outcome = check_opening(settings, buffers);
     let dock = make_fresh(settings, buffers);
@@ -70,7 +70,7 @@ pub fn open(settings: Settings, buffers: Buffers) -> Opened
 
 // Open by drive profile (document 01: a drive row), a built-in one or one of a loaded table: refused with 201, then 205.
 pub fn open_by(profile: Profile, bounce: u64, buffers: Buffers) -> Opened
-    ensures { result ≡ openBy profile bounce buffers }
+    ensures { result ≡ open_by profile bounce buffers }
 {
     match profile {
         Profile::Of(align) => open(Settings { align, bounce }, buffers),

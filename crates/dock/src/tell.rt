@@ -1,9 +1,9 @@
 // Tell and collect.
 ghost use Rattle.std.specs.Prelude.{◌≡◌, true, ◌<◌, length};
 ghost use Rattle.dock.specs.Begin.{InShare};
-ghost use Rattle.dock.specs.Tell.{tells, blockersWithout, tellOf, collectOf, steps, StepInShare, refusedStep, staysAt, ends_at};
-ghost use Rattle.dock.specs.Tell.{entersAt, steppedAt, answeredOf, toldAt};
-ghost use Rattle.dock.specs.Dock.{lentFits};
+ghost use Rattle.dock.specs.Tell.{tells, blockers_without, tell_of, collect_of, steps, StepInShare, refused_step, stays_at, ends_at};
+ghost use Rattle.dock.specs.Tell.{enters_at, stepped_at, answered_of, told_at};
+ghost use Rattle.dock.specs.Dock.{lent_fits};
 
 use crate::begin::enter;
 use crate::bytes::{fill, hand_out};
@@ -52,7 +52,7 @@ pub struct Collects {
 
 // The blockers once the stage of the job in `slot` has left.
 fn leave_blocker(b: Blockers, slot: usize, x: State) -> Changed
-    ensures { result ≡ blockersWithout b slot x }
+    ensures { result ≡ blockers_without b slot x }
 {
     let phase = x.phase;
     if !is_blocking(phase) {
@@ -65,7 +65,7 @@ fn leave_blocker(b: Blockers, slot: usize, x: State) -> Changed
 }
 
 fn refuse_step(b: Blockers, x: State, r: Refusal) -> Stepping
-    ensures { result ≡ refusedStep b x r }
+    ensures { result ≡ refused_step b x r }
 {
     Stepping {
         outcome: Outcome::Refused(r),
@@ -85,7 +85,7 @@ fn stays(
 ) -> Stepping
     requires { InShare share y (length scratch.old) }
     ensures { steps result «data».now scratch.new
-        ≡ staysAt b share y v «data».now scratch.old }
+        ≡ stays_at b share y v «data».now scratch.old }
 {
     let outcome = fill(share, y, v, data, scratch);
     Stepping {
@@ -138,7 +138,7 @@ fn enters(
 ) -> Stepping
     requires { InShare share y (length scratch.old) }
     ensures { steps result «data».now scratch.new
-        ≡ entersAt b slot share x y v «data».now scratch.old }
+        ≡ enters_at b slot share x y v «data».now scratch.old }
 {
     let left = leave_blocker(b, slot, x);
     let gone = left.outcome;
@@ -169,7 +169,7 @@ fn take_step(
 ) -> Stepping
     requires { InShare share x (length scratch.old) × StepInShare share (length scratch.old) step }
     ensures { steps result «data».new scratch.new
-        ≡ steppedAt b slot share x code v «data».old scratch.old step }
+        ≡ stepped_at b slot share x code v «data».old scratch.old step }
 {
     match step {
         Step::Stays(y) => stays(b, share, y, v, data, scratch),
@@ -180,7 +180,7 @@ fn take_step(
 
 // What a code leads to: 0 done, 1 unsupported, 2 to 199 failed; 200 and up is no answer.
 pub fn interpret_code(x: State, settings: Settings, code: u8) -> Answered
-    ensures { result ≡ answeredOf settings x code }
+    ensures { result ≡ answered_of settings x code }
 {
     match code {
         0 => Answered::Leads(x.done(settings)),
@@ -202,9 +202,9 @@ fn tell_slot(
     data: &mut [u8],
     scratch: &mut [u8],
 ) -> Stepping
-    requires { (slot < 8) × (lentFits buffers (length «data».old) (length scratch.old) ≡ true) }
+    requires { (slot < 8) × (lent_fits buffers (length «data».old) (length scratch.old) ≡ true) }
     ensures { steps result «data».new scratch.new
-        ≡ toldAt b slot settings buffers x v code «data».old scratch.old }
+        ≡ told_at b slot settings buffers x v code «data».old scratch.old }
 {
     if !is_out(b, x, slot) {
         return refuse_step(b, x, Refusal::Slot);
@@ -226,7 +226,7 @@ impl Dock {
     // Hand in the code of the request that is out.
     pub fn tell(mut self, slot: usize, code: u8, data: &mut [u8], scratch: &mut [u8]) -> Telling
         ensures { tells result «data».new scratch.new
-            ≡ tellOf self slot code «data».old scratch.old }
+            ≡ tell_of self slot code «data».old scratch.old }
     {
         let settings = self.settings;
         let buffers = self.buffers;
@@ -265,7 +265,7 @@ impl Dock {
 
     // Take the final answer; the slot is free again.
     pub fn collect(mut self, slot: usize, data: &[u8], scratch: &[u8]) -> Collects
-        ensures { result ≡ collectOf self slot (length «data».now) (length scratch.now) }
+        ensures { result ≡ collect_of self slot (length «data».now) (length scratch.now) }
     {
         if !lent_fits(self.buffers, data.len(), scratch.len()) {
             return Collects {

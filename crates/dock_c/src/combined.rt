@@ -2,14 +2,14 @@
 // 2 waiting, 3 a request); the number, or the slot; of the request kind, offset, length and pieces; of its first piece buffer,
 // start and length.
 ghost use Rattle.std.specs.Prelude.{◌≡◌};
-ghost use Rattle.arithmetic.specs.Offsets.{storeAt};
-ghost use Rattle.arithmetic.specs.Refusals.{isDone};
-ghost use Rattle.dock.specs.Begin.{beginOf, read_of, writeOf, zeroesOf, discardOf};
-ghost use Rattle.dock.specs.Tell.{tellOf};
-ghost use Rattle.dock_words.specs.View.{flagOf, dockOf};
-ghost use Rattle.vectors.specs.Words.{vectorFrom};
-ghost use Rattle.dock_words.specs.CallWords.{isAdmitted, sameTwo, sameThree};
-ghost use Rattle.dock_shown.specs.Shown.{isCollected, showOf, ShowsAs, submitOf, completeOf, LeavesBytes};
+ghost use Rattle.arithmetic.specs.Offsets.{store_at};
+ghost use Rattle.arithmetic.specs.Refusals.{is_done};
+ghost use Rattle.dock.specs.Begin.{begin_of, read_of, write_of, zeroes_of, discard_of};
+ghost use Rattle.dock.specs.Tell.{tell_of};
+ghost use Rattle.dock_words.specs.View.{flag_of, dock_of};
+ghost use Rattle.vectors.specs.Words.{vector_from};
+ghost use Rattle.dock_words.specs.CallWords.{is_admitted, same_two, same_three};
+ghost use Rattle.dock_shown.specs.Shown.{is_collected, show_of, ShowsAs, submit_of, complete_of, LeavesBytes};
 
 use arithmetic::offsets::StoreOffset;
 use dock::begin::Asked;
@@ -29,16 +29,16 @@ pub extern "C" fn dock_words_submit_read(
     scratch: &mut [u8],
     reply: &mut [u64; 9],
 )
-    ensures dock { ShowsAs (submitOf
-        (dockOf settings.now blockers.old states.old vectors.old)
-        (read_of (storeAt offset) (vectorFrom vector.now)) «data».now scratch.old)
-        reply.new (dockOf settings.now blockers.new states.new vectors.new) }
-    ensures bytes { scratch.new ≡ (beginOf
-        (dockOf settings.now blockers.old states.old vectors.old)
-        (read_of (storeAt offset) (vectorFrom vector.now)) «data».now scratch.old).scratch }
-    ensures words { sameThree (isAdmitted (beginOf
-        (dockOf settings.now blockers.old states.old vectors.old)
-        (read_of (storeAt offset) (vectorFrom vector.now)) «data».now scratch.old).answer)
+    ensures dock { ShowsAs (submit_of
+        (dock_of settings.now blockers.old states.old vectors.old)
+        (read_of (store_at offset) (vector_from vector.now)) «data».now scratch.old)
+        reply.new (dock_of settings.now blockers.new states.new vectors.new) }
+    ensures bytes { scratch.new ≡ (begin_of
+        (dock_of settings.now blockers.old states.old vectors.old)
+        (read_of (store_at offset) (vector_from vector.now)) «data».now scratch.old).scratch }
+    ensures words { same_three (is_admitted (begin_of
+        (dock_of settings.now blockers.old states.old vectors.old)
+        (read_of (store_at offset) (vector_from vector.now)) «data».now scratch.old).answer)
         blockers.old states.old vectors.old
         blockers.new states.new vectors.new }
 {
@@ -61,16 +61,16 @@ pub extern "C" fn dock_words_submit_write(
     scratch: &mut [u8],
     reply: &mut [u64; 9],
 )
-    ensures dock { ShowsAs (submitOf
-        (dockOf settings.now blockers.old states.old vectors.old)
-        (writeOf (storeAt offset) (vectorFrom vector.now)) «data».now scratch.old)
-        reply.new (dockOf settings.now blockers.new states.new vectors.new) }
-    ensures bytes { scratch.new ≡ (beginOf
-        (dockOf settings.now blockers.old states.old vectors.old)
-        (writeOf (storeAt offset) (vectorFrom vector.now)) «data».now scratch.old).scratch }
-    ensures words { sameThree (isAdmitted (beginOf
-        (dockOf settings.now blockers.old states.old vectors.old)
-        (writeOf (storeAt offset) (vectorFrom vector.now)) «data».now scratch.old).answer)
+    ensures dock { ShowsAs (submit_of
+        (dock_of settings.now blockers.old states.old vectors.old)
+        (write_of (store_at offset) (vector_from vector.now)) «data».now scratch.old)
+        reply.new (dock_of settings.now blockers.new states.new vectors.new) }
+    ensures bytes { scratch.new ≡ (begin_of
+        (dock_of settings.now blockers.old states.old vectors.old)
+        (write_of (store_at offset) (vector_from vector.now)) «data».now scratch.old).scratch }
+    ensures words { same_three (is_admitted (begin_of
+        (dock_of settings.now blockers.old states.old vectors.old)
+        (write_of (store_at offset) (vector_from vector.now)) «data».now scratch.old).answer)
         blockers.old states.old vectors.old
         blockers.new states.new vectors.new }
 {
@@ -94,16 +94,16 @@ pub extern "C" fn dock_words_submit_zeroes(
     scratch: &mut [u8],
     reply: &mut [u64; 9],
 )
-    ensures dock { ShowsAs (submitOf
-        (dockOf settings.now blockers.old states.old vectors.old)
-        (zeroesOf (flagOf allocate) (storeAt offset) length) «data».now scratch.old)
-        reply.new (dockOf settings.now blockers.new states.new vectors.new) }
-    ensures bytes { scratch.new ≡ (beginOf
-        (dockOf settings.now blockers.old states.old vectors.old)
-        (zeroesOf (flagOf allocate) (storeAt offset) length) «data».now scratch.old).scratch }
-    ensures words { sameThree (isAdmitted (beginOf
-        (dockOf settings.now blockers.old states.old vectors.old)
-        (zeroesOf (flagOf allocate) (storeAt offset) length) «data».now scratch.old).answer)
+    ensures dock { ShowsAs (submit_of
+        (dock_of settings.now blockers.old states.old vectors.old)
+        (zeroes_of (flag_of allocate) (store_at offset) length) «data».now scratch.old)
+        reply.new (dock_of settings.now blockers.new states.new vectors.new) }
+    ensures bytes { scratch.new ≡ (begin_of
+        (dock_of settings.now blockers.old states.old vectors.old)
+        (zeroes_of (flag_of allocate) (store_at offset) length) «data».now scratch.old).scratch }
+    ensures words { same_three (is_admitted (begin_of
+        (dock_of settings.now blockers.old states.old vectors.old)
+        (zeroes_of (flag_of allocate) (store_at offset) length) «data».now scratch.old).answer)
         blockers.old states.old vectors.old
         blockers.new states.new vectors.new }
 {
@@ -126,16 +126,16 @@ pub extern "C" fn dock_words_submit_discard(
     scratch: &mut [u8],
     reply: &mut [u64; 9],
 )
-    ensures dock { ShowsAs (submitOf
-        (dockOf settings.now blockers.old states.old vectors.old)
-        (discardOf (storeAt offset) length) «data».now scratch.old)
-        reply.new (dockOf settings.now blockers.new states.new vectors.new) }
-    ensures bytes { scratch.new ≡ (beginOf
-        (dockOf settings.now blockers.old states.old vectors.old)
-        (discardOf (storeAt offset) length) «data».now scratch.old).scratch }
-    ensures words { sameThree (isAdmitted (beginOf
-        (dockOf settings.now blockers.old states.old vectors.old)
-        (discardOf (storeAt offset) length) «data».now scratch.old).answer)
+    ensures dock { ShowsAs (submit_of
+        (dock_of settings.now blockers.old states.old vectors.old)
+        (discard_of (store_at offset) length) «data».now scratch.old)
+        reply.new (dock_of settings.now blockers.new states.new vectors.new) }
+    ensures bytes { scratch.new ≡ (begin_of
+        (dock_of settings.now blockers.old states.old vectors.old)
+        (discard_of (store_at offset) length) «data».now scratch.old).scratch }
+    ensures words { same_three (is_admitted (begin_of
+        (dock_of settings.now blockers.old states.old vectors.old)
+        (discard_of (store_at offset) length) «data».now scratch.old).answer)
         blockers.old states.old vectors.old
         blockers.new states.new vectors.new }
 {
@@ -158,15 +158,15 @@ pub extern "C" fn dock_words_complete(
     scratch: &mut [u8],
     reply: &mut [u64; 9],
 )
-    ensures dock { ShowsAs (completeOf
-        (dockOf settings.now blockers.old states.old vectors.old)
+    ensures dock { ShowsAs (complete_of
+        (dock_of settings.now blockers.old states.old vectors.old)
         slot code «data».old scratch.old)
-        reply.new (dockOf settings.now blockers.new states.new vectors.new) }
-    ensures bytes { LeavesBytes (tellOf
-        (dockOf settings.now blockers.old states.old vectors.old)
+        reply.new (dock_of settings.now blockers.new states.new vectors.new) }
+    ensures bytes { LeavesBytes (tell_of
+        (dock_of settings.now blockers.old states.old vectors.old)
         slot code «data».old scratch.old) «data».new scratch.new }
-    ensures words { sameThree (isDone (tellOf
-        (dockOf settings.now blockers.old states.old vectors.old)
+    ensures words { same_three (is_done (tell_of
+        (dock_of settings.now blockers.old states.old vectors.old)
         slot code «data».old scratch.old).outcome)
         blockers.old states.old vectors.old
         blockers.new states.new vectors.new }
@@ -188,12 +188,12 @@ pub extern "C" fn dock_words_show(
     scratch_len: usize,
     reply: &mut [u64; 9],
 )
-    ensures dock { ShowsAs (showOf
-        (dockOf settings.now blockers.now states.old vectors.old)
+    ensures dock { ShowsAs (show_of
+        (dock_of settings.now blockers.now states.old vectors.old)
         slot data_len scratch_len)
-        reply.new (dockOf settings.now blockers.now states.new vectors.new) }
-    ensures words { sameTwo (isCollected (showOf
-        (dockOf settings.now blockers.now states.old vectors.old)
+        reply.new (dock_of settings.now blockers.now states.new vectors.new) }
+    ensures words { same_two (is_collected (show_of
+        (dock_of settings.now blockers.now states.old vectors.old)
         slot data_len scratch_len).answer) states.old vectors.old states.new
         vectors.new }
 {

@@ -1,8 +1,8 @@
 // Drive tables from a customer (document 02, N3), in the 257 words in which a host holds one.
 ghost use Rattle.std.specs.Prelude.{◌≡◌};
-ghost use Rattle.tables.specs.Tables.{load_of, profileIn};
-ghost use Rattle.tables.specs.Words.{tableFrom};
-ghost use Rattle.dock_c.specs.Replies.{replyOf, profilePaper, LoadsAs};
+ghost use Rattle.tables.specs.Tables.{load_of, profile_in};
+ghost use Rattle.tables.specs.Words.{table_from};
+ghost use Rattle.dock_c.specs.Replies.{reply_of, profile_paper, LoadsAs};
 
 use crate::replies::{Reply, profile_reply};
 use tables::words::{load_words, row_of};
@@ -19,7 +19,7 @@ pub extern "C" fn dock_words_load_table(table: &mut [u64; 257], bytes: &[u8]) ->
 // The alignments of a row; past the last 201.
 #[unsafe(no_mangle)]
 pub extern "C" fn dock_words_table_row(table: &[u64; 257], row: usize) -> Reply
-    ensures { result ≡ replyOf (profilePaper (profileIn (tableFrom table.now) row)) }
+    ensures { result ≡ reply_of (profile_paper (profile_in (table_from table.now) row)) }
 {
     profile_reply(row_of(table, row))
 }

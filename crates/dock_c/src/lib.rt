@@ -7,20 +7,20 @@ pub mod parameter_sheets; // many writes joined to few
 pub mod combined; // the calls that also show what is next
 
 ghost use Rattle.std.specs.Prelude.{◌≡◌};
-ghost use Rattle.arithmetic.specs.Offsets.{storeAt};
-ghost use Rattle.arithmetic.specs.Refusals.{outcomeNumber, isDone};
-ghost use Rattle.arithmetic.specs.Planner.{count_of, plannedOf};
-ghost use Rattle.dock.specs.Dock.{openOf, openBy, openProfileOf};
-ghost use Rattle.dock.specs.Begin.{beginOf, read_of, writeOf, zeroesOf, discardOf};
+ghost use Rattle.arithmetic.specs.Offsets.{store_at};
+ghost use Rattle.arithmetic.specs.Refusals.{outcome_number, is_done};
+ghost use Rattle.arithmetic.specs.Planner.{count_of, planned_of};
+ghost use Rattle.dock.specs.Dock.{open_of, open_by, open_profile_of};
+ghost use Rattle.dock.specs.Begin.{begin_of, read_of, write_of, zeroes_of, discard_of};
 ghost use Rattle.dock.specs.Next.{next_of, piece_of};
-ghost use Rattle.dock.specs.Tell.{tellOf, collectOf};
-ghost use Rattle.dock.specs.Numbers.{duePaper, piecePaper};
-ghost use Rattle.dock_words.specs.View.{flagOf, settingsOf, dockOf};
-ghost use Rattle.vectors.specs.Words.{vectorFrom};
-ghost use Rattle.dock_words.specs.CallWords.{isAdmitted, isFinal, sameTwo, sameThree, opensOver};
-ghost use Rattle.tables.specs.Tables.{profileIn};
-ghost use Rattle.tables.specs.Words.{tableFrom};
-ghost use Rattle.dock_c.specs.Replies.{settingsBy, buffersBy, replyOf, countPaper, plannedPaper, BeginsAs, TellsAs, CollectsAs};
+ghost use Rattle.dock.specs.Tell.{tell_of, collect_of};
+ghost use Rattle.dock.specs.Numbers.{due_paper, piece_paper};
+ghost use Rattle.dock_words.specs.View.{flag_of, settings_of, dock_of};
+ghost use Rattle.vectors.specs.Words.{vector_from};
+ghost use Rattle.dock_words.specs.CallWords.{is_admitted, is_final, same_two, same_three, opens_over};
+ghost use Rattle.tables.specs.Tables.{profile_in};
+ghost use Rattle.tables.specs.Words.{table_from};
+ghost use Rattle.dock_c.specs.Replies.{settings_by, buffers_by, reply_of, count_paper, planned_paper, BeginsAs, TellsAs, CollectsAs};
 
 use crate::replies::{
     Reply, begun_reply, collected_number, count_reply, due_reply, piece_reply, planned_reply,
@@ -41,7 +41,7 @@ fn buffers_of(
     scratch_address: u64,
     scratch_length: u64,
 ) -> Buffers
-    ensures { result ≡ buffersBy data_address data_length scratch_address scratch_length }
+    ensures { result ≡ buffers_by data_address data_length scratch_address scratch_length }
 {
     let data = Lent {
         address: data_address,
@@ -71,10 +71,10 @@ pub extern "C" fn dock_words_open(
     scratch_address: u64,
     scratch_length: u64,
 ) -> u8
-    ensures number { result ≡ outcomeNumber (openOf (settingsBy mem req zero discard share)
-        (buffersBy data_address data_length scratch_address scratch_length)).outcome }
-    ensures words { opensOver (openOf (settingsBy mem req zero discard share)
-        (buffersBy data_address data_length scratch_address scratch_length))
+    ensures number { result ≡ outcome_number (open_of (settings_by mem req zero discard share)
+        (buffers_by data_address data_length scratch_address scratch_length)).outcome }
+    ensures words { opens_over (open_of (settings_by mem req zero discard share)
+        (buffers_by data_address data_length scratch_address scratch_length))
         settings.old blockers.old states.old vectors.old
         settings.new blockers.new states.new vectors.new }
 {
@@ -106,10 +106,10 @@ pub extern "C" fn dock_words_open_row(
     scratch_address: u64,
     scratch_length: u64,
 ) -> u8
-    ensures number { result ≡ outcomeNumber (openProfileOf row share
-        (buffersBy data_address data_length scratch_address scratch_length)).outcome }
-    ensures words { opensOver (openProfileOf row share
-        (buffersBy data_address data_length scratch_address scratch_length))
+    ensures number { result ≡ outcome_number (open_profile_of row share
+        (buffers_by data_address data_length scratch_address scratch_length)).outcome }
+    ensures words { opens_over (open_profile_of row share
+        (buffers_by data_address data_length scratch_address scratch_length))
         settings.old blockers.old states.old vectors.old
         settings.new blockers.new states.new vectors.new }
 {
@@ -134,10 +134,10 @@ pub extern "C" fn dock_words_open_table(
     scratch_address: u64,
     scratch_length: u64,
 ) -> u8
-    ensures number { result ≡ outcomeNumber (openBy (profileIn (tableFrom table.now) row) share
-        (buffersBy data_address data_length scratch_address scratch_length)).outcome }
-    ensures words { opensOver (openBy (profileIn (tableFrom table.now) row) share
-        (buffersBy data_address data_length scratch_address scratch_length))
+    ensures number { result ≡ outcome_number (open_by (profile_in (table_from table.now) row) share
+        (buffers_by data_address data_length scratch_address scratch_length)).outcome }
+    ensures words { opens_over (open_by (profile_in (table_from table.now) row) share
+        (buffers_by data_address data_length scratch_address scratch_length))
         settings.old blockers.old states.old vectors.old
         settings.new blockers.new states.new vectors.new }
 {
@@ -159,13 +159,13 @@ pub extern "C" fn dock_words_begin_read(
     data: &[u8],
     scratch: &mut [u8],
 ) -> Reply
-    ensures dock { BeginsAs (beginOf
-        (dockOf settings.now blockers.old states.old vectors.old)
-        (read_of (storeAt offset) (vectorFrom vector.now)) «data».now scratch.old)
-        result (dockOf settings.now blockers.new states.new vectors.new) scratch.new }
-    ensures words { sameThree (isAdmitted (beginOf
-        (dockOf settings.now blockers.old states.old vectors.old)
-        (read_of (storeAt offset) (vectorFrom vector.now)) «data».now scratch.old).answer)
+    ensures dock { BeginsAs (begin_of
+        (dock_of settings.now blockers.old states.old vectors.old)
+        (read_of (store_at offset) (vector_from vector.now)) «data».now scratch.old)
+        result (dock_of settings.now blockers.new states.new vectors.new) scratch.new }
+    ensures words { same_three (is_admitted (begin_of
+        (dock_of settings.now blockers.old states.old vectors.old)
+        (read_of (store_at offset) (vector_from vector.now)) «data».now scratch.old).answer)
         blockers.old states.old vectors.old
         blockers.new states.new vectors.new }
 {
@@ -185,13 +185,13 @@ pub extern "C" fn dock_words_begin_write(
     data: &[u8],
     scratch: &mut [u8],
 ) -> Reply
-    ensures dock { BeginsAs (beginOf
-        (dockOf settings.now blockers.old states.old vectors.old)
-        (writeOf (storeAt offset) (vectorFrom vector.now)) «data».now scratch.old)
-        result (dockOf settings.now blockers.new states.new vectors.new) scratch.new }
-    ensures words { sameThree (isAdmitted (beginOf
-        (dockOf settings.now blockers.old states.old vectors.old)
-        (writeOf (storeAt offset) (vectorFrom vector.now)) «data».now scratch.old).answer)
+    ensures dock { BeginsAs (begin_of
+        (dock_of settings.now blockers.old states.old vectors.old)
+        (write_of (store_at offset) (vector_from vector.now)) «data».now scratch.old)
+        result (dock_of settings.now blockers.new states.new vectors.new) scratch.new }
+    ensures words { same_three (is_admitted (begin_of
+        (dock_of settings.now blockers.old states.old vectors.old)
+        (write_of (store_at offset) (vector_from vector.now)) «data».now scratch.old).answer)
         blockers.old states.old vectors.old
         blockers.new states.new vectors.new }
 {
@@ -212,13 +212,13 @@ pub extern "C" fn dock_words_begin_zeroes(
     data: &[u8],
     scratch: &mut [u8],
 ) -> Reply
-    ensures dock { BeginsAs (beginOf
-        (dockOf settings.now blockers.old states.old vectors.old)
-        (zeroesOf (flagOf allocate) (storeAt offset) length) «data».now scratch.old)
-        result (dockOf settings.now blockers.new states.new vectors.new) scratch.new }
-    ensures words { sameThree (isAdmitted (beginOf
-        (dockOf settings.now blockers.old states.old vectors.old)
-        (zeroesOf (flagOf allocate) (storeAt offset) length) «data».now scratch.old).answer)
+    ensures dock { BeginsAs (begin_of
+        (dock_of settings.now blockers.old states.old vectors.old)
+        (zeroes_of (flag_of allocate) (store_at offset) length) «data».now scratch.old)
+        result (dock_of settings.now blockers.new states.new vectors.new) scratch.new }
+    ensures words { same_three (is_admitted (begin_of
+        (dock_of settings.now blockers.old states.old vectors.old)
+        (zeroes_of (flag_of allocate) (store_at offset) length) «data».now scratch.old).answer)
         blockers.old states.old vectors.old
         blockers.new states.new vectors.new }
 {
@@ -238,13 +238,13 @@ pub extern "C" fn dock_words_begin_discard(
     data: &[u8],
     scratch: &mut [u8],
 ) -> Reply
-    ensures dock { BeginsAs (beginOf
-        (dockOf settings.now blockers.old states.old vectors.old)
-        (discardOf (storeAt offset) length) «data».now scratch.old)
-        result (dockOf settings.now blockers.new states.new vectors.new) scratch.new }
-    ensures words { sameThree (isAdmitted (beginOf
-        (dockOf settings.now blockers.old states.old vectors.old)
-        (discardOf (storeAt offset) length) «data».now scratch.old).answer)
+    ensures dock { BeginsAs (begin_of
+        (dock_of settings.now blockers.old states.old vectors.old)
+        (discard_of (store_at offset) length) «data».now scratch.old)
+        result (dock_of settings.now blockers.new states.new vectors.new) scratch.new }
+    ensures words { same_three (is_admitted (begin_of
+        (dock_of settings.now blockers.old states.old vectors.old)
+        (discard_of (store_at offset) length) «data».now scratch.old).answer)
         blockers.old states.old vectors.old
         blockers.new states.new vectors.new }
 {
@@ -263,7 +263,7 @@ pub extern "C" fn dock_words_next(
     data_len: usize,
     scratch_len: usize,
 ) -> Reply
-    ensures { result ≡ replyOf (duePaper (next_of (dockOf settings.now blockers.now states.now
+    ensures { result ≡ reply_of (due_paper (next_of (dock_of settings.now blockers.now states.now
         vectors.now) slot data_len scratch_len)) }
 {
     due_reply(next(
@@ -289,7 +289,7 @@ pub extern "C" fn dock_words_piece(
     data_len: usize,
     scratch_len: usize,
 ) -> Reply
-    ensures { result ≡ replyOf (piecePaper (piece_of (dockOf settings.now blockers.now states.now
+    ensures { result ≡ reply_of (piece_paper (piece_of (dock_of settings.now blockers.now states.now
         vectors.now) slot i data_len scratch_len)) }
 {
     piece_reply(piece(
@@ -316,13 +316,13 @@ pub extern "C" fn dock_words_tell(
     data: &mut [u8],
     scratch: &mut [u8],
 ) -> u8
-    ensures dock { TellsAs (tellOf
-        (dockOf settings.now blockers.old states.old vectors.now)
+    ensures dock { TellsAs (tell_of
+        (dock_of settings.now blockers.old states.old vectors.now)
         slot code «data».old scratch.old)
-        result (dockOf settings.now blockers.new states.new vectors.now)
+        result (dock_of settings.now blockers.new states.new vectors.now)
         «data».new scratch.new }
-    ensures words { sameTwo (isDone (tellOf
-        (dockOf settings.now blockers.old states.old vectors.now)
+    ensures words { same_two (is_done (tell_of
+        (dock_of settings.now blockers.old states.old vectors.now)
         slot code «data».old scratch.old).outcome)
         blockers.old states.old blockers.new states.new }
 {
@@ -343,11 +343,11 @@ pub extern "C" fn dock_words_collect(
     data_len: usize,
     scratch_len: usize,
 ) -> u8
-    ensures dock { CollectsAs (collectOf
-        (dockOf settings.now blockers.now states.old vectors.old) slot data_len scratch_len)
-        result (dockOf settings.now blockers.now states.new vectors.new) }
-    ensures words { sameTwo (isFinal (collectOf
-        (dockOf settings.now blockers.now states.old vectors.old)
+    ensures dock { CollectsAs (collect_of
+        (dock_of settings.now blockers.now states.old vectors.old) slot data_len scratch_len)
+        result (dock_of settings.now blockers.now states.new vectors.new) }
+    ensures words { same_two (is_final (collect_of
+        (dock_of settings.now blockers.now states.old vectors.old)
         slot data_len scratch_len).answer) states.old vectors.old states.new vectors.new }
 {
     collected_number(collect(
@@ -364,7 +364,7 @@ pub extern "C" fn dock_words_collect(
 // The planner: how many chunks.
 #[unsafe(no_mangle)]
 pub extern "C" fn dock_words_chunks(settings: &[u64; 9], offset: u64, length: u64) -> Reply
-    ensures { result ≡ replyOf (countPaper (count_of (settingsOf settings.now) (storeAt offset) length)) }
+    ensures { result ≡ reply_of (count_paper (count_of (settings_of settings.now) (store_at offset) length)) }
 {
     let s = settings_of(settings);
     count_reply(count_chunks(StoreOffset(offset), length, s))
@@ -373,7 +373,7 @@ pub extern "C" fn dock_words_chunks(settings: &[u64; 9], offset: u64, length: u6
 // And chunk i.
 #[unsafe(no_mangle)]
 pub extern "C" fn dock_words_chunk(settings: &[u64; 9], offset: u64, length: u64, i: u64) -> Reply
-    ensures { result ≡ replyOf (plannedPaper (plannedOf (settingsOf settings.now) (storeAt offset) length i)) }
+    ensures { result ≡ reply_of (planned_paper (planned_of (settings_of settings.now) (store_at offset) length i)) }
 {
     let s = settings_of(settings);
     planned_reply(plan_chunk(StoreOffset(offset), length, s, i))

@@ -1,7 +1,7 @@
 // Sheets of writes joined to few (document 02, N14). A host holds writes in rows of three words: offset, start in the data, length. The
 // joined ones are rows again, of which the start is in the output; there are at most 64.
 ghost use Rattle.std.specs.Prelude.{◌≡◌};
-ghost use Rattle.sheets.specs.Sheets.{writesIn, join_of};
+ghost use Rattle.sheets.specs.Sheets.{writes_in, join_of};
 ghost use Rattle.dock_c.specs.Replies.{JoinsWith};
 
 use crate::replies::{Reply, joined_reply};
@@ -16,7 +16,7 @@ pub extern "C" fn dock_words_join(
     joined: &mut [u64; 192],
 ) -> Reply
     ensures { JoinsWith
-        (join_of (writesIn writes.now) «data».now output.old joined.old)
+        (join_of (writes_in writes.now) «data».now output.old joined.old)
         result output.new joined.new }
 {
     joined_reply(join(writes, data, output, joined))

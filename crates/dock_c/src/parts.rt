@@ -1,12 +1,12 @@
 // Vectors and blockers alone, for a host that builds its vectors by calls, and for comparing them with imago's.
 ghost use Rattle.std.specs.Prelude.{◌≡◌, length};
 ghost use Rattle.arithmetic.specs.Offsets.{range_of};
-ghost use Rattle.vectors.specs.Vectors.{segment, pushOf, insertOf, appendOf, splitOf, splitTailOf, copies, bytes_of, scatterOf, segmentsOf};
-ghost use Rattle.vectors.specs.Vectors.{isValid, fillOf, alignmentOf};
-ghost use Rattle.blockers.specs.Blockers.{entered_of, left_of, waitsOf, strength};
-ghost use Rattle.dock_words.specs.View.{flagOf, flagWord, blockersOf};
-ghost use Rattle.vectors.specs.Words.{vectorFrom};
-ghost use Rattle.dock_c.specs.Replies.{replyOf, alignmentPaper, EditsAs, SplitsAs, SplitsTailAs, MovesAs, BlocksAs};
+ghost use Rattle.vectors.specs.Vectors.{segment, push_of, insert_of, append_of, split_of, split_tail_of, copies, bytes_of, scatter_of, segments_of};
+ghost use Rattle.vectors.specs.Vectors.{is_valid, fill_of, alignment_of};
+ghost use Rattle.blockers.specs.Blockers.{entered_of, left_of, waits_of, strength};
+ghost use Rattle.dock_words.specs.View.{flag_of, flag_word, blockers_of};
+ghost use Rattle.vectors.specs.Words.{vector_from};
+ghost use Rattle.dock_c.specs.Replies.{reply_of, alignment_paper, EditsAs, SplitsAs, SplitsTailAs, MovesAs, BlocksAs};
 
 use crate::replies::{Reply, alignment_reply, split_reply};
 use arithmetic::offsets::{Range, StoreOffset};
@@ -24,7 +24,7 @@ pub extern "C" fn dock_words_vector_push(
     length: usize,
     data_len: usize,
 ) -> u8
-    ensures { EditsAs (pushOf data_len (vectorFrom vector.old) (segment start length))
+    ensures { EditsAs (push_of data_len (vector_from vector.old) (segment start length))
         result vector.new }
 {
     let v = vector_of(vector);
@@ -43,7 +43,7 @@ pub extern "C" fn dock_words_vector_insert(
     length: usize,
     data_len: usize,
 ) -> u8
-    ensures { EditsAs (insertOf data_len (vectorFrom vector.old) index (segment start length))
+    ensures { EditsAs (insert_of data_len (vector_from vector.old) index (segment start length))
         result vector.new }
 {
     let v = vector_of(vector);
@@ -60,7 +60,7 @@ pub extern "C" fn dock_words_vector_split_tail_at(
     mid: u64,
     data_len: usize,
 ) -> Reply
-    ensures { SplitsTailAs (splitTailOf data_len (vectorFrom vector.old) mid)
+    ensures { SplitsTailAs (split_tail_of data_len (vector_from vector.old) mid)
         result vector.new }
 {
     let v = vector_of(vector);
@@ -77,7 +77,7 @@ pub extern "C" fn dock_words_vector_append(
     other: &[u64; 34],
     data_len: usize,
 ) -> u8
-    ensures { EditsAs (appendOf data_len (vectorFrom vector.old) (vectorFrom other.now))
+    ensures { EditsAs (append_of data_len (vector_from vector.old) (vector_from other.now))
         result vector.new }
 {
     let v = vector_of(vector);
@@ -96,7 +96,7 @@ pub extern "C" fn dock_words_vector_split_at(
     mid: u64,
     data_len: usize,
 ) -> Reply
-    ensures { SplitsAs (splitOf data_len (vectorFrom vector.old) mid) tail.old
+    ensures { SplitsAs (split_of data_len (vector_from vector.old) mid) tail.old
         result vector.new tail.new }
 {
     let v = vector_of(vector);
@@ -117,8 +117,8 @@ pub extern "C" fn dock_words_vector_copy_into_slice(
     data: &[u8],
     slice: &mut [u8],
 ) -> u8
-    ensures { MovesAs (copies «data».now (vectorFrom vector.now) (length slice.old))
-        (bytes_of «data».now (segmentsOf (vectorFrom vector.now)))
+    ensures { MovesAs (copies «data».now (vector_from vector.now) (length slice.old))
+        (bytes_of «data».now (segments_of (vector_from vector.now)))
         slice.old result slice.new }
 {
     let v = vector_of(vector);
@@ -133,8 +133,8 @@ pub extern "C" fn dock_words_vector_copy_from_slice(
     data: &mut [u8],
     slice: &[u8],
 ) -> u8
-    ensures { MovesAs (copies «data».old (vectorFrom vector.now) (length slice.now))
-        (scatterOf «data».old (segmentsOf (vectorFrom vector.now)) slice.now)
+    ensures { MovesAs (copies «data».old (vector_from vector.now) (length slice.now))
+        (scatter_of «data».old (segments_of (vector_from vector.now)) slice.now)
         «data».old result «data».new }
 {
     let v = vector_of(vector);
@@ -145,8 +145,8 @@ pub extern "C" fn dock_words_vector_copy_from_slice(
 // Every byte of the vector's segments becomes `value`.
 #[unsafe(no_mangle)]
 pub extern "C" fn dock_words_vector_fill(vector: &[u64; 34], data: &mut [u8], value: u8) -> u8
-    ensures { MovesAs (isValid (length «data».old) (vectorFrom vector.now))
-        (fillOf «data».old (segmentsOf (vectorFrom vector.now)) value)
+    ensures { MovesAs (is_valid (length «data».old) (vector_from vector.now))
+        (fill_of «data».old (segments_of (vector_from vector.now)) value)
         «data».old result «data».new }
 {
     let v = vector_of(vector);
@@ -165,8 +165,8 @@ pub extern "C" fn dock_words_vector_is_aligned(
     address: u64,
     length: u64,
 ) -> Reply
-    ensures { result ≡ replyOf (alignmentPaper (alignmentOf (record { mem = mem; req = req; zero = zero; discard = discard })
-        (record { address = address; length = length }) (vectorFrom vector.now))) }
+    ensures { result ≡ reply_of (alignment_paper (alignment_of (record { mem = mem; req = req; zero = zero; discard = discard })
+        (record { address = address; length = length }) (vector_from vector.now))) }
 {
     let v = vector_of(vector);
     let align = Alignments {
@@ -187,7 +187,7 @@ pub extern "C" fn dock_words_blockers_enter(
     start: u64,
     end: u64,
 ) -> u8
-    ensures { BlocksAs (entered_of (strength (flagOf strong)) slot (range_of start end) (blockersOf blockers.old))
+    ensures { BlocksAs (entered_of (strength (flag_of strong)) slot (range_of start end) (blockers_of blockers.old))
         result blockers.old blockers.new }
 {
     let range = Range {
@@ -202,7 +202,7 @@ pub extern "C" fn dock_words_blockers_enter(
 // The slot's blocker leaves.
 #[unsafe(no_mangle)]
 pub extern "C" fn dock_words_blockers_leave(blockers: &mut [u64; 88], slot: usize) -> u8
-    ensures { BlocksAs (left_of slot (blockersOf blockers.old))
+    ensures { BlocksAs (left_of slot (blockers_of blockers.old))
         result blockers.old blockers.new }
 {
     let outcome = leave(blockers, slot);
@@ -212,7 +212,7 @@ pub extern "C" fn dock_words_blockers_leave(blockers: &mut [u64; 88], slot: usiz
 // 1 where the slot's blocker waits, 0 where not.
 #[unsafe(no_mangle)]
 pub extern "C" fn dock_words_blockers_wait(blockers: &[u64; 88], slot: usize) -> u8
-    ensures { result ≡ flagWord (waitsOf slot (blockersOf blockers.now)) }
+    ensures { result ≡ flag_word (waits_of slot (blockers_of blockers.now)) }
 {
     if waits(blockers, slot) { 1 } else { 0 }
 }

@@ -1,8 +1,8 @@
 // What crosses the boundary: document 01's number and values of an answer, in one struct of words.
 ghost use Rattle.std.specs.Prelude.{◌≡◌};
-ghost use Rattle.dock.specs.Numbers.{kindNumber, begunPaper, duePaper, piecePaper};
-ghost use Rattle.dock_c.specs.Replies.{replyOf, numbers, countPaper, plannedPaper, alignmentPaper, splitPaper, profilePaper};
-ghost use Rattle.dock_c.specs.Replies.{joinedPaper, collectedNumber};
+ghost use Rattle.dock.specs.Numbers.{kind_number, begun_paper, due_paper, piece_paper};
+ghost use Rattle.dock_c.specs.Replies.{reply_of, numbers, count_paper, planned_paper, alignment_paper, split_paper, profile_paper};
+ghost use Rattle.dock_c.specs.Replies.{joined_paper, collected_number};
 
 use arithmetic::planner::{Count, Planned};
 use arithmetic::refusals::Outcome;
@@ -57,7 +57,7 @@ fn reply_values(count: u64, first: u64, second: u64, third: u64, fourth: u64) ->
 }
 
 pub(crate) fn begun_reply(b: Begun) -> Reply
-    ensures { result ≡ replyOf (begunPaper b) }
+    ensures { result ≡ reply_of (begun_paper b) }
 {
     match b {
         Begun::Done => reply_number(0),
@@ -70,7 +70,7 @@ fn request_reply(q: Request) -> Reply
     ensures { result ≡ record {
       number = 256;
       count = 4;
-      first = kindNumber q.kind;
+      first = kind_number q.kind;
       second = q.offset.0;
       third = q.length;
       fourth = q.segments;
@@ -82,7 +82,7 @@ fn request_reply(q: Request) -> Reply
 }
 
 pub(crate) fn due_reply(d: Due) -> Reply
-    ensures { result ≡ replyOf (duePaper d) }
+    ensures { result ≡ reply_of (due_paper d) }
 {
     match d {
         Due::Waiting => reply_values(0, 0, 0, 0, 0),
@@ -93,7 +93,7 @@ pub(crate) fn due_reply(d: Due) -> Reply
 }
 
 pub(crate) fn piece_reply(p: Piece) -> Reply
-    ensures { result ≡ replyOf (piecePaper p) }
+    ensures { result ≡ reply_of (piece_paper p) }
 {
     match p {
         Piece::InData(s) => reply_values(3, 0, s.start as u64, s.length as u64, 0),
@@ -103,7 +103,7 @@ pub(crate) fn piece_reply(p: Piece) -> Reply
 }
 
 pub(crate) fn count_reply(k: Count) -> Reply
-    ensures { result ≡ replyOf (countPaper k) }
+    ensures { result ≡ reply_of (count_paper k) }
 {
     match k {
         Count::Chunks(n) => reply_values(1, n, 0, 0, 0),
@@ -112,7 +112,7 @@ pub(crate) fn count_reply(k: Count) -> Reply
 }
 
 pub(crate) fn planned_reply(p: Planned) -> Reply
-    ensures { result ≡ replyOf (plannedPaper p) }
+    ensures { result ≡ reply_of (planned_paper p) }
 {
     match p {
         Planned::Chunk(c) => {
@@ -124,7 +124,7 @@ pub(crate) fn planned_reply(p: Planned) -> Reply
 }
 
 pub(crate) fn alignment_reply(a: Alignment) -> Reply
-    ensures { result ≡ replyOf (alignmentPaper a) }
+    ensures { result ≡ reply_of (alignment_paper a) }
 {
     match a {
         Alignment::Aligned => reply_values(1, 1, 0, 0, 0),
@@ -134,7 +134,7 @@ pub(crate) fn alignment_reply(a: Alignment) -> Reply
 }
 
 pub(crate) fn profile_reply(p: Profile) -> Reply
-    ensures { result ≡ replyOf (profilePaper p) }
+    ensures { result ≡ reply_of (profile_paper p) }
 {
     match p {
         Profile::Of(a) => reply_values(4, a.mem, a.req, a.zero, a.discard),
@@ -144,7 +144,7 @@ pub(crate) fn profile_reply(p: Profile) -> Reply
 
 // A split that was carried out answers 0, and how many segments it looked at.
 pub(crate) fn split_reply(o: Outcome, looked: usize) -> Reply
-    ensures { result ≡ replyOf (splitPaper o looked) }
+    ensures { result ≡ reply_of (split_paper o looked) }
 {
     match o {
         Outcome::Done => Reply {
@@ -160,7 +160,7 @@ pub(crate) fn split_reply(o: Outcome, looked: usize) -> Reply
 }
 
 pub(crate) fn joined_reply(j: Joined) -> Reply
-    ensures { result ≡ replyOf (joinedPaper j) }
+    ensures { result ≡ reply_of (joined_paper j) }
 {
     match j {
         Joined::Into(size) => Reply {
@@ -176,7 +176,7 @@ pub(crate) fn joined_reply(j: Joined) -> Reply
 }
 
 pub(crate) fn collected_number(c: Collected) -> u8
-    ensures { result ≡ collectedNumber c }
+    ensures { result ≡ collected_number c }
 {
     match c {
         Collected::Final(code) => code,

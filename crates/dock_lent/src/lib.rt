@@ -3,9 +3,9 @@
 // contract, of the dock as it was lent and as it is given back. The proofs are walks of this code, which tools/lent_walk writes: its README
 // says how.
 ghost use Rattle.std.specs.Prelude.{◌≡◌, length};
-ghost use Rattle.dock.specs.Begin.{beginOf, BeginGives};
+ghost use Rattle.dock.specs.Begin.{begin_of, BeginGives};
 ghost use Rattle.dock.specs.Next.{next_of, piece_of};
-ghost use Rattle.dock.specs.Tell.{tellOf, TellGives, collectOf, CollectGives};
+ghost use Rattle.dock.specs.Tell.{tell_of, TellGives, collect_of, CollectGives};
 
 use arithmetic::refusals::Outcome;
 use dock::begin::{Asked, Begun};
@@ -15,7 +15,7 @@ use dock::tell::Collected;
 
 // Begin what is asked, in the lowest free slot.
 pub fn begin(dock: &mut Dock, asked: Asked, data: &[u8], scratch: &mut [u8]) -> Begun
-    ensures { BeginGives (beginOf dock.old asked «data».now scratch.old)
+    ensures { BeginGives (begin_of dock.old asked «data».now scratch.old)
         result dock.new scratch.new }
 {
     let begun = dock.begin(asked, data, scratch);
@@ -39,7 +39,7 @@ pub fn piece_place(dock: &Dock, slot: usize, i: usize, data_len: usize, scratch_
 
 // Hand in the code of the request that is out.
 pub fn tell(dock: &mut Dock, slot: usize, code: u8, data: &mut [u8], scratch: &mut [u8]) -> Outcome
-    ensures { TellGives (tellOf dock.old slot code «data».old scratch.old)
+    ensures { TellGives (tell_of dock.old slot code «data».old scratch.old)
         result dock.new «data».new scratch.new }
 {
     let told = dock.tell(slot, code, data, scratch);
@@ -49,7 +49,7 @@ pub fn tell(dock: &mut Dock, slot: usize, code: u8, data: &mut [u8], scratch: &m
 
 // Take the final answer; the slot is free again.
 pub fn collect(dock: &mut Dock, slot: usize, data: &[u8], scratch: &[u8]) -> Collected
-    ensures { CollectGives (collectOf dock.old slot (length «data».now) (length scratch.now))
+    ensures { CollectGives (collect_of dock.old slot (length «data».now) (length scratch.now))
         result dock.new }
 {
     let collected = dock.collect(slot, data, scratch);

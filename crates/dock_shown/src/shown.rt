@@ -1,14 +1,14 @@
 // The combined calls: each does what one of `arrays` does, and answers with what is next of the slot and the first piece of its request, or
 // with the final answer, collected. So a request costs one call. For any words.
 ghost use Rattle.std.specs.Prelude.{◌≡◌};
-ghost use Rattle.dock.specs.Begin.{beginOf};
-ghost use Rattle.dock.specs.Tell.{tellOf};
-ghost use Rattle.dock.specs.Numbers.{kindNumber};
-ghost use Rattle.arithmetic.specs.Refusals.{isDone};
-ghost use Rattle.dock_words.specs.View.{dockOf};
-ghost use Rattle.dock_words.specs.CallWords.{isAdmitted, sameTwo, sameThree};
-ghost use Rattle.dock_shown.specs.Shown.{NotShown, Asks, shortWords, shownWords, isCollected, showOf, ShowsAs, shownBegun, submitOf};
-ghost use Rattle.dock_shown.specs.Shown.{completeOf, LeavesBytes};
+ghost use Rattle.dock.specs.Begin.{begin_of};
+ghost use Rattle.dock.specs.Tell.{tell_of};
+ghost use Rattle.dock.specs.Numbers.{kind_number};
+ghost use Rattle.arithmetic.specs.Refusals.{is_done};
+ghost use Rattle.dock_words.specs.View.{dock_of};
+ghost use Rattle.dock_words.specs.CallWords.{is_admitted, same_two, same_three};
+ghost use Rattle.dock_shown.specs.Shown.{NotShown, Asks, short_words, shown_words, is_collected, show_of, ShowsAs, shown_begun, submit_of};
+ghost use Rattle.dock_shown.specs.Shown.{complete_of, LeavesBytes};
 
 use arithmetic::refusals::{Outcome, Refusal};
 use dock::begin::{Asked, Begun};
@@ -30,7 +30,7 @@ fn size_word(x: usize) -> u64
 
 // The number of a request's kind.
 pub fn kind_number(k: Kind) -> u64
-    ensures { result ≡ kindNumber k }
+    ensures { result ≡ kind_number k }
 {
     match k {
         Kind::Read => 0,
@@ -43,20 +43,20 @@ pub fn kind_number(k: Kind) -> u64
 
 // An answer of one number: what it is (0 refused, 1 final, 2 waiting), and the number.
 fn put_short(reply: &mut [u64; 9], what: u64, number: u64)
-    ensures { reply.new ≡ shortWords what number }
+    ensures { reply.new ≡ short_words what number }
 {
     *reply = [what, number, 0, 0, 0, 0, 0, 0, 0];
 }
 
 fn put_refusal(reply: &mut [u64; 9], r: Refusal)
-    ensures { reply.new ≡ shownWords (NotShown r) }
+    ensures { reply.new ≡ shown_words (NotShown r) }
 {
     put_short(reply, 0, byte_word(r.number()));
 }
 
 // The request that is out in `slot`, and its first piece.
 fn put_request(reply: &mut [u64; 9], slot: usize, q: Request, p: Piece)
-    ensures { reply.new ≡ shownWords (Asks slot q p) }
+    ensures { reply.new ≡ shown_words (Asks slot q p) }
 {
     let offset = q.offset;
     let made = q.kind;
@@ -107,12 +107,12 @@ pub fn show(
     scratch_len: usize,
     reply: &mut [u64; 9],
 )
-    ensures dock { ShowsAs (showOf
-        (dockOf settings.now blockers.now states.old vectors.old)
+    ensures dock { ShowsAs (show_of
+        (dock_of settings.now blockers.now states.old vectors.old)
         slot data_len scratch_len)
-        reply.new (dockOf settings.now blockers.now states.new vectors.new) }
-    ensures words { sameTwo (isCollected (showOf
-        (dockOf settings.now blockers.now states.old vectors.old)
+        reply.new (dock_of settings.now blockers.now states.new vectors.new) }
+    ensures words { same_two (is_collected (show_of
+        (dock_of settings.now blockers.now states.old vectors.old)
         slot data_len scratch_len).answer) states.old vectors.old states.new
         vectors.new }
 {
@@ -167,11 +167,11 @@ fn show_begun(
     scratch_len: usize,
     reply: &mut [u64; 9],
 )
-    ensures dock { ShowsAs (shownBegun begun
-        (dockOf settings.now blockers.now states.old vectors.old)
+    ensures dock { ShowsAs (shown_begun begun
+        (dock_of settings.now blockers.now states.old vectors.old)
         data_len scratch_len)
-        reply.new (dockOf settings.now blockers.now states.new vectors.new) }
-    ensures words { sameTwo (isAdmitted begun) states.old vectors.old
+        reply.new (dock_of settings.now blockers.now states.new vectors.new) }
+    ensures words { same_two (is_admitted begun) states.old vectors.old
         states.new vectors.new }
 {
     match begun {
@@ -201,15 +201,15 @@ pub fn submit(
     scratch: &mut [u8],
     reply: &mut [u64; 9],
 )
-    ensures dock { ShowsAs (submitOf
-        (dockOf settings.now blockers.old states.old vectors.old)
+    ensures dock { ShowsAs (submit_of
+        (dock_of settings.now blockers.old states.old vectors.old)
         asked «data».now scratch.old)
-        reply.new (dockOf settings.now blockers.new states.new vectors.new) }
-    ensures bytes { scratch.new ≡ (beginOf
-        (dockOf settings.now blockers.old states.old vectors.old)
+        reply.new (dock_of settings.now blockers.new states.new vectors.new) }
+    ensures bytes { scratch.new ≡ (begin_of
+        (dock_of settings.now blockers.old states.old vectors.old)
         asked «data».now scratch.old).scratch }
-    ensures words { sameThree (isAdmitted (beginOf
-        (dockOf settings.now blockers.old states.old vectors.old)
+    ensures words { same_three (is_admitted (begin_of
+        (dock_of settings.now blockers.old states.old vectors.old)
         asked «data».now scratch.old).answer)
         blockers.old states.old vectors.old
         blockers.new states.new vectors.new }
@@ -241,15 +241,15 @@ pub fn complete(
     scratch: &mut [u8],
     reply: &mut [u64; 9],
 )
-    ensures dock { ShowsAs (completeOf
-        (dockOf settings.now blockers.old states.old vectors.old)
+    ensures dock { ShowsAs (complete_of
+        (dock_of settings.now blockers.old states.old vectors.old)
         slot code «data».old scratch.old)
-        reply.new (dockOf settings.now blockers.new states.new vectors.new) }
-    ensures bytes { LeavesBytes (tellOf
-        (dockOf settings.now blockers.old states.old vectors.old)
+        reply.new (dock_of settings.now blockers.new states.new vectors.new) }
+    ensures bytes { LeavesBytes (tell_of
+        (dock_of settings.now blockers.old states.old vectors.old)
         slot code «data».old scratch.old) «data».new scratch.new }
-    ensures words { sameThree (isDone (tellOf
-        (dockOf settings.now blockers.old states.old vectors.old)
+    ensures words { same_three (is_done (tell_of
+        (dock_of settings.now blockers.old states.old vectors.old)
         slot code «data».old scratch.old).outcome)
         blockers.old states.old vectors.old
         blockers.new states.new vectors.new }

@@ -6,7 +6,7 @@ use Prim.Native.Nat.{ℕ, ◌<◌}
 use lib.Dec.{ltb, eqb}
 use lib.ListN.{length, set}
 use borrow.Author.Tests.{ltb-true}
-use Rattle.arithmetic.specs.Refusals.{isDone, is-done}
+use Rattle.arithmetic.specs.Refusals.{is_done, is_done_lem}
 use Rattle.arithmetic.specs.SettingsLaws.{and_left}
 use Rattle.arithmetic.specs.declared.refusals.Refusal.{Refusal}
 use Rattle.arithmetic.specs.declared.refusals.Refusal.TheVariants.{Slot}
@@ -14,61 +14,61 @@ use Rattle.arithmetic.specs.declared.refusals.Outcome.{Outcome}
 use Rattle.arithmetic.specs.declared.refusals.Outcome.TheVariants.{Done, Refused}
 use Rattle.arithmetic.specs.declared.settings.Settings.{Settings}
 use Rattle.arithmetic.specs.declared.settings.Buffers.{Buffers}
-use Rattle.vectors.specs.Vectors.{isValid}
+use Rattle.vectors.specs.Vectors.{is_valid}
 use Rattle.vectors.specs.declared.vector.IoVector.{IoVector}
 use Rattle.stages.specs.declared.state.State.{State}
 use Rattle.stages.specs.declared.plan.Plan.{Plan}
-use Rattle.dock.specs.Dock.{lent_of, overlapsOf, firstFree}
-use Rattle.dock.specs.Begin.{Filled, fills, filled, blockersWith, begins, selectedOf, plan_of, beginOf, Entering, enterAt, decidedOf, admitBy, admitAt}
-use Rattle.dock.specs.Next.{isSoundIn, isSoundAt}
-use Rattle.dock.specs.SlotLaws.{begin-whole}
+use Rattle.dock.specs.Dock.{lent_of, overlaps_of, first_free}
+use Rattle.dock.specs.Begin.{Filled, fills, filled, blockers_with, begins, selected_of, plan_of, begin_of, Entering, enter_at, decided_of, admit_by, admit_at}
+use Rattle.dock.specs.Next.{is_sound_in, is_sound_at}
+use Rattle.dock.specs.SlotLaws.{begin_whole}
 use Rattle.dock.specs.declared.begin.Asked.{Asked}
 use Rattle.dock.specs.declared.begin.Begun.{Begun}
 use Rattle.dock.specs.declared.begin.Begun.TheVariants.{Admitted, Refused as BeginRefused}
-use Rattle.dock_words.specs.View.{blockersOf, statesOf, vectors_of, settingsOf, buffersOf, dockOf}
-use Rattle.dock_words.specs.CallWords.{BegunWords, beginsWords, storedJob}
-use Rattle.dock_words.specs.CallWordsLaws.{enters-not, begin-stored}
+use Rattle.dock_words.specs.View.{blockers_of, states_of, vectors_of, settings_of, buffers_of, dock_of}
+use Rattle.dock_words.specs.CallWords.{BegunWords, begins_words, stored_job}
+use Rattle.dock_words.specs.CallWordsLaws.{enters_not, begin_stored}
 
 -- a job that is sound in a slot is in one of the eight
-pub sound-slot : (p : ℕ) (x : State) (s : Settings) (b : Buffers) (n : ℕ) → isSoundAt p x s b n ≡ true → p < 8
-unfolding isSoundAt
-sound-slot p x s b n e = ltb-true p 8 (and_left (ltb p 8) (isSoundIn x s b) (and_left (ltb p 8 && isSoundIn x s b) (eqb n b.scratch.length) e))
+pub sound_slot : (p : ℕ) (x : State) (s : Settings) (b : Buffers) (n : ℕ) → is_sound_at p x s b n ≡ true → p < 8
+unfolding is_sound_at
+sound_slot p x s b n e = ltb-true p 8 (and_left (ltb p 8) (is_sound_in x s b) (and_left (ltb p 8 && is_sound_in x s b) (eqb n b.scratch.length) e))
 
 -- ---- the job w with the vector u comes to slot p
 
 module _ (b x v : List ℕ) (p share : ℕ) (w : State) (u : IoVector) (memory scratch : List ℕ) where
   abbrev There : Entering
-  There = enterAt (blockersOf b) p share w u memory scratch
+  There = enter_at (blockers_of b) p share w u memory scratch
 
   abbrev admitted : Outcome → Entering → BegunWords
-  admitted o e = storedJob (blockersOf b) (statesOf x) (vectors_of v) u (admitBy o (blockersOf b) p w e)
+  admitted o e = stored_job (blockers_of b) (states_of x) (vectors_of v) u (admit_by o (blockers_of b) p w e)
 
-  pub admit-not : isDone (blockersWith (blockersOf b) p w).outcome ≡ false → beginsWords (BeginRefused Slot) b x v scratch ≡ admitted There.outcome There
-  unfolding enterAt
-  admit-not e = simp (enters-not (blockersOf b) p w e)
+  pub admit_not : is_done (blockers_with (blockers_of b) p w).outcome ≡ false → begins_words (BeginRefused Slot) b x v scratch ≡ admitted There.outcome There
+  unfolding enter_at
+  admit_not e = simp (enters_not (blockers_of b) p w e)
 
-  module _ (e : isDone (blockersWith (blockersOf b) p w).outcome ≡ true) (o : Outcome) (s : List ℕ) (f : fills o s ≡ filled share w u memory scratch) where
-    there : There ≡ record { blockers = (blockersWith (blockersOf b) p w).blockers; outcome = o; scratch = s }
-    unfolding enterAt
+  module _ (e : is_done (blockers_with (blockers_of b) p w).outcome ≡ true) (o : Outcome) (s : List ℕ) (f : fills o s ≡ filled share w u memory scratch) where
+    there : There ≡ record { blockers = (blockers_with (blockers_of b) p w).blockers; outcome = o; scratch = s }
+    unfolding enter_at
     there =
-        simp (is-done (blockersWith (blockersOf b) p w).outcome e)
-        (sym (ap (λ (z : Filled). record { blockers = (blockersWith (blockersOf b) p w).blockers; outcome = z.outcome; scratch = z.scratch }) f))
+        simp (is_done_lem (blockers_with (blockers_of b) p w).outcome e)
+        (sym (ap (λ (z : Filled). record { blockers = (blockers_with (blockers_of b) p w).blockers; outcome = z.outcome; scratch = z.scratch }) f))
 
-    pub admit-refused : (r : Refusal) → o ≡ Refused r → beginsWords (BeginRefused r) b x v s ≡ admitted There.outcome There
-    admit-refused r q = sym (ap (λ (z : Entering). admitted z.outcome z) there ∙ ap (λ (z : Outcome). admitted z (record { blockers = (blockersWith (blockersOf b) p w).blockers; outcome = o; scratch = s })) q)
+    pub admit_refused : (r : Refusal) → o ≡ Refused r → begins_words (BeginRefused r) b x v s ≡ admitted There.outcome There
+    admit_refused r q = sym (ap (λ (z : Entering). admitted z.outcome z) there ∙ ap (λ (z : Outcome). admitted z (record { blockers = (blockers_with (blockers_of b) p w).blockers; outcome = o; scratch = s })) q)
 
-    pub admit-done : o ≡ Done → (b' x' v' : List ℕ) → blockersOf b' ≡ (blockersWith (blockersOf b) p w).blockers → statesOf x' ≡ set (statesOf x) p w → vectors_of v' ≡ set (vectors_of v) p u
-        → beginsWords (Admitted p) b' x' v' s ≡ admitted There.outcome There
-    admit-done q b' x' v' g h k =
-        rw (g, h, k) (sym (ap (λ (z : Entering). admitted z.outcome z) there ∙ ap (λ (z : Outcome). admitted z (record { blockers = (blockersWith (blockersOf b) p w).blockers; outcome = o; scratch = s })) q))
+    pub admit_done : o ≡ Done → (b' x' v' : List ℕ) → blockers_of b' ≡ (blockers_with (blockers_of b) p w).blockers → states_of x' ≡ set (states_of x) p w → vectors_of v' ≡ set (vectors_of v) p u
+        → begins_words (Admitted p) b' x' v' s ≡ admitted There.outcome There
+    admit_done q b' x' v' g h k =
+        rw (g, h, k) (sym (ap (λ (z : Entering). admitted z.outcome z) there ∙ ap (λ (z : Outcome). admitted z (record { blockers = (blockers_with (blockers_of b) p w).blockers; outcome = o; scratch = s })) q))
 
 -- ---- begin
 
-pub begin-there : (s b x v : List ℕ) (q : Asked) (memory scratch : List ℕ) (c : Settings) → c ≡ settingsOf s → (g : Buffers) → g ≡ buffersOf s → (w : IoVector) → w ≡ selectedOf q.job q.vector
-    → (met : Bool) → met ≡ overlapsOf (statesOf x) (vectors_of v) q.job w → (l : Outcome) → l ≡ lent_of c g (length memory) (length scratch) → (f : ℕ) → f ≡ firstFree (statesOf x)
-    → (plan : Plan) → plan ≡ plan_of q.job c g q.offset q.length q.vector → (t : Bool) → t ≡ isValid (length memory) w → (r : Plan) → r ≡ decidedOf l t plan met f
-    → (o : Begun) (b' x' v' n : List ℕ) → beginsWords o b' x' v' n ≡ storedJob (blockersOf b) (statesOf x) (vectors_of v) w (admitAt (blockersOf b) f c.bounce w memory scratch r)
-    → begins (record { answer = o; dock = dockOf s b' x' v' }) n ≡ beginOf (dockOf s b x v) q memory scratch
-begin-there s b x v q memory scratch c ce g ge w we met me l le f fe plan pe t te r re o b' x' v' n k =
-    begin-stored s b x v o b' x' v' n w (admitAt (blockersOf b) f (settingsOf s).bounce w memory scratch r) (k ∙ rw ce)
-    ∙ begin-whole (dockOf s b x v) q memory scratch w we met me l (le ∙ rw (ce, ge)) f fe plan (pe ∙ rw (ce, ge)) t te r re
+pub begin_there : (s b x v : List ℕ) (q : Asked) (memory scratch : List ℕ) (c : Settings) → c ≡ settings_of s → (g : Buffers) → g ≡ buffers_of s → (w : IoVector) → w ≡ selected_of q.job q.vector
+    → (met : Bool) → met ≡ overlaps_of (states_of x) (vectors_of v) q.job w → (l : Outcome) → l ≡ lent_of c g (length memory) (length scratch) → (f : ℕ) → f ≡ first_free (states_of x)
+    → (plan : Plan) → plan ≡ plan_of q.job c g q.offset q.length q.vector → (t : Bool) → t ≡ is_valid (length memory) w → (r : Plan) → r ≡ decided_of l t plan met f
+    → (o : Begun) (b' x' v' n : List ℕ) → begins_words o b' x' v' n ≡ stored_job (blockers_of b) (states_of x) (vectors_of v) w (admit_at (blockers_of b) f c.bounce w memory scratch r)
+    → begins (record { answer = o; dock = dock_of s b' x' v' }) n ≡ begin_of (dock_of s b x v) q memory scratch
+begin_there s b x v q memory scratch c ce g ge w we met me l le f fe plan pe t te r re o b' x' v' n k =
+    begin_stored s b x v o b' x' v' n w (admit_at (blockers_of b) f (settings_of s).bounce w memory scratch r) (k ∙ rw ce)
+    ∙ begin_whole (dock_of s b x v) q memory scratch w we met me l (le ∙ rw (ce, ge)) f fe plan (pe ∙ rw (ce, ge)) t te r re

@@ -5,7 +5,7 @@ use mathlib.Core.List.{List}
 use Prim.Native.Nat.{ℕ, ◌*◌, ◌<◌, ◌≤◌}
 use lib.ListN.{length, set}
 use borrow.Author.Tests.{lt-ltb, le-ltb}
-use Rattle.arithmetic.specs.Refusals.{isDone, is-done}
+use Rattle.arithmetic.specs.Refusals.{is_done, is_done_lem}
 use Rattle.arithmetic.specs.declared.refusals.Refusal.{Refusal}
 use Rattle.arithmetic.specs.declared.refusals.Refusal.TheVariants.{Buffer, Slot}
 use Rattle.arithmetic.specs.declared.refusals.Outcome.{Outcome}
@@ -15,122 +15,122 @@ use Rattle.arithmetic.specs.declared.settings.Buffers.{Buffers}
 use Rattle.vectors.specs.declared.vector.IoVector.{IoVector}
 use Rattle.stages.specs.declared.state.State.{State}
 use Rattle.stages.specs.declared.told.Step.{Step}
-use Rattle.dock.specs.Dock.{lentFits, isOutBy, stateAt, vectorAt}
-use Rattle.dock.specs.Begin.{Filled, fills, filled, blockersWith}
-use Rattle.dock.specs.Next.{isSoundIn}
-use Rattle.dock.specs.Tell.{Handed, hands, handed, blockersWithout, tells, tellOf, Stepped, staysAt, ends_at, entersAt, steppedAt, answeredOf, answeredBy, toldAt}
+use Rattle.dock.specs.Dock.{lent_fits, is_out_by, state_at, vector_at}
+use Rattle.dock.specs.Begin.{Filled, fills, filled, blockers_with}
+use Rattle.dock.specs.Next.{is_sound_in}
+use Rattle.dock.specs.Tell.{Handed, hands, handed, blockers_without, tells, tell_of, Stepped, stays_at, ends_at, enters_at, stepped_at, answered_of, answered_by, told_at}
 use Rattle.dock.specs.declared.tell.Answered.{Answered}
 use Rattle.dock.specs.declared.tell.Answered.TheVariants.{Leads, Refused as NoLead}
-use Rattle.dock_words.specs.View.{blockersOf, statesOf, settingsOf, buffersOf, dockOf}
-use Rattle.dock_words.specs.CallWords.{changes, ToldWords, tellsWords, storedWords}
-use Rattle.dock_words.specs.CallWordsLaws.{tell-stored, stored-done, stored_refused, ends-left, ends_stuck, enters-changed, enters-stuck}
+use Rattle.dock_words.specs.View.{blockers_of, states_of, settings_of, buffers_of, dock_of}
+use Rattle.dock_words.specs.CallWords.{changes, ToldWords, tells_words, stored_words}
+use Rattle.dock_words.specs.CallWordsLaws.{tell_stored, stored_done, stored_refused, ends_left, ends_stuck, enters_changed, enters_stuck}
 
 -- ---- a step
 
 module _ (b x : List ℕ) (p share : ℕ) (y : State) (v : IoVector) (memory scratch s : List ℕ) (o : Outcome) (f : fills o s ≡ filled share y v memory scratch) where
   abbrev Stay : Stepped
-  Stay = staysAt (blockersOf b) share y v memory scratch
+  Stay = stays_at (blockers_of b) share y v memory scratch
 
-  pub stays-refused : (r : Refusal) → o ≡ Refused r → tellsWords o b x memory s ≡ storedWords (blockersOf b) (statesOf x) p Stay
-  stays-refused r e =
-      ap (λ (z : Outcome). tellsWords z b x memory s) e
-      ∙ stored_refused (blockersOf b) (statesOf x) p Stay b x memory s r (sym (ap (λ (z : Filled). z.outcome) f) ∙ e) refl refl refl (ap (λ (z : Filled). z.scratch) f)
+  pub stays_refused : (r : Refusal) → o ≡ Refused r → tells_words o b x memory s ≡ stored_words (blockers_of b) (states_of x) p Stay
+  stays_refused r e =
+      ap (λ (z : Outcome). tells_words z b x memory s) e
+      ∙ stored_refused (blockers_of b) (states_of x) p Stay b x memory s r (sym (ap (λ (z : Filled). z.outcome) f) ∙ e) refl refl refl (ap (λ (z : Filled). z.scratch) f)
 
-  pub stays-done : o ≡ Done → (x' : List ℕ) → statesOf x' ≡ set (statesOf x) p y → tellsWords Done b x' memory s ≡ storedWords (blockersOf b) (statesOf x) p Stay
-  stays-done e x' g = stored-done (blockersOf b) (statesOf x) p Stay b x' memory s (sym (ap (λ (z : Filled). z.outcome) f) ∙ e) refl g refl (ap (λ (z : Filled). z.scratch) f)
+  pub stays_done : o ≡ Done → (x' : List ℕ) → states_of x' ≡ set (states_of x) p y → tells_words Done b x' memory s ≡ stored_words (blockers_of b) (states_of x) p Stay
+  stays_done e x' g = stored_done (blockers_of b) (states_of x) p Stay b x' memory s (sym (ap (λ (z : Filled). z.outcome) f) ∙ e) refl g refl (ap (λ (z : Filled). z.scratch) f)
 
 module _ (b x : List ℕ) (p share : ℕ) (w : State) (code : ℕ) (y : State) (v : IoVector) (memory scratch : List ℕ) where
   abbrev End : Stepped
-  End = ends_at (blockersOf b) p share w code y v memory scratch
+  End = ends_at (blockers_of b) p share w code y v memory scratch
 
-  pub ends-not : isDone (blockersWithout (blockersOf b) p w).outcome ≡ false → tellsWords (Refused Slot) b x memory scratch ≡ storedWords (blockersOf b) (statesOf x) p End
-  ends-not e = sym (ap (λ (z : Stepped). storedWords (blockersOf b) (statesOf x) p z) (ends_stuck (blockersOf b) p share w code y v memory scratch e))
+  pub ends_not : is_done (blockers_without (blockers_of b) p w).outcome ≡ false → tells_words (Refused Slot) b x memory scratch ≡ stored_words (blockers_of b) (states_of x) p End
+  ends_not e = sym (ap (λ (z : Stepped). stored_words (blockers_of b) (states_of x) p z) (ends_stuck (blockers_of b) p share w code y v memory scratch e))
 
-  module _ (e : isDone (blockersWithout (blockersOf b) p w).outcome ≡ true) (o : Outcome) (m : List ℕ) (f : hands o m ≡ handed share w code v memory scratch) where
-    left : End ≡ record { outcome = o; blockers = (blockersWithout (blockersOf b) p w).blockers; state = y; memory = m; scratch = scratch }
+  module _ (e : is_done (blockers_without (blockers_of b) p w).outcome ≡ true) (o : Outcome) (m : List ℕ) (f : hands o m ≡ handed share w code v memory scratch) where
+    left : End ≡ record { outcome = o; blockers = (blockers_without (blockers_of b) p w).blockers; state = y; memory = m; scratch = scratch }
     left =
-        ends-left (blockersOf b) p share w code y v memory scratch e
-        ∙ ap (λ (z : Handed). record { outcome = z.outcome; blockers = (blockersWithout (blockersOf b) p w).blockers; state = y; memory = z.memory; scratch = scratch }) (sym f)
+        ends_left (blockers_of b) p share w code y v memory scratch e
+        ∙ ap (λ (z : Handed). record { outcome = z.outcome; blockers = (blockers_without (blockers_of b) p w).blockers; state = y; memory = z.memory; scratch = scratch }) (sym f)
 
-    pub ends-refused : (r : Refusal) → o ≡ Refused r → tellsWords o b x m scratch ≡ storedWords (blockersOf b) (statesOf x) p End
-    ends-refused r q =
-        ap (λ (z : Outcome). tellsWords z b x m scratch) q
-        ∙ stored_refused (blockersOf b) (statesOf x) p End b x m scratch r (ap (λ (z : Stepped). z.outcome) left ∙ q) refl refl (sym (ap (λ (z : Stepped). z.memory) left)) (sym (ap (λ (z : Stepped). z.scratch) left))
+    pub ends_refused : (r : Refusal) → o ≡ Refused r → tells_words o b x m scratch ≡ stored_words (blockers_of b) (states_of x) p End
+    ends_refused r q =
+        ap (λ (z : Outcome). tells_words z b x m scratch) q
+        ∙ stored_refused (blockers_of b) (states_of x) p End b x m scratch r (ap (λ (z : Stepped). z.outcome) left ∙ q) refl refl (sym (ap (λ (z : Stepped). z.memory) left)) (sym (ap (λ (z : Stepped). z.scratch) left))
 
-    pub ends-done : o ≡ Done → (u : Outcome) → u ≡ (blockersWithout (blockersOf b) p w).outcome → (b' x' : List ℕ) → blockersOf b' ≡ (blockersWithout (blockersOf b) p w).blockers → statesOf x' ≡ set (statesOf x) p y
-        → tellsWords u b' x' m scratch ≡ storedWords (blockersOf b) (statesOf x) p End
-    ends-done q u h b' x' g k =
-        ap (λ (z : Outcome). tellsWords z b' x' m scratch) (h ∙ is-done (blockersWithout (blockersOf b) p w).outcome e)
-        ∙ stored-done (blockersOf b) (statesOf x) p End b' x' m scratch (ap (λ (z : Stepped). z.outcome) left ∙ q) (g ∙ sym (ap (λ (z : Stepped). z.blockers) left))
-        (k ∙ sym (ap (λ (z : Stepped). set (statesOf x) p z.state) left)) (sym (ap (λ (z : Stepped). z.memory) left)) (sym (ap (λ (z : Stepped). z.scratch) left))
+    pub ends_done : o ≡ Done → (u : Outcome) → u ≡ (blockers_without (blockers_of b) p w).outcome → (b' x' : List ℕ) → blockers_of b' ≡ (blockers_without (blockers_of b) p w).blockers → states_of x' ≡ set (states_of x) p y
+        → tells_words u b' x' m scratch ≡ stored_words (blockers_of b) (states_of x) p End
+    ends_done q u h b' x' g k =
+        ap (λ (z : Outcome). tells_words z b' x' m scratch) (h ∙ is_done_lem (blockers_without (blockers_of b) p w).outcome e)
+        ∙ stored_done (blockers_of b) (states_of x) p End b' x' m scratch (ap (λ (z : Stepped). z.outcome) left ∙ q) (g ∙ sym (ap (λ (z : Stepped). z.blockers) left))
+        (k ∙ sym (ap (λ (z : Stepped). set (states_of x) p z.state) left)) (sym (ap (λ (z : Stepped). z.memory) left)) (sym (ap (λ (z : Stepped). z.scratch) left))
 
 module _ (b x : List ℕ) (p share : ℕ) (w y : State) (v : IoVector) (memory scratch : List ℕ) where
   abbrev Enter : Stepped
-  Enter = entersAt (blockersOf b) p share w y v memory scratch
+  Enter = enters_at (blockers_of b) p share w y v memory scratch
 
-  pub enters-not : isDone (changes (blockersOf b) p w y) ≡ false → tellsWords (Refused Slot) b x memory scratch ≡ storedWords (blockersOf b) (statesOf x) p Enter
-  enters-not e =
-      let n = enters-stuck (blockersOf b) p share w y v memory scratch e in
-      stored_refused (blockersOf b) (statesOf x) p Enter b x memory scratch Slot n.0 refl refl n.1 n.2
+  pub enters_not : is_done (changes (blockers_of b) p w y) ≡ false → tells_words (Refused Slot) b x memory scratch ≡ stored_words (blockers_of b) (states_of x) p Enter
+  enters_not e =
+      let n = enters_stuck (blockers_of b) p share w y v memory scratch e in
+      stored_refused (blockers_of b) (states_of x) p Enter b x memory scratch Slot n.0 refl refl n.1 n.2
 
-  module _ (e : isDone (changes (blockersOf b) p w y) ≡ true) (o : Outcome) (s : List ℕ) (f : fills o s ≡ filled share y v memory scratch) where
-    changed : Enter ≡ record { outcome = o; blockers = (blockersWith (blockersWithout (blockersOf b) p w).blockers p y).blockers; state = y; memory = memory; scratch = s }
+  module _ (e : is_done (changes (blockers_of b) p w y) ≡ true) (o : Outcome) (s : List ℕ) (f : fills o s ≡ filled share y v memory scratch) where
+    changed : Enter ≡ record { outcome = o; blockers = (blockers_with (blockers_without (blockers_of b) p w).blockers p y).blockers; state = y; memory = memory; scratch = s }
     changed =
-        enters-changed (blockersOf b) p share w y v memory scratch e
-        ∙ ap (λ (z : Filled). record { outcome = z.outcome; blockers = (blockersWith (blockersWithout (blockersOf b) p w).blockers p y).blockers; state = y; memory = memory; scratch = z.scratch }) (sym f)
+        enters_changed (blockers_of b) p share w y v memory scratch e
+        ∙ ap (λ (z : Filled). record { outcome = z.outcome; blockers = (blockers_with (blockers_without (blockers_of b) p w).blockers p y).blockers; state = y; memory = memory; scratch = z.scratch }) (sym f)
 
-    pub enters-refused : (r : Refusal) → o ≡ Refused r → tellsWords o b x memory s ≡ storedWords (blockersOf b) (statesOf x) p Enter
-    enters-refused r q =
-        ap (λ (z : Outcome). tellsWords z b x memory s) q
-        ∙ stored_refused (blockersOf b) (statesOf x) p Enter b x memory s r (ap (λ (z : Stepped). z.outcome) changed ∙ q) refl refl (sym (ap (λ (z : Stepped). z.memory) changed)) (sym (ap (λ (z : Stepped). z.scratch) changed))
+    pub enters_refused : (r : Refusal) → o ≡ Refused r → tells_words o b x memory s ≡ stored_words (blockers_of b) (states_of x) p Enter
+    enters_refused r q =
+        ap (λ (z : Outcome). tells_words z b x memory s) q
+        ∙ stored_refused (blockers_of b) (states_of x) p Enter b x memory s r (ap (λ (z : Stepped). z.outcome) changed ∙ q) refl refl (sym (ap (λ (z : Stepped). z.memory) changed)) (sym (ap (λ (z : Stepped). z.scratch) changed))
 
-    pub enters-done : o ≡ Done → (b' x' : List ℕ) → blockersOf b' ≡ (blockersWith (blockersWithout (blockersOf b) p w).blockers p y).blockers → statesOf x' ≡ set (statesOf x) p y
-        → tellsWords Done b' x' memory s ≡ storedWords (blockersOf b) (statesOf x) p Enter
-    enters-done q b' x' g k =
-        stored-done (blockersOf b) (statesOf x) p Enter b' x' memory s (ap (λ (z : Stepped). z.outcome) changed ∙ q) (g ∙ sym (ap (λ (z : Stepped). z.blockers) changed))
-        (k ∙ sym (ap (λ (z : Stepped). set (statesOf x) p z.state) changed)) (sym (ap (λ (z : Stepped). z.memory) changed)) (sym (ap (λ (z : Stepped). z.scratch) changed))
+    pub enters_done : o ≡ Done → (b' x' : List ℕ) → blockers_of b' ≡ (blockers_with (blockers_without (blockers_of b) p w).blockers p y).blockers → states_of x' ≡ set (states_of x) p y
+        → tells_words Done b' x' memory s ≡ stored_words (blockers_of b) (states_of x) p Enter
+    enters_done q b' x' g k =
+        stored_done (blockers_of b) (states_of x) p Enter b' x' memory s (ap (λ (z : Stepped). z.outcome) changed ∙ q) (g ∙ sym (ap (λ (z : Stepped). z.blockers) changed))
+        (k ∙ sym (ap (λ (z : Stepped). set (states_of x) p z.state) changed)) (sym (ap (λ (z : Stepped). z.memory) changed)) (sym (ap (λ (z : Stepped). z.scratch) changed))
 
 -- ---- a code is told
 
 module _ (b x : List ℕ) (p : ℕ) (s : Settings) (l : Buffers) (w : State) (v : IoVector) (code : ℕ) (memory scratch : List ℕ) where
   abbrev Tell : Stepped
-  Tell = toldAt (blockersOf b) p s l w v code memory scratch
+  Tell = told_at (blockers_of b) p s l w v code memory scratch
 
-  pub told-not-out : isOutBy (blockersOf b) w p ≡ false → tellsWords (Refused Slot) b x memory scratch ≡ storedWords (blockersOf b) (statesOf x) p Tell
-  unfolding toldAt
-  told-not-out o = simp o
+  pub told_not_out : is_out_by (blockers_of b) w p ≡ false → tells_words (Refused Slot) b x memory scratch ≡ stored_words (blockers_of b) (states_of x) p Tell
+  unfolding told_at
+  told_not_out o = simp o
 
-  module _ (o : isOutBy (blockersOf b) w p ≡ true) where
-    pub told-not-sound : isSoundIn w s l ≡ false → tellsWords (Refused Slot) b x memory scratch ≡ storedWords (blockersOf b) (statesOf x) p Tell
-    unfolding toldAt
-    told-not-sound k = simp (o, k)
+  module _ (o : is_out_by (blockers_of b) w p ≡ true) where
+    pub told_not_sound : is_sound_in w s l ≡ false → tells_words (Refused Slot) b x memory scratch ≡ stored_words (blockers_of b) (states_of x) p Tell
+    unfolding told_at
+    told_not_sound k = simp (o, k)
 
-    module _ (k : isSoundIn w s l ≡ true) (a : Answered) (e : a ≡ answeredOf s w code) where
-      by : (z : Answered) → a ≡ z → answeredBy z (blockersOf b) p (p * s.bounce) w code v memory scratch ≡ Tell
-      unfolding toldAt
-      by z q = ap (λ (y : Answered). answeredBy y (blockersOf b) p (p * s.bounce) w code v memory scratch) (sym q ∙ e) ∙ simp (o, k)
+    module _ (k : is_sound_in w s l ≡ true) (a : Answered) (e : a ≡ answered_of s w code) where
+      by : (z : Answered) → a ≡ z → answered_by z (blockers_of b) p (p * s.bounce) w code v memory scratch ≡ Tell
+      unfolding told_at
+      by z q = ap (λ (y : Answered). answered_by y (blockers_of b) p (p * s.bounce) w code v memory scratch) (sym q ∙ e) ∙ simp (o, k)
 
-      pub told-no-answer : (r : Refusal) → a ≡ NoLead r → tellsWords (Refused r) b x memory scratch ≡ storedWords (blockersOf b) (statesOf x) p Tell
-      told-no-answer r q = ap (λ (z : Stepped). storedWords (blockersOf b) (statesOf x) p z) (by (NoLead r) q)
+      pub told_no_answer : (r : Refusal) → a ≡ NoLead r → tells_words (Refused r) b x memory scratch ≡ stored_words (blockers_of b) (states_of x) p Tell
+      told_no_answer r q = ap (λ (z : Stepped). stored_words (blockers_of b) (states_of x) p z) (by (NoLead r) q)
 
-      pub told-leads : (t : Step) → a ≡ Leads t → (z : ToldWords) → z ≡ storedWords (blockersOf b) (statesOf x) p (steppedAt (blockersOf b) p (p * s.bounce) w code v memory scratch t) → z ≡ storedWords (blockersOf b) (statesOf x) p Tell
-      told-leads t q z g = g ∙ ap (λ (z : Stepped). storedWords (blockersOf b) (statesOf x) p z) (by (Leads t) q)
+      pub told_leads : (t : Step) → a ≡ Leads t → (z : ToldWords) → z ≡ stored_words (blockers_of b) (states_of x) p (stepped_at (blockers_of b) p (p * s.bounce) w code v memory scratch t) → z ≡ stored_words (blockers_of b) (states_of x) p Tell
+      told_leads t q z g = g ∙ ap (λ (z : Stepped). stored_words (blockers_of b) (states_of x) p z) (by (Leads t) q)
 
 -- ---- tell
 
 module _ (s b x v : List ℕ) (p code : ℕ) (memory scratch : List ℕ) where
-  pub tell-not-lent : lentFits (buffersOf s) (length memory) (length scratch) ≡ false → tells (record { outcome = Refused Buffer; dock = dockOf s b x v }) memory scratch ≡ tellOf (dockOf s b x v) p code memory scratch
-  unfolding tellOf
-  tell-not-lent l = simp l
+  pub tell_not_lent : lent_fits (buffers_of s) (length memory) (length scratch) ≡ false → tells (record { outcome = Refused Buffer; dock = dock_of s b x v }) memory scratch ≡ tell_of (dock_of s b x v) p code memory scratch
+  unfolding tell_of
+  tell_not_lent l = simp l
 
-  module _ (l : lentFits (buffersOf s) (length memory) (length scratch) ≡ true) where
-    pub tell-no-slot : 8 ≤ p → tells (record { outcome = Refused Slot; dock = dockOf s b x v }) memory scratch ≡ tellOf (dockOf s b x v) p code memory scratch
-    unfolding tellOf
-    tell-no-slot h = simp (l, le-ltb p 8 h)
+  module _ (l : lent_fits (buffers_of s) (length memory) (length scratch) ≡ true) where
+    pub tell_no_slot : 8 ≤ p → tells (record { outcome = Refused Slot; dock = dock_of s b x v }) memory scratch ≡ tell_of (dock_of s b x v) p code memory scratch
+    unfolding tell_of
+    tell_no_slot h = simp (l, le-ltb p 8 h)
 
-    pub tell-there : p < 8 → (w : State) → w ≡ stateAt (dockOf s b x v) p → (c : Settings) → c ≡ settingsOf s → (d : Buffers) → d ≡ buffersOf s → (o : Outcome) (b' x' m n : List ℕ)
-        → tellsWords o b' x' m n ≡ storedWords (blockersOf b) (statesOf x) p (toldAt (blockersOf b) p c d w (vectorAt (dockOf s b x v) p) code memory scratch)
-        → tells (record { outcome = o; dock = dockOf s b' x' v }) m n ≡ tellOf (dockOf s b x v) p code memory scratch
-    unfolding tellOf
-    tell-there h w e c f d g o b' x' m n k =
-        tell-stored s b x v p o b' x' m n (toldAt (blockersOf b) p (settingsOf s) (buffersOf s) (stateAt (dockOf s b x v) p) (vectorAt (dockOf s b x v) p) code memory scratch) (k ∙ rw (e, f, g)) ∙ simp (l, lt-ltb p 8 h)
+    pub tell_there : p < 8 → (w : State) → w ≡ state_at (dock_of s b x v) p → (c : Settings) → c ≡ settings_of s → (d : Buffers) → d ≡ buffers_of s → (o : Outcome) (b' x' m n : List ℕ)
+        → tells_words o b' x' m n ≡ stored_words (blockers_of b) (states_of x) p (told_at (blockers_of b) p c d w (vector_at (dock_of s b x v) p) code memory scratch)
+        → tells (record { outcome = o; dock = dock_of s b' x' v }) m n ≡ tell_of (dock_of s b x v) p code memory scratch
+    unfolding tell_of
+    tell_there h w e c f d g o b' x' m n k =
+        tell_stored s b x v p o b' x' m n (told_at (blockers_of b) p (settings_of s) (buffers_of s) (state_at (dock_of s b x v) p) (vector_at (dock_of s b x v) p) code memory scratch) (k ∙ rw (e, f, g)) ∙ simp (l, lt-ltb p 8 h)

@@ -2,11 +2,11 @@
 -- a flag is true at any word but 0. `..Of` and `..From` read a row, `..Words` write it.
 use Rattle.std.specs.Prelude.{◌≡◌, Bool, true, false, not, List, [], ◌∷◌, ◌++◌, map, ℕ, ◌+◌, ◌%◌, ◌<◌, eqb, length, get_or, drop}
 use Rattle.arithmetic.specs.Rounding.{pick}
-use Rattle.arithmetic.specs.Offsets.{bufferAt, range_of}
+use Rattle.arithmetic.specs.Offsets.{buffer_at, range_of}
 use Rattle.arithmetic.specs.declared.offsets.Range.{Range}
 use Rattle.arithmetic.specs.declared.settings.Settings.{Settings}
 use Rattle.arithmetic.specs.declared.settings.Buffers.{Buffers}
-use Rattle.vectors.specs.Words.{vectorFrom}
+use Rattle.vectors.specs.Words.{vector_from}
 use Rattle.vectors.specs.declared.vector.IoVector.{IoVector}
 use Rattle.blockers.specs.declared.Kind.{Kind}
 use Rattle.blockers.specs.declared.Kind.TheVariants.{Absent, Weak, Strong}
@@ -26,15 +26,15 @@ use Rattle.arithmetic.specs.Rows.{rows}
 
 -- ---- one word
 
-abbrev pub flagOf : ℕ → Bool
-flagOf n = not (eqb n 0)
+abbrev pub flag_of : ℕ → Bool
+flag_of n = not (eqb n 0)
 
-abbrev pub flagWord : Bool → ℕ
-flagWord true = 1
-flagWord false = 0
+abbrev pub flag_word : Bool → ℕ
+flag_word true = 1
+flag_word false = 0
 
-unfoldable pub phaseOf : ℕ → Phase
-phaseOf n =
+unfoldable pub phase_of : ℕ → Phase
+phase_of n =
     pick (eqb n 1) Ended
     (pick (eqb n 2) DirectRead
     (pick (eqb n 3) BouncedRead
@@ -44,124 +44,124 @@ phaseOf n =
     (pick (eqb n 7) DirectWrite
     (pick (eqb n 8) ZeroRequest (pick (eqb n 9) DiscardRequest Free))))))))
 
-abbrev pub phaseTag : Phase → ℕ
-phaseTag Free = 0
-phaseTag Ended = 1
-phaseTag DirectRead = 2
-phaseTag BouncedRead = 3
-phaseTag FirstRead = 4
-phaseTag SecondRead = 5
-phaseTag BouncedWrite = 6
-phaseTag DirectWrite = 7
-phaseTag ZeroRequest = 8
-phaseTag DiscardRequest = 9
+abbrev pub phase_tag : Phase → ℕ
+phase_tag Free = 0
+phase_tag Ended = 1
+phase_tag DirectRead = 2
+phase_tag BouncedRead = 3
+phase_tag FirstRead = 4
+phase_tag SecondRead = 5
+phase_tag BouncedWrite = 6
+phase_tag DirectWrite = 7
+phase_tag ZeroRequest = 8
+phase_tag DiscardRequest = 9
 
 unfoldable pub job_of : ℕ → Job
 job_of n = pick (eqb n 1) Write (pick (eqb n 2) Zeroes (pick (eqb n 3) AllocatedZeroes (pick (eqb n 4) Discard Read)))
 
-abbrev pub jobTag : Job → ℕ
-jobTag Read = 0
-jobTag Write = 1
-jobTag Zeroes = 2
-jobTag AllocatedZeroes = 3
-jobTag Discard = 4
+abbrev pub job_tag : Job → ℕ
+job_tag Read = 0
+job_tag Write = 1
+job_tag Zeroes = 2
+job_tag AllocatedZeroes = 3
+job_tag Discard = 4
 
-unfoldable pub courseOf : ℕ → Course
-courseOf n = pick (eqb n 1) Middle (pick (eqb n 2) Head (pick (eqb n 3) Chunks Last))
+unfoldable pub course_of : ℕ → Course
+course_of n = pick (eqb n 1) Middle (pick (eqb n 2) Head (pick (eqb n 3) Chunks Last))
 
-abbrev pub courseTag : Course → ℕ
-courseTag Last = 0
-courseTag Middle = 1
-courseTag Head = 2
-courseTag Chunks = 3
+abbrev pub course_tag : Course → ℕ
+course_tag Last = 0
+course_tag Middle = 1
+course_tag Head = 2
+course_tag Chunks = 3
 
 unfoldable pub kind_of : ℕ → Kind
 kind_of n = pick (eqb n 1) Weak (pick (eqb n 2) Strong Absent)
 
-abbrev pub kindTag : Kind → ℕ
-kindTag Absent = 0
-kindTag Weak = 1
-kindTag Strong = 2
+abbrev pub kind_tag : Kind → ℕ
+kind_tag Absent = 0
+kind_tag Weak = 1
+kind_tag Strong = 2
 
 -- ---- a range: two words
 
-abbrev pub rangeAt : List ℕ → ℕ → Range
-rangeAt w i = range_of (get_or w i 0) (get_or w (i + 1) 0)
+abbrev pub range_at : List ℕ → ℕ → Range
+range_at w i = range_of (get_or w i 0) (get_or w (i + 1) 0)
 
-abbrev pub rangeWords : Range → List ℕ
-rangeWords r = r.start.0 ∷ r.end.0 ∷ []
+abbrev pub range_words : Range → List ℕ
+range_words r = r.start.0 ∷ r.end.0 ∷ []
 
 -- ---- settings and buffers: 9 words. Alignments, bounce buffer length; address and length of the data, then of the scratch
 
-abbrev pub settingsOf : List ℕ → Settings
-settingsOf w = record {
+abbrev pub settings_of : List ℕ → Settings
+settings_of w = record {
   align = record { mem = get_or w 0 0; req = get_or w 1 0; zero = get_or w 2 0; discard = get_or w 3 0 };
   bounce = get_or w 4 0;
 }
 
-abbrev pub buffersOf : List ℕ → Buffers
-buffersOf w = record {
+abbrev pub buffers_of : List ℕ → Buffers
+buffers_of w = record {
   «data» = record { address = get_or w 5 0; length = get_or w 6 0 };
   scratch = record { address = get_or w 7 0; length = get_or w 8 0 };
 }
 
-abbrev pub settingsWords : Settings → Buffers → List ℕ
-settingsWords s b =
+abbrev pub settings_words : Settings → Buffers → List ℕ
+settings_words s b =
     s.align.mem ∷ s.align.req ∷ s.align.zero ∷ s.align.discard ∷ s.bounce
     ∷ b.«data».address ∷ b.«data».length ∷ b.scratch.address ∷ b.scratch.length ∷ []
 
 -- ---- a state: 18 words. Phase, answer, job, course, the job's range, the middle; of the stage the four ranges, head, whether strong
 
 -- of a state's words: those from 8 on
-unfoldable pub stageOf : List ℕ → Stage
-stageOf w =
+unfoldable pub stage_of : List ℕ → Stage
+stage_of w =
     record {
-      asked = rangeAt w 8;
-      request = rangeAt w 10;
-      first = rangeAt w 12;
-      second = rangeAt w 14;
-      head = bufferAt (get_or w 16 0);
-      strong = flagOf (get_or w 17 0);
+      asked = range_at w 8;
+      request = range_at w 10;
+      first = range_at w 12;
+      second = range_at w 14;
+      head = buffer_at (get_or w 16 0);
+      strong = flag_of (get_or w 17 0);
     }
 
-abbrev pub stageWords : Stage → List ℕ
-stageWords g = rangeWords g.asked ++ rangeWords g.request ++ rangeWords g.first ++ rangeWords g.second ++ g.head.0 ∷ flagWord
+abbrev pub stage_words : Stage → List ℕ
+stage_words g = range_words g.asked ++ range_words g.request ++ range_words g.first ++ range_words g.second ++ g.head.0 ∷ flag_word
     g.strong ∷ []
 
-unfoldable pub stateFrom : List ℕ → State
-stateFrom w =
+unfoldable pub state_from : List ℕ → State
+state_from w =
     record {
-      phase = phaseOf (get_or w 0 0);
+      phase = phase_of (get_or w 0 0);
       answer = get_or w 1 0 % 256;
       job = job_of (get_or w 2 0);
-      course = courseOf (get_or w 3 0);
-      range = rangeAt w 4;
-      middle = rangeAt w 6;
-      stage = stageOf w;
+      course = course_of (get_or w 3 0);
+      range = range_at w 4;
+      middle = range_at w 6;
+      stage = stage_of w;
     }
 
-abbrev pub stateWords : State → List ℕ
-stateWords x = phaseTag x.phase ∷ x.answer ∷ jobTag x.job ∷ courseTag x.course ∷ rangeWords x.range ++ rangeWords
-    x.middle ++ stageWords x.stage
+abbrev pub state_words : State → List ℕ
+state_words x = phase_tag x.phase ∷ x.answer ∷ job_tag x.job ∷ course_tag x.course ∷ range_words x.range ++ range_words
+    x.middle ++ stage_words x.stage
 
 -- ---- a blocker: 11 words. Kind, range, the 8 notes
 
-unfoldable pub blockerOf : List ℕ → Blocker
-blockerOf w = record { kind = kind_of (get_or w 0 0); range = rangeAt w 1; noted = map flagOf (drop 3 w) }
+unfoldable pub blocker_of : List ℕ → Blocker
+blocker_of w = record { kind = kind_of (get_or w 0 0); range = range_at w 1; noted = map flag_of (drop 3 w) }
 
-abbrev pub blockerWords : Blocker → List ℕ
-blockerWords b = kindTag b.kind ∷ rangeWords b.range ++ map flagWord b.noted
+abbrev pub blocker_words : Blocker → List ℕ
+blocker_words b = kind_tag b.kind ∷ range_words b.range ++ map flag_word b.noted
 
 -- ---- the dock: 9 words of settings; for the 8 slots 88 of blockers, 144 of states, 272 of vectors
 
-abbrev pub blockersOf : List ℕ → Blockers
-blockersOf w = record { slots = rows blockerOf 11 8 w }
+abbrev pub blockers_of : List ℕ → Blockers
+blockers_of w = record { slots = rows blocker_of 11 8 w }
 
-abbrev pub statesOf : List ℕ → List State
-statesOf w = rows stateFrom 18 8 w
+abbrev pub states_of : List ℕ → List State
+states_of w = rows state_from 18 8 w
 
 abbrev pub vectors_of : List ℕ → List IoVector
-vectors_of w = rows vectorFrom 34 8 w
+vectors_of w = rows vector_from 34 8 w
 
 -- the four arrays have the words of a dock: settings, blockers, states, vectors
 abbrev pub DockWords : List ℕ → List ℕ → List ℕ → List ℕ → Type 0
@@ -177,6 +177,6 @@ SlotWords b x v p P = (length b ≡ 88) × (length x ≡ 144) × (length v ≡ 2
 abbrev pub RowWords : List ℕ → List ℕ → ℕ → Type 0 → Type 0
 RowWords x v p P = (length x ≡ 144) × (length v ≡ 272) × (p < 8) × P
 
-abbrev pub dockOf : List ℕ → List ℕ → List ℕ → List ℕ → Dock
-dockOf s b x v =
-    record { settings = settingsOf s; buffers = buffersOf s; blockers = blockersOf b; states = statesOf x; vectors = vectors_of v }
+abbrev pub dock_of : List ℕ → List ℕ → List ℕ → List ℕ → Dock
+dock_of s b x v =
+    record { settings = settings_of s; buffers = buffers_of s; blockers = blockers_of b; states = states_of x; vectors = vectors_of v }

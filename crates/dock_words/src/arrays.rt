@@ -1,14 +1,14 @@
 // The calls on a dock in words, which a host holds as four arrays. For any words.
 ghost use Rattle.std.specs.Prelude.{◌≡◌};
-ghost use Rattle.blockers.specs.Blockers.{entered_of, left_of, waitsOf};
-ghost use Rattle.dock.specs.Dock.{openOf, openBy};
-ghost use Rattle.dock.specs.Begin.{beginOf};
+ghost use Rattle.blockers.specs.Blockers.{entered_of, left_of, waits_of};
+ghost use Rattle.dock.specs.Dock.{open_of, open_by};
+ghost use Rattle.dock.specs.Begin.{begin_of};
 ghost use Rattle.dock.specs.Next.{next_of, piece_of};
-ghost use Rattle.dock.specs.Tell.{tellOf, collectOf, CollectGives};
-ghost use Rattle.dock_words.specs.View.{settingsOf, blockersOf, dockOf};
-ghost use Rattle.vectors.specs.Words.{vectorFrom, vectorWords};
-ghost use Rattle.arithmetic.specs.Refusals.{isDone};
-ghost use Rattle.dock_words.specs.CallWords.{isAdmitted, isFinal, sameTwo, sameThree, opensOver, beginsIn, tellsIn, ChangesBlockers};
+ghost use Rattle.dock.specs.Tell.{tell_of, collect_of, CollectGives};
+ghost use Rattle.dock_words.specs.View.{settings_of, blockers_of, dock_of};
+ghost use Rattle.vectors.specs.Words.{vector_from, vector_words};
+ghost use Rattle.arithmetic.specs.Refusals.{is_done};
+ghost use Rattle.dock_words.specs.CallWords.{is_admitted, is_final, same_two, same_three, opens_over, begins_in, tells_in, ChangesBlockers};
 
 use crate::setting_words::get_settings;
 use crate::vector_words::{get_vector, put_vector};
@@ -23,14 +23,14 @@ use vectors::vector::IoVector;
 
 // The settings that the dock was opened with.
 pub fn settings_of(settings: &[u64; 9]) -> Settings
-    ensures { result ≡ settingsOf settings.now }
+    ensures { result ≡ settings_of settings.now }
 {
     get_settings(settings)
 }
 
 // The vector in 34 words. A begin refuses what is none over its data.
 pub fn vector_of(vector: &[u64; 34]) -> IoVector
-    ensures { result ≡ vectorFrom vector.now }
+    ensures { result ≡ vector_from vector.now }
 {
     get_vector(vector)
 }
@@ -44,7 +44,7 @@ pub fn open(
     s: Settings,
     b: Buffers,
 ) -> Outcome
-    ensures { (result ≡ (openOf s b).outcome) × opensOver (openOf s b)
+    ensures { (result ≡ (open_of s b).outcome) × opens_over (open_of s b)
         settings.old blockers.old states.old vectors.old
         settings.new blockers.new states.new vectors.new }
 {
@@ -61,7 +61,7 @@ pub fn open_by(
     bounce: u64,
     b: Buffers,
 ) -> Outcome
-    ensures { (result ≡ (openBy profile bounce b).outcome) × opensOver (openBy profile bounce b)
+    ensures { (result ≡ (open_by profile bounce b).outcome) × opens_over (open_by profile bounce b)
         settings.old blockers.old states.old vectors.old
         settings.new blockers.new states.new vectors.new }
 {
@@ -78,11 +78,11 @@ pub fn begin(
     data: &[u8],
     scratch: &mut [u8],
 ) -> Begun
-    ensures dock { beginsIn result settings.now blockers.new states.new vectors.new
+    ensures dock { begins_in result settings.now blockers.new states.new vectors.new
         scratch.new
-        ≡ beginOf (dockOf settings.now blockers.old states.old vectors.old)
+        ≡ begin_of (dock_of settings.now blockers.old states.old vectors.old)
         asked «data».now scratch.old }
-    ensures words { sameThree (isAdmitted result) blockers.old states.old vectors.old
+    ensures words { same_three (is_admitted result) blockers.old states.old vectors.old
         blockers.new states.new vectors.new }
 {
     crate::calls::begin(settings, blockers, states, vectors, asked, data, scratch)
@@ -98,7 +98,7 @@ pub fn next(
     data_len: usize,
     scratch_len: usize,
 ) -> Due
-    ensures { result ≡ next_of (dockOf settings.now blockers.now states.now vectors.now) slot
+    ensures { result ≡ next_of (dock_of settings.now blockers.now states.now vectors.now) slot
         data_len scratch_len }
 {
     crate::calls::next(
@@ -123,7 +123,7 @@ pub fn piece(
     data_len: usize,
     scratch_len: usize,
 ) -> Piece
-    ensures { result ≡ piece_of (dockOf settings.now blockers.now states.now vectors.now) slot
+    ensures { result ≡ piece_of (dock_of settings.now blockers.now states.now vectors.now) slot
         i data_len scratch_len }
 {
     crate::calls::piece(
@@ -149,11 +149,11 @@ pub fn tell(
     data: &mut [u8],
     scratch: &mut [u8],
 ) -> Outcome
-    ensures dock { tellsIn result settings.now blockers.new states.new vectors.now
+    ensures dock { tells_in result settings.now blockers.new states.new vectors.now
         «data».new scratch.new
-        ≡ tellOf (dockOf settings.now blockers.old states.old vectors.now)
+        ≡ tell_of (dock_of settings.now blockers.old states.old vectors.now)
         slot code «data».old scratch.old }
-    ensures words { sameTwo (isDone result) blockers.old states.old blockers.new states.new }
+    ensures words { same_two (is_done result) blockers.old states.old blockers.new states.new }
 {
     crate::calls::tell(
         settings, blockers, states, vectors, slot, code, data, scratch,
@@ -170,10 +170,10 @@ pub fn collect(
     data_len: usize,
     scratch_len: usize,
 ) -> Collected
-    ensures dock { CollectGives (collectOf
-        (dockOf settings.now blockers.now states.old vectors.old) slot data_len scratch_len)
-        result (dockOf settings.now blockers.now states.new vectors.new) }
-    ensures words { sameTwo (isFinal result) states.old vectors.old states.new vectors.new }
+    ensures dock { CollectGives (collect_of
+        (dock_of settings.now blockers.now states.old vectors.old) slot data_len scratch_len)
+        result (dock_of settings.now blockers.now states.new vectors.new) }
+    ensures words { same_two (is_final result) states.old vectors.old states.new vectors.new }
 {
     crate::calls::collect(
         settings,
@@ -188,14 +188,14 @@ pub fn collect(
 
 // Write a vector over 34 words.
 pub fn put_vector_of(vector: &mut [u64; 34], v: IoVector)
-    ensures { vector.new ≡ vectorWords v }
+    ensures { vector.new ≡ vector_words v }
 {
     put_vector(vector, v);
 }
 
 // Enter a blocker of this kind. Refused (208) past slot 7 and where one is entered.
 pub fn enter(blockers: &mut [u64; 88], kind: Kind, slot: usize, range: Range) -> Outcome
-    ensures { ChangesBlockers (entered_of kind slot range (blockersOf blockers.old)) result
+    ensures { ChangesBlockers (entered_of kind slot range (blockers_of blockers.old)) result
         blockers.old blockers.new }
 {
     crate::blocker_words::enter(blockers, kind, slot, range)
@@ -203,7 +203,7 @@ pub fn enter(blockers: &mut [u64; 88], kind: Kind, slot: usize, range: Range) ->
 
 // The slot's blocker is gone, and nobody notes it any more. Refused (208) past slot 7 and where none is entered.
 pub fn leave(blockers: &mut [u64; 88], slot: usize) -> Outcome
-    ensures { ChangesBlockers (left_of slot (blockersOf blockers.old)) result
+    ensures { ChangesBlockers (left_of slot (blockers_of blockers.old)) result
         blockers.old blockers.new }
 {
     crate::blocker_words::leave(blockers, slot)
@@ -211,7 +211,7 @@ pub fn leave(blockers: &mut [u64; 88], slot: usize) -> Outcome
 
 // Whether the slot's blocker waits: one that it noted is still there. Past slot 7 none waits.
 pub fn waits(blockers: &[u64; 88], slot: usize) -> bool
-    ensures { result ≡ waitsOf slot (blockersOf blockers.now) }
+    ensures { result ≡ waits_of slot (blockers_of blockers.now) }
 {
     crate::blocker_words::waits(blockers, slot)
 }

@@ -1,12 +1,12 @@
 // What a begin does to the words: whether its vector meets another, and the job that comes to its slot.
 ghost use Rattle.std.specs.Prelude.{◌≡◌, true, ◌<◌, length};
 ghost use Rattle.stages.specs.declared.plan.Plan.TheVariants.{Started};
-ghost use Rattle.dock.specs.Dock.{meetsAt, overlapsOf};
-ghost use Rattle.dock.specs.Next.{isSoundAt};
+ghost use Rattle.dock.specs.Dock.{meets_at, overlaps_of};
+ghost use Rattle.dock.specs.Next.{is_sound_at};
 ghost use Rattle.dock.specs.Slots.{PlanSound};
-ghost use Rattle.dock.specs.Begin.{admitAt};
-ghost use Rattle.dock_words.specs.View.{blockersOf, statesOf, vectors_of, SlotsWords, SlotWords};
-ghost use Rattle.dock_words.specs.CallWords.{isAdmitted, sameThree, StoresJob};
+ghost use Rattle.dock.specs.Begin.{admit_at};
+ghost use Rattle.dock_words.specs.View.{blockers_of, states_of, vectors_of, SlotsWords, SlotWords};
+ghost use Rattle.dock_words.specs.CallWords.{is_admitted, same_three, StoresJob};
 
 use crate::blocker_steps::{enter_blocker, may_enter};
 use crate::state_words::{phase_at, put_state_at, state_at};
@@ -23,7 +23,7 @@ use vectors::vector::IoVector;
 // Whether a job's vector meets that of slot i, of which one reads. A free slot's words are not read.
 fn meets_at(states: &[u64], vectors: &[u64], i: usize, job: Job, v: IoVector) -> bool
     requires { (length states.now ≡ 144) × (length vectors.now ≡ 272) × (i < 8) }
-    ensures { result ≡ meetsAt (statesOf states.now) (vectors_of vectors.now) job v i }
+    ensures { result ≡ meets_at (states_of states.now) (vectors_of vectors.now) job v i }
 {
     let phase = phase_at(states, i);
     if is_free(phase) {
@@ -37,7 +37,7 @@ fn meets_at(states: &[u64], vectors: &[u64], i: usize, job: Job, v: IoVector) ->
 // Whether the vector meets itself or another where one reads.
 pub(crate) fn overlaps(states: &[u64], vectors: &[u64], job: Job, v: IoVector) -> bool
     requires { (length states.now ≡ 144) × (length vectors.now ≡ 272) }
-    ensures { result ≡ overlapsOf (statesOf states.now) (vectors_of vectors.now) job v }
+    ensures { result ≡ overlaps_of (states_of states.now) (vectors_of vectors.now) job v }
 {
     let mut met = meets_itself(job, v);
     let mut i: usize = 0;
@@ -62,12 +62,12 @@ fn admit_started(
     scratch: &mut [u8],
 ) -> Begun
     requires { SlotWords blockers.old states.old vectors.old slot
-        (isSoundAt slot x settings buffers (length scratch.old) ≡ true) }
-    ensures dock { StoresJob (admitAt (blockersOf blockers.old) slot settings.bounce v
+        (is_sound_at slot x settings buffers (length scratch.old) ≡ true) }
+    ensures dock { StoresJob (admit_at (blockers_of blockers.old) slot settings.bounce v
         «data».now scratch.old (Started x)) v
         blockers.old states.old vectors.old
         result blockers.new states.new vectors.new scratch.new }
-    ensures words { sameThree (isAdmitted result) blockers.old states.old vectors.old
+    ensures words { same_three (is_admitted result) blockers.old states.old vectors.old
         blockers.new states.new vectors.new }
 {
     if !may_enter(blockers, slot, x) {
@@ -98,11 +98,11 @@ pub(crate) fn admit(
 ) -> Begun
     requires { SlotsWords blockers.old states.old vectors.old
         (PlanSound slot settings buffers (length scratch.old) plan) }
-    ensures dock { StoresJob (admitAt (blockersOf blockers.old) slot settings.bounce v
+    ensures dock { StoresJob (admit_at (blockers_of blockers.old) slot settings.bounce v
         «data».now scratch.old plan) v
         blockers.old states.old vectors.old
         result blockers.new states.new vectors.new scratch.new }
-    ensures words { sameThree (isAdmitted result) blockers.old states.old vectors.old
+    ensures words { same_three (is_admitted result) blockers.old states.old vectors.old
         blockers.new states.new vectors.new }
 {
     match plan {

@@ -1,9 +1,9 @@
 // The blocker of one job: whether it can leave or enter, and both in place.
 ghost use Rattle.std.specs.Prelude.{◌≡◌, length};
-ghost use Rattle.dock.specs.Begin.{blockersWith};
-ghost use Rattle.dock.specs.Tell.{blockersWithout};
-ghost use Rattle.dock_words.specs.View.{blockersOf};
-ghost use Rattle.arithmetic.specs.Refusals.{isDone};
+ghost use Rattle.dock.specs.Begin.{blockers_with};
+ghost use Rattle.dock.specs.Tell.{blockers_without};
+ghost use Rattle.dock_words.specs.View.{blockers_of};
+ghost use Rattle.arithmetic.specs.Refusals.{is_done};
 ghost use Rattle.blockers.specs.Blockers.{strength};
 ghost use Rattle.dock_words.specs.CallWords.{changes, ChangesBlockers};
 
@@ -16,7 +16,7 @@ use stages::state::{State, is_blocking};
 // Whether the blocker of the job x can leave: it is entered, or the job has none.
 pub(crate) fn may_leave(blockers: &[u64], slot: usize, x: State) -> bool
     requires { length blockers.now ≡ 88 }
-    ensures { result ≡ isDone (blockersWithout (blockersOf blockers.now) slot x).outcome }
+    ensures { result ≡ is_done (blockers_without (blockers_of blockers.now) slot x).outcome }
 {
     let phase = x.phase;
     if !is_blocking(phase) {
@@ -28,7 +28,7 @@ pub(crate) fn may_leave(blockers: &[u64], slot: usize, x: State) -> bool
 // Whether the blocker of the job x can enter: none is entered, or the job has none.
 pub(crate) fn may_enter(blockers: &[u64], slot: usize, x: State) -> bool
     requires { length blockers.now ≡ 88 }
-    ensures { result ≡ isDone (blockersWith (blockersOf blockers.now) slot x).outcome }
+    ensures { result ≡ is_done (blockers_with (blockers_of blockers.now) slot x).outcome }
 {
     let phase = x.phase;
     if !is_blocking(phase) {
@@ -43,7 +43,7 @@ pub(crate) fn may_enter(blockers: &[u64], slot: usize, x: State) -> bool
 // It leaves.
 pub(crate) fn leave_blocker(blockers: &mut [u64], slot: usize, x: State) -> Outcome
     requires { length blockers.old ≡ 88 }
-    ensures { ChangesBlockers (blockersWithout (blockersOf blockers.old) slot x) result
+    ensures { ChangesBlockers (blockers_without (blockers_of blockers.old) slot x) result
         blockers.old blockers.new }
 {
     let phase = x.phase;
@@ -56,7 +56,7 @@ pub(crate) fn leave_blocker(blockers: &mut [u64], slot: usize, x: State) -> Outc
 // It enters.
 pub(crate) fn enter_blocker(blockers: &mut [u64], slot: usize, x: State) -> Outcome
     requires { length blockers.old ≡ 88 }
-    ensures { ChangesBlockers (blockersWith (blockersOf blockers.old) slot x) result
+    ensures { ChangesBlockers (blockers_with (blockers_of blockers.old) slot x) result
         blockers.old blockers.new }
 {
     let phase = x.phase;
@@ -71,7 +71,7 @@ pub(crate) fn enter_blocker(blockers: &mut [u64], slot: usize, x: State) -> Outc
 // Whether the blocker of the job can leave for its stage x, and enter for its stage y.
 pub(crate) fn may_change(blockers: &[u64], slot: usize, x: State, y: State) -> bool
     requires { length blockers.now ≡ 88 }
-    ensures { result ≡ isDone (changes (blockersOf blockers.now) slot x y) }
+    ensures { result ≡ is_done (changes (blockers_of blockers.now) slot x y) }
 {
     let phase = x.phase;
     if is_blocking(phase) {
@@ -83,8 +83,8 @@ pub(crate) fn may_change(blockers: &[u64], slot: usize, x: State, y: State) -> b
 // It leaves, then enters.
 pub(crate) fn change_blocker(blockers: &mut [u64], slot: usize, x: State, y: State)
     requires { length blockers.old ≡ 88 }
-    ensures { blockersOf blockers.new ≡ (blockersWith
-        (blockersWithout (blockersOf blockers.old) slot x).blockers slot y).blockers }
+    ensures { blockers_of blockers.new ≡ (blockers_with
+        (blockers_without (blockers_of blockers.old) slot x).blockers slot y).blockers }
 {
     let left = leave_blocker(blockers, slot, x);
     let entered = enter_blocker(blockers, slot, y);

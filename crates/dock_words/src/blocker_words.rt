@@ -1,7 +1,7 @@
 // The blockers of the 8 slots, worked on in place in 88 words: of each slot a row of 11, the kind's tag, start, end and 8 notes.
 ghost use Rattle.std.specs.Prelude.{◌≡◌, ◌&&◌, map, ltb, ◌<◌, length};
-ghost use Rattle.blockers.specs.Blockers.{present, notes, notesOf, forgetting, entered_of, left_of, waitsOf, blockerAt, isEntered};
-ghost use Rattle.dock_words.specs.View.{kind_of, blockerOf, blockerWords, blockersOf};
+ghost use Rattle.blockers.specs.Blockers.{present, notes, notes_of, forgetting, entered_of, left_of, waits_of, blocker_at, is_entered};
+ghost use Rattle.dock_words.specs.View.{kind_of, blocker_of, blocker_words, blockers_of};
 ghost use Rattle.dock_words.specs.CallWords.{ChangesBlockers};
 
 use crate::state_words::{get_range, put_range};
@@ -24,7 +24,7 @@ fn is_entered(tag: u64) -> bool
 // Whether a blocker of this kind over `range` that enters now must wait for the one in this row.
 fn is_noted(row: &[u64], kind: Kind, range: Range) -> bool
     requires { length row.now ≡ 11 }
-    ensures { result ≡ notes kind range (blockerOf row.now) }
+    ensures { result ≡ notes kind range (blocker_of row.now) }
 {
     let there = kind_of(row[0]);
     let own = get_range(row, 1);
@@ -34,7 +34,7 @@ fn is_noted(row: &[u64], kind: Kind, range: Range) -> bool
 // Which slots' blockers one of this kind over `range` must wait for.
 fn notes(all: &[u64], kind: Kind, range: Range) -> [bool; 8]
     requires { length all.now ≡ 88 }
-    ensures { result ≡ notesOf kind range (blockersOf all.now) }
+    ensures { result ≡ notes_of kind range (blockers_of all.now) }
 {
     let mut noted = [false; 8];
     let mut i: usize = 0;
@@ -51,7 +51,7 @@ fn notes(all: &[u64], kind: Kind, range: Range) -> [bool; 8]
 // Write a blocker over a whole row.
 fn put_blocker(row: &mut [u64], b: Blocker)
     requires { length row.old ≡ 11 }
-    ensures { row.new ≡ blockerWords b }
+    ensures { row.new ≡ blocker_words b }
 {
     let kind = b.kind;
     let range = b.range;
@@ -68,7 +68,7 @@ fn put_blocker(row: &mut [u64], b: Blocker)
 // Whether the slot has a blocker entered. Past slot 7 none is.
 pub(crate) fn is_entered_at(all: &[u64], slot: usize) -> bool
     requires { length all.now ≡ 88 }
-    ensures { result ≡ (ltb slot 8 && isEntered (blockerAt (blockersOf all.now) slot)) }
+    ensures { result ≡ (ltb slot 8 && is_entered (blocker_at (blockers_of all.now) slot)) }
 {
     if SLOTS <= slot {
         return false;
@@ -79,7 +79,7 @@ pub(crate) fn is_entered_at(all: &[u64], slot: usize) -> bool
 // Whether the slot's blocker waits: one that it noted is still there. Past slot 7 none waits.
 pub(crate) fn waits(all: &[u64], slot: usize) -> bool
     requires { length all.now ≡ 88 }
-    ensures { result ≡ waitsOf slot (blockersOf all.now) }
+    ensures { result ≡ waits_of slot (blockers_of all.now) }
 {
     if SLOTS <= slot {
         return false;
@@ -99,7 +99,7 @@ pub(crate) fn waits(all: &[u64], slot: usize) -> bool
 // Enter a blocker of this kind. Refused (208) past slot 7 and where one is entered.
 pub(crate) fn enter(all: &mut [u64], kind: Kind, slot: usize, range: Range) -> Outcome
     requires { length all.old ≡ 88 }
-    ensures { ChangesBlockers (entered_of kind slot range (blockersOf all.old)) result all.old all.new }
+    ensures { ChangesBlockers (entered_of kind slot range (blockers_of all.old)) result all.old all.new }
 {
     if SLOTS <= slot {
         return Outcome::Refused(Refusal::Slot);
@@ -117,7 +117,7 @@ pub(crate) fn enter(all: &mut [u64], kind: Kind, slot: usize, range: Range) -> O
 // The words of the blockers, none of which notes `slot`.
 fn forget(all: &mut [u64], slot: usize)
     requires { (length all.old ≡ 88) × (slot < 8) }
-    ensures { (blockersOf all.new).slots ≡ map (forgetting slot) (blockersOf all.old).slots }
+    ensures { (blockers_of all.new).slots ≡ map (forgetting slot) (blockers_of all.old).slots }
 {
     let mut i: usize = 0;
     while i < SLOTS {
@@ -129,7 +129,7 @@ fn forget(all: &mut [u64], slot: usize)
 // The slot's blocker is gone, and nobody notes it any more. Refused (208) past slot 7 and where none is entered.
 pub(crate) fn leave(all: &mut [u64], slot: usize) -> Outcome
     requires { length all.old ≡ 88 }
-    ensures { ChangesBlockers (left_of slot (blockersOf all.old)) result all.old all.new }
+    ensures { ChangesBlockers (left_of slot (blockers_of all.old)) result all.old all.new }
 {
     if SLOTS <= slot {
         return Outcome::Refused(Refusal::Slot);

@@ -1,12 +1,12 @@
 // The calls on a dock in words. The arrays have the lengths that the boundary declares for them.
 ghost use Rattle.std.specs.Prelude.{◌≡◌};
-ghost use Rattle.dock.specs.Dock.{fresh, openOf, openBy};
-ghost use Rattle.dock.specs.Begin.{beginOf};
+ghost use Rattle.dock.specs.Dock.{fresh, open_of, open_by};
+ghost use Rattle.dock.specs.Begin.{begin_of};
 ghost use Rattle.dock.specs.Next.{next_of, piece_of};
-ghost use Rattle.dock.specs.Tell.{tellOf, collectOf, CollectGives};
-ghost use Rattle.dock_words.specs.View.{dockOf, DockWords};
-ghost use Rattle.arithmetic.specs.Refusals.{isDone};
-ghost use Rattle.dock_words.specs.CallWords.{isAdmitted, isFinal, sameTwo, sameThree, opensOver, beginsIn, tellsIn};
+ghost use Rattle.dock.specs.Tell.{tell_of, collect_of, CollectGives};
+ghost use Rattle.dock_words.specs.View.{dock_of, DockWords};
+ghost use Rattle.arithmetic.specs.Refusals.{is_done};
+ghost use Rattle.dock_words.specs.CallWords.{is_admitted, is_final, same_two, same_three, opens_over, begins_in, tells_in};
 
 use crate::begun_words::{admit, overlaps};
 use crate::blocker_words::waits;
@@ -35,7 +35,7 @@ fn set_fresh(
     b: Buffers,
 )
     requires { DockWords settings.old blockers.old states.old vectors.old }
-    ensures { dockOf settings.new blockers.new states.new vectors.new ≡ fresh s b }
+    ensures { dock_of settings.new blockers.new states.new vectors.new ≡ fresh s b }
 {
     put_settings(settings, s, b);
     clear(blockers);
@@ -53,7 +53,7 @@ pub(crate) fn open(
     b: Buffers,
 ) -> Outcome
     requires { DockWords settings.old blockers.old states.old vectors.old }
-    ensures { (result ≡ (openOf s b).outcome) × opensOver (openOf s b)
+    ensures { (result ≡ (open_of s b).outcome) × opens_over (open_of s b)
         settings.old blockers.old states.old vectors.old
         settings.new blockers.new states.new vectors.new }
 {
@@ -76,7 +76,7 @@ pub(crate) fn open_by(
     b: Buffers,
 ) -> Outcome
     requires { DockWords settings.old blockers.old states.old vectors.old }
-    ensures { (result ≡ (openBy profile bounce b).outcome) × opensOver (openBy profile bounce b)
+    ensures { (result ≡ (open_by profile bounce b).outcome) × opens_over (open_by profile bounce b)
         settings.old blockers.old states.old vectors.old
         settings.new blockers.new states.new vectors.new }
 {
@@ -100,11 +100,11 @@ pub(crate) fn begin(
     scratch: &mut [u8],
 ) -> Begun
     requires { DockWords settings.now blockers.old states.old vectors.old }
-    ensures dock { beginsIn result settings.now blockers.new states.new vectors.new
+    ensures dock { begins_in result settings.now blockers.new states.new vectors.new
         scratch.new
-        ≡ beginOf (dockOf settings.now blockers.old states.old vectors.old)
+        ≡ begin_of (dock_of settings.now blockers.old states.old vectors.old)
         asked «data».now scratch.old }
-    ensures words { sameThree (isAdmitted result) blockers.old states.old vectors.old
+    ensures words { same_three (is_admitted result) blockers.old states.old vectors.old
         blockers.new states.new vectors.new }
 {
     let s = get_settings(settings);
@@ -132,7 +132,7 @@ pub(crate) fn next(
     scratch_len: usize,
 ) -> Due
     requires { DockWords settings.now blockers.now states.now vectors.now }
-    ensures { result ≡ next_of (dockOf settings.now blockers.now states.now vectors.now) slot
+    ensures { result ≡ next_of (dock_of settings.now blockers.now states.now vectors.now) slot
         data_len scratch_len }
 {
     let lent = get_buffers(settings);
@@ -160,7 +160,7 @@ pub(crate) fn piece(
     scratch_len: usize,
 ) -> Piece
     requires { DockWords settings.now blockers.now states.now vectors.now }
-    ensures { result ≡ piece_of (dockOf settings.now blockers.now states.now vectors.now) slot
+    ensures { result ≡ piece_of (dock_of settings.now blockers.now states.now vectors.now) slot
         i data_len scratch_len }
 {
     let lent = get_buffers(settings);
@@ -191,11 +191,11 @@ pub(crate) fn tell(
     scratch: &mut [u8],
 ) -> Outcome
     requires { DockWords settings.now blockers.old states.old vectors.now }
-    ensures dock { tellsIn result settings.now blockers.new states.new vectors.now
+    ensures dock { tells_in result settings.now blockers.new states.new vectors.now
         «data».new scratch.new
-        ≡ tellOf (dockOf settings.now blockers.old states.old vectors.now)
+        ≡ tell_of (dock_of settings.now blockers.old states.old vectors.now)
         slot code «data».old scratch.old }
-    ensures words { sameTwo (isDone result) blockers.old states.old blockers.new states.new }
+    ensures words { same_two (is_done result) blockers.old states.old blockers.new states.new }
 {
     let b = get_buffers(settings);
     if !lent_fits(b, data.len(), scratch.len()) {
@@ -222,10 +222,10 @@ pub(crate) fn collect(
     scratch_len: usize,
 ) -> Collected
     requires { DockWords settings.now blockers.now states.old vectors.old }
-    ensures dock { CollectGives (collectOf
-        (dockOf settings.now blockers.now states.old vectors.old) slot data_len scratch_len)
-        result (dockOf settings.now blockers.now states.new vectors.new) }
-    ensures words { sameTwo (isFinal result) states.old vectors.old states.new vectors.new }
+    ensures dock { CollectGives (collect_of
+        (dock_of settings.now blockers.now states.old vectors.old) slot data_len scratch_len)
+        result (dock_of settings.now blockers.now states.new vectors.new) }
+    ensures words { same_two (is_final result) states.old vectors.old states.new vectors.new }
 {
     let lent = get_buffers(settings);
     if !lent_fits(lent, data_len, scratch_len) {

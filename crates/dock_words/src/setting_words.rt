@@ -1,13 +1,13 @@
 // Settings and the buffers of opening, in one array of 9 words.
 ghost use Rattle.std.specs.Prelude.{◌≡◌, length};
-ghost use Rattle.dock_words.specs.View.{settingsOf, buffersOf, settingsWords};
+ghost use Rattle.dock_words.specs.View.{settings_of, buffers_of, settings_words};
 
 use arithmetic::settings::{Alignments, Buffers, Lent, Settings};
 
 // The settings in the first 5 words.
 pub(crate) fn get_settings(words: &[u64]) -> Settings
     requires { length words.now ≡ 9 }
-    ensures { result ≡ settingsOf words.now }
+    ensures { result ≡ settings_of words.now }
 {
     Settings {
         align: Alignments {
@@ -23,7 +23,7 @@ pub(crate) fn get_settings(words: &[u64]) -> Settings
 // The buffers of opening in the other 4.
 pub(crate) fn get_buffers(words: &[u64]) -> Buffers
     requires { length words.now ≡ 9 }
-    ensures { result ≡ buffersOf words.now }
+    ensures { result ≡ buffers_of words.now }
 {
     Buffers {
         data: Lent {
@@ -40,7 +40,7 @@ pub(crate) fn get_buffers(words: &[u64]) -> Buffers
 // Write both, over the whole array.
 pub(crate) fn put_settings(words: &mut [u64], s: Settings, b: Buffers)
     requires { length words.old ≡ 9 }
-    ensures { words.new ≡ settingsWords s b }
+    ensures { words.new ≡ settings_words s b }
 {
     let align = s.align;
     let data = b.data;

@@ -1,8 +1,8 @@
 // A state's row of 18 words, and the lowest free slot among 8 such rows.
 ghost use Rattle.std.specs.Prelude.{◌≡◌, ◌+◌, ◌<◌, length, get_or, set};
 ghost use Rattle.std.proofs.lemmas.List.Edits.{sets};
-ghost use Rattle.dock.specs.Dock.{noState, firstFree};
-ghost use Rattle.dock_words.specs.View.{rangeAt, rangeWords, stageOf, stageWords, stateFrom, stateWords, statesOf};
+ghost use Rattle.dock.specs.Dock.{no_state, first_free};
+ghost use Rattle.dock_words.specs.View.{range_at, range_words, stage_of, stage_words, state_from, state_words, states_of};
 
 use crate::tags::{
     byte_of, byte_word, course_of, course_tag, flag_word, job_of, job_tag, phase_of, phase_tag,
@@ -18,7 +18,7 @@ const STATE_WORDS: usize = 18;
 // The range in words i and i + 1 of a row.
 pub(crate) fn get_range(row: &[u64], i: usize) -> Range
     requires { i + 1 < length row.now }
-    ensures { result ≡ rangeAt row.now i }
+    ensures { result ≡ range_at row.now i }
 {
     Range {
         start: StoreOffset(row[i]),
@@ -29,7 +29,7 @@ pub(crate) fn get_range(row: &[u64], i: usize) -> Range
 // Write a range there.
 pub(crate) fn put_range(row: &mut [u64], i: usize, r: Range)
     requires { i + 1 < length row.old }
-    ensures { row.new ≡ sets row.old i (rangeWords r) }
+    ensures { row.new ≡ sets row.old i (range_words r) }
 {
     let start = r.start;
     let end = r.end;
@@ -40,7 +40,7 @@ pub(crate) fn put_range(row: &mut [u64], i: usize, r: Range)
 // The stage in a state's row: its words from 8 on.
 fn get_stage(row: &[u64]) -> Stage
     requires { length row.now ≡ 18 }
-    ensures { result ≡ stageOf row.now }
+    ensures { result ≡ stage_of row.now }
 {
     let asked = get_range(row, 8);
     let request = get_range(row, 10);
@@ -59,7 +59,7 @@ fn get_stage(row: &[u64]) -> Stage
 // Write a stage there.
 fn put_stage(row: &mut [u64], g: Stage)
     requires { length row.old ≡ 18 }
-    ensures { row.new ≡ sets row.old 8 (stageWords g) }
+    ensures { row.new ≡ sets row.old 8 (stage_words g) }
 {
     let head = g.head;
     put_range(row, 8, g.asked);
@@ -73,7 +73,7 @@ fn put_stage(row: &mut [u64], g: Stage)
 // The state in a row.
 fn get_state(row: &[u64]) -> State
     requires { length row.now ≡ 18 }
-    ensures { result ≡ stateFrom row.now }
+    ensures { result ≡ state_from row.now }
 {
     let phase = phase_of(row[0]);
     let answer = byte_of(row[1]);
@@ -96,7 +96,7 @@ fn get_state(row: &[u64]) -> State
 // Write a state over a whole row.
 fn put_state(row: &mut [u64], x: State)
     requires { length row.old ≡ 18 }
-    ensures { row.new ≡ stateWords x }
+    ensures { row.new ≡ state_words x }
 {
     let phase = x.phase;
     let job = x.job;
@@ -113,7 +113,7 @@ fn put_state(row: &mut [u64], x: State)
 // The state of a slot.
 pub(crate) fn state_at(states: &[u64], slot: usize) -> State
     requires { (length states.now ≡ 144) × (slot < 8) }
-    ensures { result ≡ get_or (statesOf states.now) slot noState }
+    ensures { result ≡ get_or (states_of states.now) slot no_state }
 {
     let a = slot * STATE_WORDS;
     let e = a + STATE_WORDS;
@@ -123,7 +123,7 @@ pub(crate) fn state_at(states: &[u64], slot: usize) -> State
 // Its phase alone.
 pub(crate) fn phase_at(states: &[u64], slot: usize) -> Phase
     requires { (length states.now ≡ 144) × (slot < 8) }
-    ensures { result ≡ (get_or (statesOf states.now) slot noState).phase }
+    ensures { result ≡ (get_or (states_of states.now) slot no_state).phase }
 {
     phase_of(states[slot * STATE_WORDS])
 }
@@ -131,7 +131,7 @@ pub(crate) fn phase_at(states: &[u64], slot: usize) -> Phase
 // Make x the state of a slot. The others stay.
 pub(crate) fn put_state_at(states: &mut [u64], slot: usize, x: State)
     requires { (length states.old ≡ 144) × (slot < 8) }
-    ensures { statesOf states.new ≡ set (statesOf states.old) slot x }
+    ensures { states_of states.new ≡ set (states_of states.old) slot x }
 {
     let a = slot * STATE_WORDS;
     let e = a + STATE_WORDS;
@@ -141,7 +141,7 @@ pub(crate) fn put_state_at(states: &mut [u64], slot: usize, x: State)
 // The lowest free slot; 8 where there is none. Of each row it reads the phase's word alone.
 pub(crate) fn first_free(states: &[u64]) -> usize
     requires { length states.now ≡ 144 }
-    ensures { result ≡ firstFree (statesOf states.now) }
+    ensures { result ≡ first_free (states_of states.now) }
 {
     let mut i: usize = 0;
     while i < SLOTS {

@@ -1,12 +1,12 @@
 // One word, and what it stands for. Any word stands for something: a tag that is none for the first variant.
 ghost use Rattle.std.specs.Prelude.{◌≡◌, ◌%◌, length, replicate};
-ghost use Rattle.dock_words.specs.View.{flagWord, phaseOf, phaseTag, job_of, jobTag, courseOf, courseTag, kind_of, kindTag};
+ghost use Rattle.dock_words.specs.View.{flag_word, phase_of, phase_tag, job_of, job_tag, course_of, course_tag, kind_of, kind_tag};
 
 use blockers::Kind;
 use stages::state::{Course, Job, Phase};
 
 pub(crate) fn flag_word(b: bool) -> u64
-    ensures { result ≡ flagWord b }
+    ensures { result ≡ flag_word b }
 {
     if b { 1 } else { 0 }
 }
@@ -36,7 +36,7 @@ pub(crate) fn size_of(x: u64) -> usize
 }
 
 pub(crate) fn phase_of(tag: u64) -> Phase
-    ensures { result ≡ phaseOf tag }
+    ensures { result ≡ phase_of tag }
 {
     match tag {
         1 => Phase::Ended,
@@ -53,7 +53,7 @@ pub(crate) fn phase_of(tag: u64) -> Phase
 }
 
 pub(crate) fn phase_tag(p: Phase) -> u64
-    ensures { result ≡ phaseTag p }
+    ensures { result ≡ phase_tag p }
 {
     match p {
         Phase::Free => 0,
@@ -82,7 +82,7 @@ pub(crate) fn job_of(tag: u64) -> Job
 }
 
 pub(crate) fn job_tag(j: Job) -> u64
-    ensures { result ≡ jobTag j }
+    ensures { result ≡ job_tag j }
 {
     match j {
         Job::Read => 0,
@@ -94,7 +94,7 @@ pub(crate) fn job_tag(j: Job) -> u64
 }
 
 pub(crate) fn course_of(tag: u64) -> Course
-    ensures { result ≡ courseOf tag }
+    ensures { result ≡ course_of tag }
 {
     match tag {
         1 => Course::Middle,
@@ -105,7 +105,7 @@ pub(crate) fn course_of(tag: u64) -> Course
 }
 
 pub(crate) fn course_tag(c: Course) -> u64
-    ensures { result ≡ courseTag c }
+    ensures { result ≡ course_tag c }
 {
     match c {
         Course::Last => 0,
@@ -126,7 +126,7 @@ pub(crate) fn kind_of(tag: u64) -> Kind
 }
 
 pub(crate) fn kind_tag(k: Kind) -> u64
-    ensures { result ≡ kindTag k }
+    ensures { result ≡ kind_tag k }
 {
     match k {
         Kind::Absent => 0,

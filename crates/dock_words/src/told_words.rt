@@ -1,13 +1,13 @@
 // What a tell does to one slot in words: bytes first, then blockers and state, so that a refusal changes nothing.
 ghost use Rattle.std.specs.Prelude.{◌≡◌, true, ◌*◌, ◌<◌, length, get_or};
-ghost use Rattle.dock.specs.Dock.{isOutBy, lentFits, noVector};
+ghost use Rattle.dock.specs.Dock.{is_out_by, lent_fits, no_vector};
 ghost use Rattle.dock.specs.Begin.{fills};
-ghost use Rattle.dock.specs.Next.{isSoundAt};
-ghost use Rattle.dock.specs.Tell.{hands, staysAt, ends_at, entersAt, steppedAt, toldAt};
-ghost use Rattle.dock.specs.Slots.{filledShare, handedShare, StepSound};
-ghost use Rattle.dock_words.specs.View.{blockersOf, vectors_of, SlotWords, RowWords};
-ghost use Rattle.arithmetic.specs.Refusals.{isDone};
-ghost use Rattle.dock_words.specs.CallWords.{sameUnless, sameTwo, StoresStep};
+ghost use Rattle.dock.specs.Next.{is_sound_at};
+ghost use Rattle.dock.specs.Tell.{hands, stays_at, ends_at, enters_at, stepped_at, told_at};
+ghost use Rattle.dock.specs.Slots.{filled_share, handed_share, StepSound};
+ghost use Rattle.dock_words.specs.View.{blockers_of, vectors_of, SlotWords, RowWords};
+ghost use Rattle.arithmetic.specs.Refusals.{is_done};
+ghost use Rattle.dock_words.specs.CallWords.{same_unless, same_two, StoresStep};
 
 use crate::blocker_steps::{change_blocker, leave_blocker, may_change, may_leave};
 use crate::blocker_words::waits;
@@ -24,7 +24,7 @@ use stages::told::Step;
 // Whether the request of the job x in `slot` is out.
 pub(crate) fn is_out(blockers: &[u64], x: State, slot: usize) -> bool
     requires { length blockers.now ≡ 88 }
-    ensures { result ≡ isOutBy (blockersOf blockers.now) x slot }
+    ensures { result ≡ is_out_by (blockers_of blockers.now) x slot }
 {
     let phase = x.phase;
     if is_free(phase) {
@@ -47,8 +47,8 @@ fn fill(
     scratch: &mut [u8],
 ) -> Outcome
     requires { (length vectors.now ≡ 272) × (slot < 8) }
-    ensures { fills result scratch.new ≡ filledShare slot settings buffers x
-        (get_or (vectors_of vectors.now) slot noVector) «data».now scratch.old }
+    ensures { fills result scratch.new ≡ filled_share slot settings buffers x
+        (get_or (vectors_of vectors.now) slot no_vector) «data».now scratch.old }
 {
     let phase = x.phase;
     if !is_bounced_write(phase) {
@@ -70,8 +70,8 @@ fn hand_out(
     scratch: &[u8],
 ) -> Outcome
     requires { (length vectors.now ≡ 272) × (slot < 8) }
-    ensures { hands result «data».new ≡ handedShare slot settings buffers x code
-        (get_or (vectors_of vectors.now) slot noVector) «data».old scratch.now }
+    ensures { hands result «data».new ≡ handed_share slot settings buffers x code
+        (get_or (vectors_of vectors.now) slot no_vector) «data».old scratch.now }
 {
     let phase = x.phase;
     if !is_bounced_read(phase) {
@@ -94,12 +94,12 @@ fn stays(
     scratch: &mut [u8],
 ) -> Outcome
     requires { RowWords states.old vectors.now slot
-        (isSoundAt slot y settings buffers (length scratch.old) ≡ true) }
-    ensures dock { StoresStep (staysAt (blockersOf blockers.now) (slot * settings.bounce) y
-        (get_or (vectors_of vectors.now) slot noVector) «data».now scratch.old)
+        (is_sound_at slot y settings buffers (length scratch.old) ≡ true) }
+    ensures dock { StoresStep (stays_at (blockers_of blockers.now) (slot * settings.bounce) y
+        (get_or (vectors_of vectors.now) slot no_vector) «data».now scratch.old)
         slot blockers.now states.old
         result blockers.now states.new «data».now scratch.new }
-    ensures words { sameUnless (isDone result) states.old states.new }
+    ensures words { same_unless (is_done result) states.old states.new }
 {
     let outcome = fill(vectors, slot, settings, buffers, y, data, scratch);
     let Outcome::Done = outcome else {
@@ -124,12 +124,12 @@ fn ends(
     scratch: &[u8],
 ) -> Outcome
     requires { SlotWords blockers.old states.old vectors.now slot
-        (isSoundAt slot x settings buffers (length scratch.now) ≡ true) }
-    ensures dock { StoresStep (ends_at (blockersOf blockers.old) slot (slot * settings.bounce) x code y
-        (get_or (vectors_of vectors.now) slot noVector) «data».old scratch.now)
+        (is_sound_at slot x settings buffers (length scratch.now) ≡ true) }
+    ensures dock { StoresStep (ends_at (blockers_of blockers.old) slot (slot * settings.bounce) x code y
+        (get_or (vectors_of vectors.now) slot no_vector) «data».old scratch.now)
         slot blockers.old states.old
         result blockers.new states.new «data».new scratch.now }
-    ensures words { sameTwo (isDone result) blockers.old states.old blockers.new states.new }
+    ensures words { same_two (is_done result) blockers.old states.old blockers.new states.new }
 {
     if !may_leave(blockers, slot, x) {
         return Outcome::Refused(Refusal::Slot);
@@ -157,12 +157,12 @@ fn enters(
     scratch: &mut [u8],
 ) -> Outcome
     requires { SlotWords blockers.old states.old vectors.now slot
-        (isSoundAt slot y settings buffers (length scratch.old) ≡ true) }
-    ensures dock { StoresStep (entersAt (blockersOf blockers.old) slot (slot * settings.bounce) x y
-        (get_or (vectors_of vectors.now) slot noVector) «data».now scratch.old)
+        (is_sound_at slot y settings buffers (length scratch.old) ≡ true) }
+    ensures dock { StoresStep (enters_at (blockers_of blockers.old) slot (slot * settings.bounce) x y
+        (get_or (vectors_of vectors.now) slot no_vector) «data».now scratch.old)
         slot blockers.old states.old
         result blockers.new states.new «data».now scratch.new }
-    ensures words { sameTwo (isDone result) blockers.old states.old blockers.new states.new }
+    ensures words { same_two (is_done result) blockers.old states.old blockers.new states.new }
 {
     if !may_change(blockers, slot, x, y) {
         return Outcome::Refused(Refusal::Slot);
@@ -192,11 +192,11 @@ fn take_step(
 ) -> Outcome
     requires { SlotWords b.old xs.old vs.now slot
         (StepSound slot s l x (length scratch.old) step) }
-    ensures dock { StoresStep (steppedAt (blockersOf b.old) slot (slot * s.bounce) x code
-        (get_or (vectors_of vs.now) slot noVector) «data».old scratch.old step)
+    ensures dock { StoresStep (stepped_at (blockers_of b.old) slot (slot * s.bounce) x code
+        (get_or (vectors_of vs.now) slot no_vector) «data».old scratch.old step)
         slot b.old xs.old
         result b.new xs.new «data».new scratch.new }
-    ensures words { sameTwo (isDone result) b.old xs.old b.new xs.new }
+    ensures words { same_two (is_done result) b.old xs.old b.new xs.new }
 {
     match step {
         Step::Stays(y) => stays(b, xs, vs, slot, s, l, y, data, scratch),
@@ -219,12 +219,12 @@ pub(crate) fn tell_slot(
     scratch: &mut [u8],
 ) -> Outcome
     requires { SlotWords b.old xs.old vs.now slot
-        (lentFits l (length «data».old) (length scratch.old) ≡ true) }
-    ensures dock { StoresStep (toldAt (blockersOf b.old) slot s l x
-        (get_or (vectors_of vs.now) slot noVector) code «data».old scratch.old)
+        (lent_fits l (length «data».old) (length scratch.old) ≡ true) }
+    ensures dock { StoresStep (told_at (blockers_of b.old) slot s l x
+        (get_or (vectors_of vs.now) slot no_vector) code «data».old scratch.old)
         slot b.old xs.old
         result b.new xs.new «data».new scratch.new }
-    ensures words { sameTwo (isDone result) b.old xs.old b.new xs.new }
+    ensures words { same_two (is_done result) b.old xs.old b.new xs.new }
 {
     if !is_out(b, x, slot) {
         return Outcome::Refused(Refusal::Slot);

@@ -1,8 +1,8 @@
 // A vector's row of 34 words: count, total, and of each of the 16 segments start and length.
 ghost use Rattle.std.specs.Prelude.{◌≡◌, ◌<◌, length, get_or, set};
-ghost use Rattle.dock.specs.Dock.{noVector};
+ghost use Rattle.dock.specs.Dock.{no_vector};
 ghost use Rattle.dock_words.specs.View.{vectors_of};
-ghost use Rattle.vectors.specs.Words.{vectorFrom, vectorWords};
+ghost use Rattle.vectors.specs.Words.{vector_from, vector_words};
 
 use crate::tags::{size_of, size_word};
 use vectors::vector::{IoVector, Segment};
@@ -15,7 +15,7 @@ const SEGMENTS: usize = 16;
 // The vector in a row.
 pub(crate) fn get_vector(row: &[u64]) -> IoVector
     requires { length row.now ≡ 34 }
-    ensures { result ≡ vectorFrom row.now }
+    ensures { result ≡ vector_from row.now }
 {
     let none = Segment {
         start: 0,
@@ -40,7 +40,7 @@ pub(crate) fn get_vector(row: &[u64]) -> IoVector
 // Write a vector over a whole row.
 pub(crate) fn put_vector(row: &mut [u64], v: IoVector)
     requires { length row.old ≡ 34 }
-    ensures { row.new ≡ vectorWords v }
+    ensures { row.new ≡ vector_words v }
 {
     row[0] = size_word(v.count);
     row[1] = v.total;
@@ -56,7 +56,7 @@ pub(crate) fn put_vector(row: &mut [u64], v: IoVector)
 // The vector of a slot.
 pub(crate) fn vector_at(vectors: &[u64], slot: usize) -> IoVector
     requires { (length vectors.now ≡ 272) × (slot < 8) }
-    ensures { result ≡ get_or (vectors_of vectors.now) slot noVector }
+    ensures { result ≡ get_or (vectors_of vectors.now) slot no_vector }
 {
     let a = slot * VECTOR_WORDS;
     let e = a + VECTOR_WORDS;
@@ -66,7 +66,7 @@ pub(crate) fn vector_at(vectors: &[u64], slot: usize) -> IoVector
 // How many segments it has, alone.
 pub(crate) fn count_at(vectors: &[u64], slot: usize) -> usize
     requires { (length vectors.now ≡ 272) × (slot < 8) }
-    ensures { result ≡ (get_or (vectors_of vectors.now) slot noVector).count }
+    ensures { result ≡ (get_or (vectors_of vectors.now) slot no_vector).count }
 {
     size_of(vectors[slot * VECTOR_WORDS])
 }

@@ -1,7 +1,7 @@
 // The house form of records (document 02, N3): bytes that are records one after the other, each a two-byte length of what follows, a
 // two-byte kind and the body, little-endian. Here is what bytes start with; who reads them knows the kinds.
 ghost use Rattle.std.specs.Prelude.{◌≡◌, [], ◌∷◌};
-ghost use Rattle.records.specs.Records.{littleEndian, start_of};
+ghost use Rattle.records.specs.Records.{little_endian, start_of};
 
 // A record's kind, and how long its body is, which lies behind the four bytes of length and kind.
 #[derive(Drop)]
@@ -20,14 +20,14 @@ pub enum Start {
 
 // The number of two bytes.
 pub fn u16_of(low: u8, high: u8) -> u64
-    ensures { result ≡ littleEndian (low ∷ high ∷ []) }
+    ensures { result ≡ little_endian (low ∷ high ∷ []) }
 {
     low as u64 + 256 * (high as u64)
 }
 
 // The number of four bytes.
 pub fn u32_of(first: u8, second: u8, third: u8, fourth: u8) -> u64
-    ensures { result ≡ littleEndian (first ∷ second ∷ third ∷ fourth ∷ []) }
+    ensures { result ≡ little_endian (first ∷ second ∷ third ∷ fourth ∷ []) }
 {
     first as u64 + 256 * (second as u64) + 65536 * (third as u64) + 16777216 * (fourth as u64)
 }

@@ -12,14 +12,14 @@ use borrow.Author.Tests.{lt-ltb, le-ltb, ltb-true, ltb-false}
 use Rattle.arithmetic.specs.Rounding.{pick}
 use Rattle.arithmetic.specs.Offsets.{range_of}
 use Rattle.arithmetic.specs.Rows.{put as putRow}
-use Rattle.arithmetic.specs.Content.{Bytes, in_range, window, in-range, not-in-before, not-in-behind, window_more}
+use Rattle.arithmetic.specs.Content.{Bytes, in_range, window, in_range_lem, not_in_before, not_in_behind, window_more}
 use Rattle.arithmetic.specs.declared.offsets.Range.{Range}
 use Rattle.vectors.specs.Vectors.{put}
-use Rattle.sheets.specs.Sheets.{writeAs, row_of, words_of, insert, size_of, total_of, packed, placed, inFront}
-use Rattle.sheets.specs.OneTrip.{Ascends, inRanges}
+use Rattle.sheets.specs.Sheets.{write_as, row_of, words_of, insert, size_of, total_of, packed, placed, in_front}
+use Rattle.sheets.specs.OneTrip.{Ascends, in_ranges}
 use Rattle.sheets.specs.RangeLaws.{Ends, Place, ahead, past, joint, place, Inserted, weaken, below, behind}
-use Rattle.sheets.specs.RangeLaws.{insert-ascends, insert-covers, unique}
-use Rattle.sheets.specs.TripLaws.{words-length}
+use Rattle.sheets.specs.RangeLaws.{insert_ascends, insert_covers, unique}
+use Rattle.sheets.specs.TripLaws.{words_length}
 
 -- ---- ranges cut at an offset
 
@@ -28,10 +28,10 @@ unfoldable pub clipped : ℕ → List Range → List Range
 clipped at [] = []
 clipped at (r ∷ rs) = pick (ltb r.start.0 at) (range_of r.start.0 (min at r.end.0) ∷ clipped at rs) []
 
-pub clipped-ascends : (rs : List Range) (lo at : ℕ) → Ascends lo rs → Ascends lo (clipped at rs)
+pub clipped_ascends : (rs : List Range) (lo at : ℕ) → Ascends lo rs → Ascends lo (clipped at rs)
 unfolding clipped
-clipped-ascends [] lo at a = tt
-clipped-ascends (r ∷ rs) lo at a = go (ltb r.start.0 at) refl (clipped-ascends rs (suc r.end.0) at a.2)
+clipped_ascends [] lo at a = tt
+clipped_ascends (r ∷ rs) lo at a = go (ltb r.start.0 at) refl (clipped_ascends rs (suc r.end.0) at a.2)
   where
     go : (b : Bool) → ltb r.start.0 at ≡ b → Ascends (suc r.end.0) (clipped at rs)
         → Ascends lo (pick b (range_of r.start.0 (min at r.end.0) ∷ clipped at rs) [])
@@ -40,10 +40,10 @@ clipped-ascends (r ∷ rs) lo at a = go (ltb r.start.0 at) refl (clipped-ascends
         (a.0, omega (arith, h, a.1), weaken (suc (min at r.end.0)) (suc r.end.0) (clipped at rs) (omega arith) f)
     go false p f = tt
 
-pub clipped-ends : (rs : List Range) (at : ℕ) → Ends at (clipped at rs)
+pub clipped_ends : (rs : List Range) (at : ℕ) → Ends at (clipped at rs)
 unfolding clipped
-clipped-ends [] at = tt
-clipped-ends (r ∷ rs) at = go (ltb r.start.0 at) (clipped-ends rs at)
+clipped_ends [] at = tt
+clipped_ends (r ∷ rs) at = go (ltb r.start.0 at) (clipped_ends rs at)
   where
     go : (b : Bool) → Ends at (clipped at rs) → Ends at (pick b (range_of r.start.0 (min at r.end.0) ∷ clipped at rs) [])
     go true f = (omega arith, f)
@@ -54,77 +54,77 @@ cut_range : (r : Range) (at k : ℕ) → in_range (range_of r.start.0 (min at r.
 cut_range r at k = elim (dec_lt k at) [
   | yes l ↦ elim (dec_lt k r.end.0) [
     | yes m ↦ elim (dec_lt k r.start.0) [
-      | yes n ↦ rw (not-in-before r k n, not-in-before (range_of r.start.0 (min at r.end.0)) k n)
+      | yes n ↦ rw (not_in_before r k n, not_in_before (range_of r.start.0 (min at r.end.0)) k n)
       | no n ↦
           rw (
-            in-range r k (omega arith) m,
-            in-range (range_of r.start.0 (min at r.end.0)) k (omega arith) (omega arith),
+            in_range_lem r k (omega arith) m,
+            in_range_lem (range_of r.start.0 (min at r.end.0)) k (omega arith) (omega arith),
             lt-ltb k at l,
           )
     ]
-    | no m ↦ rw (not-in-behind r k (omega arith), not-in-behind (range_of r.start.0 (min at r.end.0)) k (omega arith))
+    | no m ↦ rw (not_in_behind r k (omega arith), not_in_behind (range_of r.start.0 (min at r.end.0)) k (omega arith))
   ]
   | no l ↦
       rw (le-ltb k at (omega arith), and-false (in_range r k))
-      (not-in-behind (range_of r.start.0 (min at r.end.0)) k (omega arith))
+      (not_in_behind (range_of r.start.0 (min at r.end.0)) k (omega arith))
 ]
 
-and-or : (a b c : Bool) → ((a && c) || (b && c)) ≡ ((a || b) && c)
-and-or true true true = refl
-and-or true true false = refl
-and-or true false true = refl
-and-or true false false = refl
-and-or false b c = refl
+and_or : (a b c : Bool) → ((a && c) || (b && c)) ≡ ((a || b) && c)
+and_or true true true = refl
+and_or true true false = refl
+and_or true false true = refl
+and_or true false false = refl
+and_or false b c = refl
 
-pub clipped-covers : (rs : List Range) (lo at : ℕ) → Ascends lo rs → (k : ℕ) → inRanges (clipped at rs) k ≡ (inRanges rs k && ltb k at)
-unfolding clipped inRanges
-clipped-covers [] lo at a k = refl
-clipped-covers (r ∷ rs) lo at a k = go (ltb r.start.0 at) refl (clipped-covers rs (suc r.end.0) at a.2 k)
+pub clipped_covers : (rs : List Range) (lo at : ℕ) → Ascends lo rs → (k : ℕ) → in_ranges (clipped at rs) k ≡ (in_ranges rs k && ltb k at)
+unfolding clipped in_ranges
+clipped_covers [] lo at a k = refl
+clipped_covers (r ∷ rs) lo at a k = go (ltb r.start.0 at) refl (clipped_covers rs (suc r.end.0) at a.2 k)
   where
-    go : (b : Bool) → ltb r.start.0 at ≡ b → inRanges (clipped at rs) k ≡ (inRanges rs k && ltb k at)
-        → inRanges (pick b (range_of r.start.0 (min at r.end.0) ∷ clipped at rs) []) k ≡ ((in_range r k || inRanges rs k) && ltb k at)
-    go true p f = rw (cut_range r at k, f) (and-or (in_range r k) (inRanges rs k) (ltb k at))
+    go : (b : Bool) → ltb r.start.0 at ≡ b → in_ranges (clipped at rs) k ≡ (in_ranges rs k && ltb k at)
+        → in_ranges (pick b (range_of r.start.0 (min at r.end.0) ∷ clipped at rs) []) k ≡ ((in_range r k || in_ranges rs k) && ltb k at)
+    go true p f = rw (cut_range r at k, f) (and_or (in_range r k) (in_ranges rs k) (ltb k at))
     go false p f = elim (dec_lt k at) [
       | yes l ↦
           let h = ltb-false r.start.0 at p in
           rw (
-            not-in-before r k (omega (arith, h)),
+            not_in_before r k (omega (arith, h)),
             below (suc r.end.0) rs a.2 k (omega (arith, h, a.1)),
           )
-      | no l ↦ rw (le-ltb k at (omega arith), and-false (in_range r k || inRanges rs k))
+      | no l ↦ rw (le-ltb k at (omega arith), and-false (in_range r k || in_ranges rs k))
     ]
 
-pub clipped-few : (rs : List Range) (at : ℕ) → length (clipped at rs) ≤ length rs
+pub clipped_few : (rs : List Range) (at : ℕ) → length (clipped at rs) ≤ length rs
 unfolding clipped
-clipped-few [] at = omega arith
-clipped-few (r ∷ rs) at = go (ltb r.start.0 at) (clipped-few rs at)
+clipped_few [] at = omega arith
+clipped_few (r ∷ rs) at = go (ltb r.start.0 at) (clipped_few rs at)
   where
     go : (b : Bool) → length (clipped at rs) ≤ length rs
         → length (pick b (range_of r.start.0 (min at r.end.0) ∷ clipped at rs) []) ≤ suc (length rs)
     go true f = omega (arith, f)
     go false f = omega arith
 
-pub clipped-total : (rs : List Range) (at : ℕ) → total_of (clipped at rs) ≤ total_of rs
+pub clipped_total : (rs : List Range) (at : ℕ) → total_of (clipped at rs) ≤ total_of rs
 unfolding clipped total_of
-clipped-total [] at = omega arith
-clipped-total (r ∷ rs) at = go (ltb r.start.0 at) (clipped-total rs at)
+clipped_total [] at = omega arith
+clipped_total (r ∷ rs) at = go (ltb r.start.0 at) (clipped_total rs at)
   where
     go : (b : Bool) → total_of (clipped at rs) ≤ total_of rs
         → total_of (pick b (range_of r.start.0 (min at r.end.0) ∷ clipped at rs) []) ≤ size_of r + total_of rs
     go true f = omega (arith, f)
     go false f = omega arith
 
-pub clipped-none : (rs : List Range) → clipped 0 rs ≡ []
+pub clipped_none : (rs : List Range) → clipped 0 rs ≡ []
 unfolding clipped
-clipped-none [] = refl
-clipped-none (r ∷ rs) = rw (le-ltb r.start.0 0 (omega arith))
+clipped_none [] = refl
+clipped_none (r ∷ rs) = rw (le-ltb r.start.0 0 (omega arith))
 
-pub clipped-all : (rs : List Range) (lo at : ℕ) → Ascends lo rs → Ends at rs → clipped at rs ≡ rs
-clipped-all rs lo at a e = unique (clipped at rs) rs lo (clipped-ascends rs lo at a) a (λ k. clipped-covers rs lo at a k ∙ go k)
+pub clipped_all : (rs : List Range) (lo at : ℕ) → Ascends lo rs → Ends at rs → clipped at rs ≡ rs
+clipped_all rs lo at a e = unique (clipped at rs) rs lo (clipped_ascends rs lo at a) a (λ k. clipped_covers rs lo at a k ∙ go k)
   where
-    go : (k : ℕ) → (inRanges rs k && ltb k at) ≡ inRanges rs k
+    go : (k : ℕ) → (in_ranges rs k && ltb k at) ≡ in_ranges rs k
     go k = elim (dec_lt k at) [
-      | yes l ↦ rw (lt-ltb k at l) (and-true (inRanges rs k))
+      | yes l ↦ rw (lt-ltb k at l) (and-true (in_ranges rs k))
       | no l ↦ rw (behind at rs e k (omega arith))
     ]
 
@@ -132,12 +132,12 @@ clipped-all rs lo at a e = unique (clipped at rs) rs lo (clipped-ascends rs lo a
 
 module _ (rs : List Range) (a : Ascends 0 rs) (at e : ℕ) (l : at < e) where
   -- of which no byte is in a range
-  pub swept-past : ((k : ℕ) → at ≤ k → k < e → inRanges rs k ≡ false) → clipped e rs ≡ clipped at rs
-  swept-past f =
-      unique (clipped e rs) (clipped at rs) 0 (clipped-ascends rs 0 e a) (clipped-ascends rs 0 at a)
-      (λ k. clipped-covers rs 0 e a k ∙ go k ∙ sym (clipped-covers rs 0 at a k))
+  pub swept_past : ((k : ℕ) → at ≤ k → k < e → in_ranges rs k ≡ false) → clipped e rs ≡ clipped at rs
+  swept_past f =
+      unique (clipped e rs) (clipped at rs) 0 (clipped_ascends rs 0 e a) (clipped_ascends rs 0 at a)
+      (λ k. clipped_covers rs 0 e a k ∙ go k ∙ sym (clipped_covers rs 0 at a k))
     where
-      go : (k : ℕ) → (inRanges rs k && ltb k e) ≡ (inRanges rs k && ltb k at)
+      go : (k : ℕ) → (in_ranges rs k && ltb k e) ≡ (in_ranges rs k && ltb k at)
       go k = elim (dec_lt k at) [
         | yes m ↦ rw (lt-ltb k at m, lt-ltb k e (omega arith))
         | no m ↦ elim (dec_lt k e) [
@@ -147,21 +147,21 @@ module _ (rs : List Range) (a : Ascends 0 rs) (at e : ℕ) (l : at < e) where
       ]
 
   -- of which every byte is
-  pub swept-over : ((k : ℕ) → at ≤ k → k < e → inRanges rs k ≡ true) → clipped e rs ≡ insert at e (clipped at rs)
-  swept-over f =
-      unique (clipped e rs) (insert at e (clipped at rs)) 0 (clipped-ascends rs 0 e a)
-      (insert-ascends (clipped at rs) 0 at e (omega arith) l (clipped-ascends rs 0 at a))
-      (λ k. clipped-covers rs 0 e a k ∙ go k ∙ sym (insert-covers (clipped at rs) 0 at e l (clipped-ascends rs 0 at a) k))
+  pub swept_over : ((k : ℕ) → at ≤ k → k < e → in_ranges rs k ≡ true) → clipped e rs ≡ insert at e (clipped at rs)
+  swept_over f =
+      unique (clipped e rs) (insert at e (clipped at rs)) 0 (clipped_ascends rs 0 e a)
+      (insert_ascends (clipped at rs) 0 at e (omega arith) l (clipped_ascends rs 0 at a))
+      (λ k. clipped_covers rs 0 e a k ∙ go k ∙ sym (insert_covers (clipped at rs) 0 at e l (clipped_ascends rs 0 at a) k))
     where
-      go : (k : ℕ) → (inRanges rs k && ltb k e) ≡ (in_range (range_of at e) k || inRanges (clipped at rs) k)
+      go : (k : ℕ) → (in_ranges rs k && ltb k e) ≡ (in_range (range_of at e) k || in_ranges (clipped at rs) k)
       go k = elim (dec_lt k at) [
-        | yes m ↦ rw (not-in-before (range_of at e) k m, clipped-covers rs 0 at a k, lt-ltb k at m, lt-ltb k e (omega arith))
+        | yes m ↦ rw (not_in_before (range_of at e) k m, clipped_covers rs 0 at a k, lt-ltb k at m, lt-ltb k e (omega arith))
         | no m ↦ elim (dec_lt k e) [
-          | yes n ↦ rw (in-range (range_of at e) k (omega arith) n, f k (omega arith) n, lt-ltb k e n)
+          | yes n ↦ rw (in_range_lem (range_of at e) k (omega arith) n, f k (omega arith) n, lt-ltb k e n)
           | no n ↦
               rw (
-                not-in-behind (range_of at e) k (omega arith),
-                clipped-covers rs 0 at a k,
+                not_in_behind (range_of at e) k (omega arith),
+                clipped_covers rs 0 at a k,
                 le-ltb k at (omega arith),
                 le-ltb k e (omega arith),
               )
@@ -170,16 +170,16 @@ module _ (rs : List Range) (a : Ascends 0 rs) (at e : ℕ) (l : at < e) where
 
 -- ---- what a stretch behind all ranges adds
 
-none-behind : (rs : List Range) (m : ℕ) → Ascends (suc m) rs → Ends m rs → rs ≡ []
-none-behind [] m a e = refl
-none-behind (r ∷ rs) m a e = absurd (omega (arith, a.0, a.1, e.0))
+none_behind : (rs : List Range) (m : ℕ) → Ascends (suc m) rs → Ends m rs → rs ≡ []
+none_behind [] m a e = refl
+none_behind (r ∷ rs) m a e = absurd (omega (arith, a.0, a.1, e.0))
 
 module _ (at e : ℕ) (l : at < e) where
-  pub total-more : (rs : List Range) (lo : ℕ) → Ascends lo rs → Ends at rs → total_of (insert at e rs) ≡ total_of rs + (e - at)
+  pub total_more : (rs : List Range) (lo : ℕ) → Ascends lo rs → Ends at rs → total_of (insert at e rs) ≡ total_of rs + (e - at)
   unfolding insert total_of
-  total-more [] lo a n = omega arith
-  total-more (r ∷ rs) lo a n =
-      go (ltb e r.start.0) (ltb r.end.0 at) (place at e r.start.0 r.end.0) (total-more rs (suc r.end.0) a.2 n.1)
+  total_more [] lo a n = omega arith
+  total_more (r ∷ rs) lo a n =
+      go (ltb e r.start.0) (ltb r.end.0 at) (place at e r.start.0 r.end.0) (total_more rs (suc r.end.0) a.2 n.1)
     where
       go : (x y : Bool) → Place at e r.start.0 r.end.0 x y → total_of (insert at e rs) ≡ total_of rs + (e - at)
           → total_of (Inserted at e r rs x y) ≡ size_of r + total_of rs + (e - at)
@@ -187,7 +187,7 @@ module _ (at e : ℕ) (l : at < e) where
       go _ _ (past p) f = omega (arith, f)
       go _ _ (joint p q) f =
           let z : r.end.0 ≡ at = omega (arith, q, n.0) in
-          let none : rs ≡ [] = none-behind rs at (rw (← z) a.2) n.1 in
+          let none : rs ≡ [] = none_behind rs at (rw (← z) a.2) n.1 in
           rw none (omega (arith, z, a.1, l))
 
   module _ (v : Bytes) where
@@ -207,7 +207,7 @@ module _ (at e : ℕ) (l : at < e) where
             ∙ sym (append_assoc (window v r.start.0 (size_of r)) (packed v rs) (window v at (e - at)))
         go _ _ (joint p q) f =
             let z : r.end.0 ≡ at = omega (arith, q, n.0) in
-            let none : rs ≡ [] = none-behind rs at (rw (← z) a.2) n.1 in
+            let none : rs ≡ [] = none_behind rs at (rw (← z) a.2) n.1 in
             let first : min at r.start.0 ≡ r.start.0 = omega (arith, z, a.1) in
             let last : max e r.end.0 - r.start.0 ≡ size_of r + (e - at) = omega (arith, z, a.1, l) in
             let here : r.start.0 + size_of r ≡ at = omega (arith, z, a.1) in
@@ -232,29 +232,29 @@ below_last (q ∷ rs) r m n h l b = (omega (arith, h, b.0), below_last rs r m n 
 
 module _ (at e : ℕ) (l : at < e) where
   -- a stretch apart from all is a range more
-  pub insert-behind : (rs : List Range) (lo : ℕ) → Ascends lo rs → Below at rs → insert at e rs ≡ rs ++ range_of at e ∷ []
+  pub insert_behind : (rs : List Range) (lo : ℕ) → Ascends lo rs → Below at rs → insert at e rs ≡ rs ++ range_of at e ∷ []
   unfolding insert
-  insert-behind [] lo a b = refl
-  insert-behind (r ∷ rs) lo a b =
+  insert_behind [] lo a b = refl
+  insert_behind (r ∷ rs) lo a b =
       rw (le-ltb e r.start.0 (omega (arith, a.1, b.0, l)), lt-ltb r.end.0 at b.0)
-      (ap (λ (x : List Range). r ∷ x) (insert-behind rs (suc r.end.0) a.2 b.1))
+      (ap (λ (x : List Range). r ∷ x) (insert_behind rs (suc r.end.0) a.2 b.1))
 
   -- one that touches the last lengthens it
-  pub insert-onto : (first : ℕ) → first < at → (rs : List Range) (lo : ℕ) → Ascends lo (rs ++ range_of first at ∷ []) → Below first rs
+  pub insert_onto : (first : ℕ) → first < at → (rs : List Range) (lo : ℕ) → Ascends lo (rs ++ range_of first at ∷ []) → Below first rs
       → insert at e (rs ++ range_of first at ∷ []) ≡ rs ++ range_of first e ∷ []
   unfolding insert
-  insert-onto first h [] lo a b =
+  insert_onto first h [] lo a b =
       let p : min at first ≡ first = omega (arith, h) in
       let q : max e at ≡ e = omega (arith, l) in
       rw (le-ltb e first (omega (arith, h, l)), le-ltb at at (omega arith), p, q)
-  insert-onto first h (r ∷ rs) lo a b =
+  insert_onto first h (r ∷ rs) lo a b =
       rw (le-ltb e r.start.0 (omega (arith, a.1, b.0, h, l)), lt-ltb r.end.0 at (omega (arith, b.0, h)))
-      (ap (λ (x : List Range). r ∷ x) (insert-onto first h rs (suc r.end.0) a.2 b.1))
+      (ap (λ (x : List Range). r ∷ x) (insert_onto first h rs (suc r.end.0) a.2 b.1))
 
 -- ---- its row
 
 pub words_more : (rs : List Range) (at : ℕ) (r : Range)
-    → words_of (placed at (rs ++ r ∷ [])) ≡ words_of (placed at rs) ++ row_of (writeAs r.start.0 (at + total_of rs) (size_of r))
+    → words_of (placed at (rs ++ r ∷ [])) ≡ words_of (placed at rs) ++ row_of (write_as r.start.0 (at + total_of rs) (size_of r))
 unfolding words_of placed total_of
 words_more [] at r = let z : at + 0 ≡ at = omega arith in rw z
 words_more (q ∷ rs) at r =
@@ -263,48 +263,48 @@ words_more (q ∷ rs) at r =
 
 -- put behind the rows of rs, in the place of what stands there
 module _ (rs : List Range) (r : Range) (w : List ℕ) where
-  abbrev rows-so-far : List ℕ
-  rows-so-far = words_of (placed 0 rs)
+  abbrev rows_so_far : List ℕ
+  rows_so_far = words_of (placed 0 rs)
 
-  abbrev its-row : List ℕ
-  its-row = row_of (writeAs r.start.0 (total_of rs) (size_of r))
+  abbrev its_row : List ℕ
+  its_row = row_of (write_as r.start.0 (total_of rs) (size_of r))
 
-  long : length rows-so-far ≡ length rs * 3
-  long = omega (arith, words-length rs 0)
+  long : length rows_so_far ≡ length rs * 3
+  long = omega (arith, words_length rs 0)
 
   -- words that start with these rows
-  behind-rows : (x : List ℕ) → putRow 3 (length rs) (rows-so-far ++ x) its-row ≡ rows-so-far ++ (its-row ++ drop 3 x)
-  behind-rows x =
+  behind_rows : (x : List ℕ) → putRow 3 (length rs) (rows_so_far ++ x) its_row ≡ rows_so_far ++ (its_row ++ drop 3 x)
+  behind_rows x =
       rw (
-        take_at rows-so-far x (length rs * 3) long,
-        drop_at rows-so-far x (length rs * 3) long,
+        take_at rows_so_far x (length rs * 3) long,
+        drop_at rows_so_far x (length rs * 3) long,
       )
 
-  all-rows : words_of (placed 0 (rs ++ r ∷ [])) ≡ rows-so-far ++ its-row
-  all-rows = let z : 0 + total_of rs ≡ total_of rs = omega arith in rw z at (words_more rs 0 r)
+  all_rows : words_of (placed 0 (rs ++ r ∷ [])) ≡ rows_so_far ++ its_row
+  all_rows = let z : 0 + total_of rs ≡ total_of rs = omega arith in rw z at (words_more rs 0 r)
 
-  in-front : rows-so-far ++ (its-row ++ drop (length rows-so-far + 3) w) ≡ inFront (words_of (placed 0 (rs ++ r ∷ []))) w
+  in_front_lem : rows_so_far ++ (its_row ++ drop (length rows_so_far + 3) w) ≡ in_front (words_of (placed 0 (rs ++ r ∷ []))) w
   unfolding put
-  in-front =
-      let n : length (rows-so-far ++ its-row) ≡ length rows-so-far + 3 = length-append rows-so-far its-row in
-      rw (all-rows, n) (sym (append_assoc rows-so-far its-row (drop (length rows-so-far + 3) w)))
+  in_front_lem =
+      let n : length (rows_so_far ++ its_row) ≡ length rows_so_far + 3 = length-append rows_so_far its_row in
+      rw (all_rows, n) (sym (append_assoc rows_so_far its_row (drop (length rows_so_far + 3) w)))
 
   -- a row more
-  pub row-behind : putRow 3 (length rs) (inFront rows-so-far w) its-row ≡ inFront (words_of (placed 0 (rs ++ r ∷ []))) w
+  pub row_behind : putRow 3 (length rs) (in_front rows_so_far w) its_row ≡ in_front (words_of (placed 0 (rs ++ r ∷ []))) w
   unfolding put
-  row-behind =
-      behind-rows (drop (length rows-so-far) w)
-      ∙ ap (λ (x : List ℕ). rows-so-far ++ (its-row ++ x)) (drop-drop 3 (length rows-so-far) w)
-      ∙ in-front
+  row_behind =
+      behind_rows (drop (length rows_so_far) w)
+      ∙ ap (λ (x : List ℕ). rows_so_far ++ (its_row ++ x)) (drop-drop 3 (length rows_so_far) w)
+      ∙ in_front_lem
 
   -- the last one anew
-  pub row-anew : (q : Range) → putRow 3 (length rs) (inFront (words_of (placed 0 (rs ++ q ∷ []))) w) its-row
-      ≡ inFront (words_of (placed 0 (rs ++ r ∷ []))) w
+  pub row_anew : (q : Range) → putRow 3 (length rs) (in_front (words_of (placed 0 (rs ++ q ∷ []))) w) its_row
+      ≡ in_front (words_of (placed 0 (rs ++ r ∷ []))) w
   unfolding put
-  row-anew q =
-      let old = row_of (writeAs q.start.0 (total_of rs) (size_of q)) in
+  row_anew q =
+      let old = row_of (write_as q.start.0 (total_of rs) (size_of q)) in
       let z : 0 + total_of rs ≡ total_of rs = omega arith in
-      let is : words_of (placed 0 (rs ++ q ∷ [])) ≡ rows-so-far ++ old = rw z at (words_more rs 0 q) in
-      let n : length (rows-so-far ++ old) ≡ length rows-so-far + 3 = length-append rows-so-far old in
-      rw (is, n, append_assoc rows-so-far old (drop (length rows-so-far + 3) w))
-      (behind-rows (old ++ drop (length rows-so-far + 3) w) ∙ in-front)
+      let is : words_of (placed 0 (rs ++ q ∷ [])) ≡ rows_so_far ++ old = rw z at (words_more rs 0 q) in
+      let n : length (rows_so_far ++ old) ≡ length rows_so_far + 3 = length-append rows_so_far old in
+      rw (is, n, append_assoc rows_so_far old (drop (length rows_so_far + 3) w))
+      (behind_rows (old ++ drop (length rows_so_far + 3) w) ∙ in_front_lem)

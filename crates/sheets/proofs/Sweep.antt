@@ -11,87 +11,87 @@ use borrow.Author.Tests.{lt-ltb, le-ltb, ltb-true, leb-true}
 use Rattle.arithmetic.specs.SettingsLaws.{and_left, and_right}
 use Rattle.arithmetic.specs.Offsets.{range_of}
 use Rattle.arithmetic.specs.Rows.{put as putRow}
-use Rattle.arithmetic.specs.Content.{Bytes, window, list_ext, window-length, window-at}
+use Rattle.arithmetic.specs.Content.{Bytes, window, list_ext, window_length, window_at}
 use Rattle.arithmetic.specs.declared.offsets.Range.{Range}
 use Rattle.vectors.specs.Vectors.{put}
-use Rattle.vectors.specs.ByteLaws.{length-put, put-behind}
-use Rattle.sheets.specs.Sheets.{writeAs, noWrite, row_of, words_of, covers, sheetFits, insert, rangesOf, total_of, joinedByte, packed}
-use Rattle.sheets.specs.Sheets.{placed, inFront}
+use Rattle.vectors.specs.ByteLaws.{length_put, put_behind}
+use Rattle.sheets.specs.Sheets.{write_as, no_write, row_of, words_of, covers, sheet_fits, insert, ranges_of, total_of, joined_byte, packed}
+use Rattle.sheets.specs.Sheets.{placed, in_front}
 use Rattle.sheets.specs.Stretches.{Owned, Lies, PacksAs}
-use Rattle.sheets.specs.OneTrip.{Ascends, inRanges}
-use Rattle.sheets.specs.RangeLaws.{Ends, total-most}
-use Rattle.sheets.specs.SheetLaws.{top, sheet-fits, sound-at, owned-covered, owner-covers, ranges-covered, ranges-end, ranged}
-use Rattle.sheets.specs.TripLaws.{packed-length, words-length}
-use Rattle.sheets.proofs.Clipped.{clipped, clipped-ascends, clipped-ends, clipped-few, clipped-total, clipped-none, clipped-all}
-use Rattle.sheets.proofs.Clipped.{swept-past, swept-over, total-more, packed_more, Below, below_more, below_last}
-use Rattle.sheets.proofs.Clipped.{insert-behind, insert-onto, row-behind, row-anew}
+use Rattle.sheets.specs.OneTrip.{Ascends, in_ranges}
+use Rattle.sheets.specs.RangeLaws.{Ends, total_most}
+use Rattle.sheets.specs.SheetLaws.{top, sheet_fits_lem, sound_at, owned_covered, owner_covers, ranges_covered, ranges_end, ranged}
+use Rattle.sheets.specs.TripLaws.{packed_length, words_length}
+use Rattle.sheets.proofs.Clipped.{clipped, clipped_ascends, clipped_ends, clipped_few, clipped_total, clipped_none, clipped_all}
+use Rattle.sheets.proofs.Clipped.{swept_past, swept_over, total_more, packed_more, Below, below_more, below_last}
+use Rattle.sheets.proofs.Clipped.{insert_behind, insert_onto, row_behind, row_anew}
 use Rattle.sheets.specs.declared.sheet.SheetWrite.{SheetWrite}
 use Rattle.sheets.specs.declared.joining.Stretch.{Stretch}
 use Rattle.sheets.specs.declared.joining.Size.{Size}
 
 -- the ranges before `at`
-abbrev pub So-far : List SheetWrite → ℕ → List Range
-So-far ws at = clipped at (rangesOf ws)
+abbrev pub So_far : List SheetWrite → ℕ → List Range
+So_far ws at = clipped at (ranges_of ws)
 
-module _ (n : ℕ) (ws : List SheetWrite) (fit : sheetFits n ws ≡ true) where
-  asc : Ascends 0 (rangesOf ws)
+module _ (n : ℕ) (ws : List SheetWrite) (fit : sheet_fits n ws ≡ true) where
+  asc : Ascends 0 (ranges_of ws)
   asc = (ranged n ws fit).ascending
 
-  pub none_yet : So-far ws 0 ≡ []
-  none_yet = clipped-none (rangesOf ws)
+  pub none_yet : So_far ws 0 ≡ []
+  none_yet = clipped_none (ranges_of ws)
 
-  pub none-total : 0 ≡ total_of (So-far ws 0)
+  pub none_total : 0 ≡ total_of (So_far ws 0)
   unfolding total_of
-  none-total = rw none_yet
+  none_total = rw none_yet
 
-  pub all-now : (at : ℕ) → top ≤ at → So-far ws at ≡ rangesOf ws
-  all-now at h = clipped-all (rangesOf ws) 0 at asc (ends (rangesOf ws) (ranges-end n ws fit))
+  pub all_now : (at : ℕ) → top ≤ at → So_far ws at ≡ ranges_of ws
+  all_now at h = clipped_all (ranges_of ws) 0 at asc (ends (ranges_of ws) (ranges_end n ws fit))
     where
       ends : (rs : List Range) → Ends top rs → Ends at rs
       ends [] e = tt
       ends (r ∷ rs) e = (omega (arith, h, e.0), ends rs e.1)
 
   -- at most as many bytes as lie before
-  pub so-far-most : (at : ℕ) → total_of (So-far ws at) ≤ at
-  so-far-most at = omega (arith, total-most (So-far ws at) 0 at (clipped-ascends (rangesOf ws) 0 at asc) (clipped-ends (rangesOf ws) at))
+  pub so_far_most : (at : ℕ) → total_of (So_far ws at) ≤ at
+  so_far_most at = omega (arith, total_most (So_far ws at) 0 at (clipped_ascends (ranges_of ws) 0 at asc) (clipped_ends (ranges_of ws) at))
 
   module _ (at : ℕ) (s : Stretch) (o : Owned ws at s) where
-    covered : (k : ℕ) → at ≤ k → k < s.end → inRanges (rangesOf ws) k ≡ ltb s.owner (length ws)
-    covered k a l = ranges-covered n ws fit k ∙ owned-covered ws k s.owner (o.owned k a l)
+    covered : (k : ℕ) → at ≤ k → k < s.end → in_ranges (ranges_of ws) k ≡ ltb s.owner (length ws)
+    covered k a l = ranges_covered n ws fit k ∙ owned_covered ws k s.owner (o.owned k a l)
 
     -- a stretch that nobody covers
-    pub past : length ws ≤ s.owner → So-far ws s.end ≡ So-far ws at
+    pub past : length ws ≤ s.owner → So_far ws s.end ≡ So_far ws at
     past h =
-        swept-past (rangesOf ws) asc at s.end o.ahead
+        swept_past (ranges_of ws) asc at s.end o.ahead
         (λ k a l. covered k a l ∙ le-ltb s.owner (length ws) h)
 
     -- and one that a write does
     module _ (h : s.owner < length ws) where
-      pub over : So-far ws s.end ≡ insert at s.end (So-far ws at)
-      over = swept-over (rangesOf ws) asc at s.end o.ahead (λ k a l. covered k a l ∙ lt-ltb s.owner (length ws) h)
+      pub over : So_far ws s.end ≡ insert at s.end (So_far ws at)
+      over = swept_over (ranges_of ws) asc at s.end o.ahead (λ k a l. covered k a l ∙ lt-ltb s.owner (length ws) h)
 
-      pub over-total : total_of (So-far ws s.end) ≡ total_of (So-far ws at) + (s.end - at)
-      over-total =
+      pub over_total : total_of (So_far ws s.end) ≡ total_of (So_far ws at) + (s.end - at)
+      over_total =
           ap total_of over
-          ∙ total-more at s.end o.ahead (So-far ws at) 0 (clipped-ascends (rangesOf ws) 0 at asc) (clipped-ends (rangesOf ws) at)
+          ∙ total_more at s.end o.ahead (So_far ws at) 0 (clipped_ascends (ranges_of ws) 0 at asc) (clipped_ends (ranges_of ws) at)
 
-      pub total-over : (total : ℕ) → total ≡ total_of (So-far ws at) → total + (s.end - at) ≡ total_of (So-far ws s.end)
-      total-over total e = rw e (sym over-total)
+      pub total_over : (total : ℕ) → total ≡ total_of (So_far ws at) → total + (s.end - at) ≡ total_of (So_far ws s.end)
+      total_over total e = rw e (sym over_total)
 
       -- which a number of 64 bits holds, in all
-      pub over-most : (total : ℕ) → total ≡ total_of (So-far ws at) → total + (s.end - at) ≤ top
-      over-most total e = omega (arith, e, over-total, so-far-most s.end, o.most)
+      pub over_most : (total : ℕ) → total ≡ total_of (So_far ws at) → total + (s.end - at) ≤ top
+      over_most total e = omega (arith, e, over_total, so_far_most s.end, o.most)
 
       abbrev w : SheetWrite
-      w = get_or ws s.owner noWrite
+      w = get_or ws s.owner no_write
 
-      in-it : (k : ℕ) → at ≤ k → k < s.end → covers w k ≡ true
-      in-it k a l = owner-covers ws k s.owner (o.owned k a l) h
+      in_it : (k : ℕ) → at ≤ k → k < s.end → covers w k ≡ true
+      in_it k a l = owner_covers ws k s.owner (o.owned k a l) h
 
       pub lies : Lies w at s.end n
       lies =
-          let a = in-it at (omega arith) o.ahead in
-          let b = in-it (s.end - 1) (omega (arith, o.ahead)) (omega (arith, o.ahead)) in
+          let a = in_it at (omega arith) o.ahead in
+          let b = in_it (s.end - 1) (omega (arith, o.ahead)) (omega (arith, o.ahead)) in
           let end = w.offset.0 + w.length in
           let to = ltb-true (s.end - 1) end (and_right (leb w.offset.0 (s.end - 1)) (ltb (s.end - 1) end) b) in
           record {
@@ -99,7 +99,7 @@ module _ (n : ℕ) (ws : List SheetWrite) (fit : sheetFits n ws ≡ true) where
             ahead = o.ahead;
             to = omega (arith, to, o.ahead);
             most = o.most;
-            inside = (sound-at n ws s.owner (sheet-fits n ws fit).all h).inside;
+            inside = (sound_at n ws s.owner (sheet_fits_lem n ws fit).all h).inside;
           }
 
       -- its bytes
@@ -107,35 +107,35 @@ module _ (n : ℕ) (ws : List SheetWrite) (fit : sheetFits n ws ≡ true) where
         abbrev Its : List ℕ
         Its = take (s.end - at) (drop (w.start + (at - w.offset.0)) memory)
 
-        its-length : length Its ≡ s.end - at
-        its-length =
+        its_length : length Its ≡ s.end - at
+        its_length =
             let l = lies in
             length-take-le (s.end - at) (drop (w.start + (at - w.offset.0)) memory)
             (rw (length-drop (w.start + (at - w.offset.0)) memory) (omega (arith, m, l.from, l.ahead, l.to, l.inside)))
 
-        its-bytes : window (joinedByte memory ws) at (s.end - at) ≡ Its
-        unfolding joinedByte
-        its-bytes =
-            list_ext (window (joinedByte memory ws) at (s.end - at)) Its (window-length (joinedByte memory ws) at (s.end - at) ∙ sym its-length)
-            (λ i h·. go i (omega (arith, h·, window-length (joinedByte memory ws) at (s.end - at))))
+        its_bytes : window (joined_byte memory ws) at (s.end - at) ≡ Its
+        unfolding joined_byte
+        its_bytes =
+            list_ext (window (joined_byte memory ws) at (s.end - at)) Its (window_length (joined_byte memory ws) at (s.end - at) ∙ sym its_length)
+            (λ i h·. go i (omega (arith, h·, window_length (joined_byte memory ws) at (s.end - at))))
           where
-            go : (i : ℕ) → i < s.end - at → get_or (window (joinedByte memory ws) at (s.end - at)) i 0 ≡ get_or Its i 0
+            go : (i : ℕ) → i < s.end - at → get_or (window (joined_byte memory ws) at (s.end - at)) i 0 ≡ get_or Its i 0
             go i l =
                 let z : w.start + (at + i - w.offset.0) ≡ w.start + (at - w.offset.0) + i = omega (arith, lies.from) in
-                window-at (joinedByte memory ws) at (s.end - at) i l
-                ∙ ap (λ (j : ℕ). get_or memory ((get_or ws j noWrite).start + (at + i - (get_or ws j noWrite).offset.0)) 0)
+                window_at (joined_byte memory ws) at (s.end - at) i l
+                ∙ ap (λ (j : ℕ). get_or memory ((get_or ws j no_write).start + (at + i - (get_or ws j no_write).offset.0)) 0)
                 (o.owned (at + i) (omega arith) (omega (arith, l)))
                 ∙ ap (λ (j : ℕ). get_or memory j 0) z
                 ∙ sym
                 (get_or-take (s.end - at) (drop (w.start + (at - w.offset.0)) memory) i 0 l
                 ∙ get_or-drop (w.start + (at - w.offset.0)) memory i 0)
 
-        pub over-bytes : packed (joinedByte memory ws) (So-far ws s.end) ≡ packed (joinedByte memory ws) (So-far ws at) ++ Its
-        over-bytes =
-            ap (packed (joinedByte memory ws)) over
-            ∙ packed_more at s.end o.ahead (joinedByte memory ws) (So-far ws at) 0 (clipped-ascends (rangesOf ws) 0 at asc)
-            (clipped-ends (rangesOf ws) at)
-            ∙ ap (λ (bs : List ℕ). packed (joinedByte memory ws) (So-far ws at) ++ bs) its-bytes
+        pub over_bytes : packed (joined_byte memory ws) (So_far ws s.end) ≡ packed (joined_byte memory ws) (So_far ws at) ++ Its
+        over_bytes =
+            ap (packed (joined_byte memory ws)) over
+            ∙ packed_more at s.end o.ahead (joined_byte memory ws) (So_far ws at) 0 (clipped_ascends (ranges_of ws) 0 at asc)
+            (clipped_ends (ranges_of ws) at)
+            ∙ ap (λ (bs : List ℕ). packed (joined_byte memory ws) (So_far ws at) ++ bs) its_bytes
 
 -- ---- the last range, and its row
 
@@ -156,97 +156,97 @@ low {first = first} {at = at} end l (onto qs i b m p e) = rw i (below_last qs (r
 -- the stretch is taken: from `first` on it is the range behind qs
 pub record Taken (ws : List SheetWrite) (count first place at end : ℕ) : Type 0 where
   pub qs : List Range
-  pub is : So-far ws end ≡ qs ++ range_of first end ∷ []
+  pub is : So_far ws end ≡ qs ++ range_of first end ∷ []
   pub before : Below first qs
   pub ahead : first < end
   pub at_place : place ≡ total_of qs
   pub row : count ≡ suc (length qs)
-  pub put-there : (w₀ w : List ℕ) → w ≡ inFront (words_of (placed 0 (So-far ws at))) w₀
-      → putRow 3 (count - 1) w (row_of (writeAs first place (end - first))) ≡ inFront (words_of (placed 0 (So-far ws end))) w₀
+  pub put_there : (w₀ w : List ℕ) → w ≡ in_front (words_of (placed 0 (So_far ws at))) w₀
+      → putRow 3 (count - 1) w (row_of (write_as first place (end - first))) ≡ in_front (words_of (placed 0 (So_far ws end))) w₀
 
-module _ (n : ℕ) (ws : List SheetWrite) (fit : sheetFits n ws ≡ true) (at : ℕ) (s : Stretch) (o : Owned ws at s) (h : s.owner < length ws) where
+module _ (n : ℕ) (ws : List SheetWrite) (fit : sheet_fits n ws ≡ true) (at : ℕ) (s : Stretch) (o : Owned ws at s) (h : s.owner < length ws) where
   abbrev End : ℕ
   End = s.end
 
-  its : So-far ws End ≡ insert at End (So-far ws at)
+  its : So_far ws End ≡ insert at End (So_far ws at)
   its = over n ws fit at s o h
 
-  up : Ascends 0 (So-far ws at)
-  up = clipped-ascends (rangesOf ws) 0 at (ranged n ws fit).ascending
+  up : Ascends 0 (So_far ws at)
+  up = clipped_ascends (ranges_of ws) 0 at (ranged n ws fit).ascending
 
   -- a range more
-  pub taken-new : (count filled first place : ℕ) → Edge (So-far ws at) count first place at false → filled ≡ total_of (So-far ws at)
+  pub taken_new : (count filled first place : ℕ) → Edge (So_far ws at) count first place at false → filled ≡ total_of (So_far ws at)
       → Taken ws (count + 1) at filled at End
-  taken-new count filled first place (shut b e) f = record {
-    qs = So-far ws at;
+  taken_new count filled first place (shut b e) f = record {
+    qs = So_far ws at;
     is = i;
     before = b;
     ahead = o.ahead;
     at_place = f;
     row = omega (arith, e);
-    put-there = λ w₀ w z.
-        let c : count + 1 - 1 ≡ length (So-far ws at) = omega (arith, e) in
-        rw (c, z, f, i) (row-behind (So-far ws at) (range_of at End) w₀);
+    put_there = λ w₀ w z.
+        let c : count + 1 - 1 ≡ length (So_far ws at) = omega (arith, e) in
+        rw (c, z, f, i) (row_behind (So_far ws at) (range_of at End) w₀);
   }
     where
-      i : So-far ws End ≡ So-far ws at ++ range_of at End ∷ []
-      i = its ∙ insert-behind at End o.ahead (So-far ws at) 0 up b
+      i : So_far ws End ≡ So_far ws at ++ range_of at End ∷ []
+      i = its ∙ insert_behind at End o.ahead (So_far ws at) 0 up b
 
   -- the last one goes on
-  pub taken-on : (count first place : ℕ) → Edge (So-far ws at) count first place at true → Taken ws count first place at End
-  taken-on count first place (onto qs r b l p e) = record {
+  pub taken_on : (count first place : ℕ) → Edge (So_far ws at) count first place at true → Taken ws count first place at End
+  taken_on count first place (onto qs r b l p e) = record {
     qs = qs;
     is = i;
     before = b;
     ahead = omega (arith, l, o.ahead);
     at_place = p;
     row = e;
-    put-there = λ w₀ w z.
+    put_there = λ w₀ w z.
         let c : count - 1 ≡ length qs = omega (arith, e) in
-        rw (c, z, p, r, i) (row-anew qs (range_of first End) w₀ (range_of first at));
+        rw (c, z, p, r, i) (row_anew qs (range_of first End) w₀ (range_of first at));
   }
     where
-      i : So-far ws End ≡ qs ++ range_of first End ∷ []
-      i = its ∙ ap (insert at End) r ∙ insert-onto at End o.ahead first l qs 0 (rw r at up) b
+      i : So_far ws End ≡ qs ++ range_of first End ∷ []
+      i = its ∙ ap (insert at End) r ∙ insert_onto at End o.ahead first l qs 0 (rw r at up) b
 
   -- its row is one of 64
-  pub row-there : {count first place : ℕ} → Taken ws count first place at End → (0 < count) × ((count - 1) * 3 + 3 ≤ 192)
-  row-there {count} {first} t =
-      let k : length (So-far ws End) ≡ length t.qs + 1 = ap length t.is ∙ length-append t.qs (range_of first End ∷ []) in
-      let f = clipped-few (rangesOf ws) End in
+  pub row_there : {count first place : ℕ} → Taken ws count first place at End → (0 < count) × ((count - 1) * 3 + 3 ≤ 192)
+  row_there {count} {first} t =
+      let k : length (So_far ws End) ≡ length t.qs + 1 = ap length t.is ∙ length-append t.qs (range_of first End ∷ []) in
+      let f = clipped_few (ranges_of ws) End in
       let g = (ranged n ws fit).few in
-      let m = (sheet-fits n ws fit).few in
+      let m = (sheet_fits_lem n ws fit).few in
       (omega (arith, t.row), omega (arith, t.row, k, f, g, m))
 
 -- ---- packing
 
-abbrev pub sizeAs : ℕ → ℕ → Size
-sizeAs ranges bytes = record { ranges = ranges; bytes = bytes }
+abbrev pub size_as : ℕ → ℕ → Size
+size_as ranges bytes = record { ranges = ranges; bytes = bytes }
 
-size_is : (a b : ℕ) {c d : ℕ} → a ≡ c → b ≡ d → sizeAs a b ≡ sizeAs c d
-size_is a b p q = λ i. sizeAs (p i) (q i)
+size_is : (a b : ℕ) {c d : ℕ} → a ≡ c → b ≡ d → size_as a b ≡ size_as c d
+size_is a b p q = λ i. size_as (p i) (q i)
 
 pub record Packing (ws : List SheetWrite) (memory out₀ w₀ : List ℕ) (count filled first place at : ℕ) (goes : Bool) (out w : List ℕ) : Type 0 where
-  pub fit : sheetFits (length memory) ws ≡ true
-  pub room : total_of (rangesOf ws) ≤ length out₀
+  pub fit : sheet_fits (length memory) ws ≡ true
+  pub room : total_of (ranges_of ws) ≤ length out₀
   pub wide : length w₀ ≡ 192
   pub most : at ≤ top
-  pub full : filled ≡ total_of (So-far ws at)
-  pub bytes : out ≡ inFront (packed (joinedByte memory ws) (So-far ws at)) out₀
-  pub rows : w ≡ inFront (words_of (placed 0 (So-far ws at))) w₀
-  pub edge : Edge (So-far ws at) count first place at goes
+  pub full : filled ≡ total_of (So_far ws at)
+  pub bytes : out ≡ in_front (packed (joined_byte memory ws) (So_far ws at)) out₀
+  pub rows : w ≡ in_front (words_of (placed 0 (So_far ws at))) w₀
+  pub edge : Edge (So_far ws at) count first place at goes
 
-pub packing-none : (ws : List SheetWrite) (memory out₀ w₀ : List ℕ) → sheetFits (length memory) ws ≡ true
-    → total_of (rangesOf ws) ≤ length out₀ → length w₀ ≡ 192 → Packing ws memory out₀ w₀ 0 0 0 0 0 false out₀ w₀
+pub packing_none : (ws : List SheetWrite) (memory out₀ w₀ : List ℕ) → sheet_fits (length memory) ws ≡ true
+    → total_of (ranges_of ws) ≤ length out₀ → length w₀ ≡ 192 → Packing ws memory out₀ w₀ 0 0 0 0 0 false out₀ w₀
 unfolding packed put words_of placed
-packing-none ws memory out₀ w₀ f r w =
+packing_none ws memory out₀ w₀ f r w =
     let z = none_yet (length memory) ws f in
     record {
       fit = f;
       room = r;
       wide = w;
       most = omega arith;
-      full = none-total (length memory) ws f;
+      full = none_total (length memory) ws f;
       bytes = rw z;
       rows = rw z;
       edge = rw z (shut tt refl);
@@ -255,33 +255,33 @@ packing-none ws memory out₀ w₀ f r w =
 module _ {ws : List SheetWrite} {memory out₀ w₀ : List ℕ} {count filled first place at : ℕ} {goes : Bool} {out w : List ℕ}
     (p : Packing ws memory out₀ w₀ count filled first place at goes out w) where
   abbrev v : Bytes
-  v = joinedByte memory ws
+  v = joined_byte memory ws
 
-  full-bytes : length (packed v (So-far ws at)) ≡ filled
-  full-bytes = packed-length v (So-far ws at) ∙ sym p.full
+  full_bytes : length (packed v (So_far ws at)) ≡ filled
+  full_bytes = packed_length v (So_far ws at) ∙ sym p.full
 
-  pub out-long : length out ≡ length out₀
-  out-long =
+  pub out_long : length out ≡ length out₀
+  out_long =
       rw p.bytes
-      (length-put out₀ 0 (packed v (So-far ws at)) (omega (arith, full-bytes, p.full, clipped-total (rangesOf ws) at, p.room)))
+      (length_put out₀ 0 (packed v (So_far ws at)) (omega (arith, full_bytes, p.full, clipped_total (ranges_of ws) at, p.room)))
 
   pub rows_long : length w ≡ 192
   rows_long =
-      let n = words-length (So-far ws at) 0 in
-      let f = clipped-few (rangesOf ws) at in
+      let n = words_length (So_far ws at) 0 in
+      let f = clipped_few (ranges_of ws) at in
       let g = (ranged (length memory) ws p.fit).few in
-      let m = (sheet-fits (length memory) ws p.fit).few in
-      rw p.rows (length-put w₀ 0 (words_of (placed 0 (So-far ws at))) (omega (arith, n, f, g, m, p.wide)) ∙ p.wide)
+      let m = (sheet_fits_lem (length memory) ws p.fit).few in
+      rw p.rows (length_put w₀ 0 (words_of (placed 0 (So_far ws at))) (omega (arith, n, f, g, m, p.wide)) ∙ p.wide)
 
   pub count_most : count ≤ 64
   count_most =
-      let f = clipped-few (rangesOf ws) at in
+      let f = clipped_few (ranges_of ws) at in
       let g = (ranged (length memory) ws p.fit).few in
-      omega (arith, counted p.edge, f, g, (sheet-fits (length memory) ws p.fit).few)
+      omega (arith, counted p.edge, f, g, (sheet_fits_lem (length memory) ws p.fit).few)
 
   module _ (s : Stretch) (o : Owned ws at s) where
-    pub packing-past : length ws ≤ s.owner → Packing ws memory out₀ w₀ count filled first place s.end false out w
-    packing-past h =
+    pub packing_past : length ws ≤ s.owner → Packing ws memory out₀ w₀ count filled first place s.end false out w
+    packing_past h =
         let z = past (length memory) ws p.fit at s o h in
         record {
           fit = p.fit;
@@ -289,67 +289,67 @@ module _ {ws : List SheetWrite} {memory out₀ w₀ : List ℕ} {count filled fi
           wide = p.wide;
           most = o.most;
           full = p.full ∙ ap total_of (sym z);
-          bytes = p.bytes ∙ ap (λ (rs : List Range). inFront (packed v rs) out₀) (sym z);
-          rows = p.rows ∙ ap (λ (rs : List Range). inFront (words_of (placed 0 rs)) w₀) (sym z);
+          bytes = p.bytes ∙ ap (λ (rs : List Range). in_front (packed v rs) out₀) (sym z);
+          rows = p.rows ∙ ap (λ (rs : List Range). in_front (words_of (placed 0 rs)) w₀) (sym z);
           edge = rw z (shut (low s.end o.ahead p.edge) (counted p.edge));
         }
 
     module _ (h : s.owner < length ws) where
       -- the output has room for the stretch
-      pub its-room : filled + (s.end - at) ≤ length out
-      its-room =
-          let t = total-over (length memory) ws p.fit at s o h filled p.full in
-          omega (arith, t, clipped-total (rangesOf ws) s.end, p.room, out-long)
+      pub its_room : filled + (s.end - at) ≤ length out
+      its_room =
+          let t = total_over (length memory) ws p.fit at s o h filled p.full in
+          omega (arith, t, clipped_total (ranges_of ws) s.end, p.room, out_long)
 
-      pub its-most : filled + (s.end - at) ≤ top
-      its-most = over-most (length memory) ws p.fit at s o h filled p.full
+      pub its_most : filled + (s.end - at) ≤ top
+      its_most = over_most (length memory) ws p.fit at s o h filled p.full
 
       -- its write lies in the data
-      pub its-lies : (g : SheetWrite) → g ≡ get_or ws s.owner noWrite → Lies g at s.end (length memory)
-      its-lies g e = rw e (lies (length memory) ws p.fit at s o h)
+      pub its_lies : (g : SheetWrite) → g ≡ get_or ws s.owner no_write → Lies g at s.end (length memory)
+      its_lies g e = rw e (lies (length memory) ws p.fit at s o h)
 
       -- it starts a range, or goes on with the last one
-      pub packing-new : {c f l : ℕ} → goes ≡ false → c ≡ count + 1 → f ≡ at → l ≡ filled → Taken ws c f l at s.end
-      packing-new g i j k = rw (i, j, k) (taken-new (length memory) ws p.fit at s o h count filled first place (rw g at p.edge) p.full)
+      pub packing_new : {c f l : ℕ} → goes ≡ false → c ≡ count + 1 → f ≡ at → l ≡ filled → Taken ws c f l at s.end
+      packing_new g i j k = rw (i, j, k) (taken_new (length memory) ws p.fit at s o h count filled first place (rw g at p.edge) p.full)
 
-      pub packing-on : {c f l : ℕ} → goes ≡ true → c ≡ count → f ≡ first → l ≡ place → Taken ws c f l at s.end
-      packing-on g i j k = rw (i, j, k) (taken-on (length memory) ws p.fit at s o h count first place (rw g at p.edge))
+      pub packing_on : {c f l : ℕ} → goes ≡ true → c ≡ count → f ≡ first → l ≡ place → Taken ws c f l at s.end
+      packing_on g i j k = rw (i, j, k) (taken_on (length memory) ws p.fit at s o h count first place (rw g at p.edge))
 
       module _ {c f l : ℕ} (t : Taken ws c f l at s.end) where
-        pub its-row : (0 < c) × ((c - 1) * 3 + 3 ≤ length w)
-        its-row = let r = row-there (length memory) ws p.fit at s o h t in (r.0, omega (arith, r.1, rows_long))
+        pub its_row : (0 < c) × ((c - 1) * 3 + 3 ≤ length w)
+        its_row = let r = row_there (length memory) ws p.fit at s o h t in (r.0, omega (arith, r.1, rows_long))
 
-        module _ (g : SheetWrite) (e : g ≡ get_or ws s.owner noWrite) where
-          abbrev Its-bytes : SheetWrite → List ℕ
-          Its-bytes g = take (s.end - at) (drop (g.start + (at - g.offset.0)) memory)
+        module _ (g : SheetWrite) (e : g ≡ get_or ws s.owner no_write) where
+          abbrev Its_bytes : SheetWrite → List ℕ
+          Its_bytes g = take (s.end - at) (drop (g.start + (at - g.offset.0)) memory)
 
-          pub packing-over : (out· w· : List ℕ) → out· ≡ put out filled (Its-bytes g) → w· ≡ putRow 3 (c - 1) w (row_of (writeAs f l (s.end - f)))
+          pub packing_over : (out· w· : List ℕ) → out· ≡ put out filled (Its_bytes g) → w· ≡ putRow 3 (c - 1) w (row_of (write_as f l (s.end - f)))
               → Packing ws memory out₀ w₀ c (filled + (s.end - at)) f l s.end true out· w·
-          packing-over out· w· x y =
-              let its = Its-bytes (get_or ws s.owner noWrite) in
-              let z : 0 + length (packed v (So-far ws at)) ≡ filled = omega (arith, full-bytes) in
-              let b : put (put out₀ 0 (packed v (So-far ws at))) filled its ≡ put out₀ 0 (packed v (So-far ws at) ++ its) =
-              rw z at (put-behind out₀ 0 (packed v (So-far ws at)) its (omega arith)) in
+          packing_over out· w· x y =
+              let its = Its_bytes (get_or ws s.owner no_write) in
+              let z : 0 + length (packed v (So_far ws at)) ≡ filled = omega (arith, full_bytes) in
+              let b : put (put out₀ 0 (packed v (So_far ws at))) filled its ≡ put out₀ 0 (packed v (So_far ws at) ++ its) =
+              rw z at (put_behind out₀ 0 (packed v (So_far ws at)) its (omega arith)) in
               record {
                 fit = p.fit;
                 room = p.room;
                 wide = p.wide;
                 most = o.most;
-                full = total-over (length memory) ws p.fit at s o h filled p.full;
+                full = total_over (length memory) ws p.fit at s o h filled p.full;
                 bytes =
                     x
-                    ∙ ap (λ (g : SheetWrite). put out filled (Its-bytes g)) e
+                    ∙ ap (λ (g : SheetWrite). put out filled (Its_bytes g)) e
                     ∙ ap (λ (bs : List ℕ). put bs filled its) p.bytes
                     ∙ b
-                    ∙ ap (λ (bs : List ℕ). put out₀ 0 bs) (sym (over-bytes (length memory) ws p.fit at s o h memory refl));
-                rows = y ∙ t.put-there w₀ w p.rows;
+                    ∙ ap (λ (bs : List ℕ). put out₀ 0 bs) (sym (over_bytes (length memory) ws p.fit at s o h memory refl));
+                rows = y ∙ t.put_there w₀ w p.rows;
                 edge = onto t.qs t.is t.before t.ahead t.at_place t.row;
               }
 
-  pub packing-all : top ≤ at → PacksAs ws memory (sizeAs count filled) out₀ w₀ out w
-  packing-all h =
-      let z = all-now (length memory) ws p.fit at h in (
+  pub packing_all : top ≤ at → PacksAs ws memory (size_as count filled) out₀ w₀ out w
+  packing_all h =
+      let z = all_now (length memory) ws p.fit at h in (
         size_is count filled (counted p.edge ∙ ap length z) (p.full ∙ ap total_of z),
-        p.bytes ∙ ap (λ (rs : List Range). inFront (packed v rs) out₀) z,
-        p.rows ∙ ap (λ (rs : List Range). inFront (words_of (placed 0 rs)) w₀) z,
+        p.bytes ∙ ap (λ (rs : List Range). in_front (packed v rs) out₀) z,
+        p.rows ∙ ap (λ (rs : List Range). in_front (words_of (placed 0 rs)) w₀) z,
       )

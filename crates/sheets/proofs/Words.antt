@@ -5,26 +5,26 @@ use Prim.Native.Nat.{ℕ, zero, suc, ◌+◌, ◌*◌, ◌/◌, ◌<◌, ◌≤�
 use native.Mathlib.Nat.{div-add-mod'}
 use native.Mathlib.Omega.{arith}
 use lib.ListN.{length, get_or, set}
-use Rattle.arithmetic.specs.Rows.{put, rows-length, rows_get, row_word}
-use Rattle.sheets.specs.Sheets.{writeAs, noWrite, writeFrom, writesIn}
+use Rattle.arithmetic.specs.Rows.{put, rows_length, rows_get, row_word}
+use Rattle.sheets.specs.Sheets.{write_as, no_write, write_from, writes_in}
 
-pub writes-length : (words : List ℕ) → length (writesIn words) ≡ length words / 3
-unfolding writesIn
-writes-length words = rows-length writeFrom 3 (length words / 3) words
+pub writes_length : (words : List ℕ) → length (writes_in words) ≡ length words / 3
+unfolding writes_in
+writes_length words = rows_length write_from 3 (length words / 3) words
 
-module _ (words : List ℕ) (i : ℕ) (h : i < length (writesIn words)) where
+module _ (words : List ℕ) (i : ℕ) (h : i < length (writes_in words)) where
   -- the words of row i are there
   pub row_room : i * 3 + 3 ≤ length words
-  row_room = omega (arith, h, writes-length words, div-add-mod' (length words) 3)
+  row_room = omega (arith, h, writes_length words, div-add-mod' (length words) 3)
 
   -- and are its write
-  pub row_write : writeAs (get_or words (i * 3) 0) (get_or words (i * 3 + 1) 0) (get_or words (i * 3 + 2) 0) ≡ get_or (writesIn words) i noWrite
-  unfolding writesIn
+  pub row_write : write_as (get_or words (i * 3) 0) (get_or words (i * 3 + 1) 0) (get_or words (i * 3 + 2) 0) ≡ get_or (writes_in words) i no_write
+  unfolding writes_in
   row_write =
-      let n : i < length words / 3 = omega (arith, h, writes-length words) in
+      let n : i < length words / 3 = omega (arith, h, writes_length words) in
       let z : i * 3 + 0 ≡ i * 3 = omega arith in
       rw (
-        rows_get writeFrom 3 (length words / 3) i words noWrite n,
+        rows_get write_from 3 (length words / 3) i words no_write n,
         row_word 3 i words 0 (omega arith),
         row_word 3 i words 1 (omega arith),
         row_word 3 i words 2 (omega arith),

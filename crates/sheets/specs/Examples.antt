@@ -5,15 +5,15 @@ use Rattle.arithmetic.specs.Rows.{rows}
 use Rattle.arithmetic.specs.Content.{window}
 use Rattle.arithmetic.specs.declared.refusals.Refusal.TheVariants.{Output as NoRoom, Sheet as BadSheet}
 use Rattle.vectors.specs.Vectors.{put}
-use Rattle.sheets.specs.Sheets.{writeAs, writesIn, words_of, isSound, allSound, sheetFits, insert, rangesFrom, total_of}
-use Rattle.sheets.specs.Sheets.{ownerFrom, joinedByte, packed, placed, refusedAs, join_of}
+use Rattle.sheets.specs.Sheets.{write_as, writes_in, words_of, is_sound, all_sound, sheet_fits, insert, ranges_from, total_of}
+use Rattle.sheets.specs.Sheets.{owner_from, joined_byte, packed, placed, refused_as, join_of}
 use Rattle.sheets.specs.declared.sheet.SheetWrite.{SheetWrite}
 use Rattle.sheets.specs.declared.joining.Joined.{Joined}
 use Rattle.sheets.specs.declared.joining.Joined.TheVariants.{Into, Refused}
 
 -- 1 2 3 at 10; 4 5 at 13, which touches; 6 at 20, apart; 7 at 11, where the later one wins
 abbrev sheet : List SheetWrite
-sheet = writeAs 10 0 3 ∷ writeAs 13 3 2 ∷ writeAs 20 5 1 ∷ writeAs 11 6 1 ∷ []
+sheet = write_as 10 0 3 ∷ write_as 13 3 2 ∷ write_as 20 5 1 ∷ write_as 11 6 1 ∷ []
 
 abbrev bytes : List ℕ
 bytes = 1 ∷ 2 ∷ 3 ∷ 4 ∷ 5 ∷ 6 ∷ 7 ∷ []
@@ -36,29 +36,29 @@ pub record Computed : Type 0 where
     joined = 10 ∷ 0 ∷ 5 ∷ 20 ∷ 5 ∷ 1 ∷ 86 ∷ 87 ∷ [];
   }
   pub none : join_of [] bytes room lines ≡ record { answer = Into (record { ranges = 0; bytes = 0 }); output = room; joined = lines }
-  pub up-to-the-last : answer_of (writeAs 18446744073709551614 0 1 ∷ []) bytes room ≡ Into (record { ranges = 1; bytes = 1 })
-  pub wraps : answer_of (writeAs 18446744073709551615 0 1 ∷ []) bytes room ≡ Refused BadSheet
-  pub empty : answer_of (writeAs 10 0 0 ∷ []) bytes room ≡ Refused BadSheet
-  pub outside-the-data : answer_of (writeAs 10 7 1 ∷ []) bytes room ≡ Refused BadSheet
-  pub no_room : join_of sheet bytes (1 ∷ 2 ∷ 3 ∷ 4 ∷ 5 ∷ []) lines ≡ refusedAs NoRoom (1 ∷ 2 ∷ 3 ∷ 4 ∷ 5 ∷ []) lines
-  pub sheet-first : answer_of (writeAs 10 0 8 ∷ []) bytes [] ≡ Refused BadSheet
-  pub write-64 : answer_of (replicate 64 (writeAs 10 0 1)) bytes room ≡ Into (record { ranges = 1; bytes = 1 })
-  pub write-65 : answer_of (replicate 65 (writeAs 10 0 1)) bytes room ≡ Refused BadSheet
-  pub rows-of-three : writesIn (10 ∷ 0 ∷ 3 ∷ 13 ∷ 3 ∷ 2 ∷ 20 ∷ 5 ∷ []) ≡ writeAs 10 0 3 ∷ writeAs 13 3 2 ∷ []
+  pub up_to_the_last : answer_of (write_as 18446744073709551614 0 1 ∷ []) bytes room ≡ Into (record { ranges = 1; bytes = 1 })
+  pub wraps : answer_of (write_as 18446744073709551615 0 1 ∷ []) bytes room ≡ Refused BadSheet
+  pub empty : answer_of (write_as 10 0 0 ∷ []) bytes room ≡ Refused BadSheet
+  pub outside_the_data : answer_of (write_as 10 7 1 ∷ []) bytes room ≡ Refused BadSheet
+  pub no_room : join_of sheet bytes (1 ∷ 2 ∷ 3 ∷ 4 ∷ 5 ∷ []) lines ≡ refused_as NoRoom (1 ∷ 2 ∷ 3 ∷ 4 ∷ 5 ∷ []) lines
+  pub sheet_first : answer_of (write_as 10 0 8 ∷ []) bytes [] ≡ Refused BadSheet
+  pub write_64 : answer_of (replicate 64 (write_as 10 0 1)) bytes room ≡ Into (record { ranges = 1; bytes = 1 })
+  pub write_65 : answer_of (replicate 65 (write_as 10 0 1)) bytes room ≡ Refused BadSheet
+  pub rows_of_three : writes_in (10 ∷ 0 ∷ 3 ∷ 13 ∷ 3 ∷ 2 ∷ 20 ∷ 5 ∷ []) ≡ write_as 10 0 3 ∷ write_as 13 3 2 ∷ []
 
 pub computed : Computed
-unfolding join_of sheetFits allSound isSound fits insert rangesFrom total_of ownerFrom joinedByte packed window placed put words_of
-    writesIn rows
+unfolding join_of sheet_fits all_sound is_sound fits insert ranges_from total_of owner_from joined_byte packed window placed put words_of
+    writes_in rows
 computed = record {
   joined = refl;
   none = refl;
-  up-to-the-last = refl;
+  up_to_the_last = refl;
   wraps = refl;
   empty = refl;
-  outside-the-data = refl;
+  outside_the_data = refl;
   no_room = refl;
-  sheet-first = refl;
-  write-64 = refl;
-  write-65 = refl;
-  rows-of-three = refl;
+  sheet_first = refl;
+  write_64 = refl;
+  write_65 = refl;
+  rows_of_three = refl;
 }

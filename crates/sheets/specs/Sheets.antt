@@ -1,7 +1,7 @@
 -- Document 02, N14, "One trip for many edits": a sheet of writes, what it is refused for, and what it is joined to.
 use Rattle.std.specs.Prelude.{◌≡◌, Bool, true, ◌&&◌, List, [], ◌∷◌, ◌++◌, ℕ, suc, ◌+◌, ◌-◌, ◌/◌, min, max, ltb, leb, length, get_or}
 use Rattle.arithmetic.specs.Rounding.{pick, fits}
-use Rattle.arithmetic.specs.Offsets.{storeAt, range_of}
+use Rattle.arithmetic.specs.Offsets.{store_at, range_of}
 use Rattle.arithmetic.specs.Rows.{rows}
 use Rattle.arithmetic.specs.Content.{Bytes, in_range, window}
 use Rattle.arithmetic.specs.declared.offsets.Range.{Range}
@@ -14,18 +14,18 @@ use Rattle.sheets.specs.declared.joining.Joined.TheVariants.{Into, Refused}
 
 -- ---- writes, in rows of three words: offset on the store, start in the data, length
 
-abbrev pub writeAs : ℕ → ℕ → ℕ → SheetWrite
-writeAs offset start n = record { offset = storeAt offset; start = start; length = n }
+abbrev pub write_as : ℕ → ℕ → ℕ → SheetWrite
+write_as offset start n = record { offset = store_at offset; start = start; length = n }
 
-abbrev pub noWrite : SheetWrite
-noWrite = writeAs 0 0 0
+abbrev pub no_write : SheetWrite
+no_write = write_as 0 0 0
 
-abbrev pub writeFrom : List ℕ → SheetWrite
-writeFrom row = writeAs (get_or row 0 0) (get_or row 1 0) (get_or row 2 0)
+abbrev pub write_from : List ℕ → SheetWrite
+write_from row = write_as (get_or row 0 0) (get_or row 1 0) (get_or row 2 0)
 
 -- words behind the last whole row say nothing
-unfoldable pub writesIn : List ℕ → List SheetWrite
-writesIn words = rows writeFrom 3 (length words / 3) words
+unfoldable pub writes_in : List ℕ → List SheetWrite
+writes_in words = rows write_from 3 (length words / 3) words
 
 abbrev pub row_of : SheetWrite → List ℕ
 row_of w = w.offset.0 ∷ w.start ∷ w.length ∷ []
@@ -35,25 +35,25 @@ words_of [] = []
 words_of (w ∷ ws) = row_of w ++ words_of ws
 
 -- the range that a write covers
-abbrev pub rangeFor : SheetWrite → Range
-rangeFor w = range_of w.offset.0 (w.offset.0 + w.length)
+abbrev pub range_for : SheetWrite → Range
+range_for w = range_of w.offset.0 (w.offset.0 + w.length)
 
 abbrev pub covers : SheetWrite → ℕ → Bool
-covers w k = in_range (rangeFor w) k
+covers w k = in_range (range_for w) k
 
 -- ---- what is refused
 
 -- "one is empty, wraps or lies outside the data", which has n bytes
-unfoldable pub isSound : ℕ → SheetWrite → Bool
-isSound n w = ltb 0 w.length && fits (w.offset.0 + w.length) && leb (w.start + w.length) n
+unfoldable pub is_sound : ℕ → SheetWrite → Bool
+is_sound n w = ltb 0 w.length && fits (w.offset.0 + w.length) && leb (w.start + w.length) n
 
-unfoldable pub allSound : ℕ → List SheetWrite → Bool
-allSound n [] = true
-allSound n (w ∷ ws) = isSound n w && allSound n ws
+unfoldable pub all_sound : ℕ → List SheetWrite → Bool
+all_sound n [] = true
+all_sound n (w ∷ ws) = is_sound n w && all_sound n ws
 
 -- "220 if there are over 64 writes or one is [..]"
-unfoldable pub sheetFits : ℕ → List SheetWrite → Bool
-sheetFits n ws = leb (length ws) 64 && allSound n ws
+unfoldable pub sheet_fits : ℕ → List SheetWrite → Bool
+sheet_fits n ws = leb (length ws) 64 && all_sound n ws
 
 -- ---- the joined ranges: "ascending ranges with a gap between any two"
 
@@ -64,12 +64,12 @@ insert a e (r ∷ rs) =
     pick (ltb e r.start.0) (range_of a e ∷ r ∷ rs)
     (pick (ltb r.end.0 a) (r ∷ insert a e rs) (insert (min a r.start.0) (max e r.end.0) rs))
 
-unfoldable pub rangesFrom : List Range → List SheetWrite → List Range
-rangesFrom rs [] = rs
-rangesFrom rs (w ∷ ws) = rangesFrom (insert w.offset.0 (w.offset.0 + w.length) rs) ws
+unfoldable pub ranges_from : List Range → List SheetWrite → List Range
+ranges_from rs [] = rs
+ranges_from rs (w ∷ ws) = ranges_from (insert w.offset.0 (w.offset.0 + w.length) rs) ws
 
-abbrev pub rangesOf : List SheetWrite → List Range
-rangesOf ws = rangesFrom [] ws
+abbrev pub ranges_of : List SheetWrite → List Range
+ranges_of ws = ranges_from [] ws
 
 abbrev pub size_of : Range → ℕ
 size_of r = r.end.0 - r.start.0
@@ -82,19 +82,19 @@ total_of (r ∷ rs) = size_of r + total_of rs
 -- ---- their bytes
 
 -- "where two cover a byte the later one wins": the place of the last write that covers k; their number where none does
-unfoldable pub ownerFrom : ℕ → ℕ → List SheetWrite → ℕ → ℕ
-ownerFrom i owner [] k = owner
-ownerFrom i owner (w ∷ ws) k = ownerFrom (suc i) (pick (covers w k) i owner) ws k
+unfoldable pub owner_from : ℕ → ℕ → List SheetWrite → ℕ → ℕ
+owner_from i owner [] k = owner
+owner_from i owner (w ∷ ws) k = owner_from (suc i) (pick (covers w k) i owner) ws k
 
-abbrev pub ownerOf : List SheetWrite → ℕ → ℕ
-ownerOf ws k = ownerFrom 0 (length ws) ws k
+abbrev pub owner_of : List SheetWrite → ℕ → ℕ
+owner_of ws k = owner_from 0 (length ws) ws k
 
 -- "with their bytes in lent data": the byte that a write puts at k
 abbrev pub byte_of : List ℕ → SheetWrite → ℕ → ℕ
 byte_of memory w k = get_or memory (w.start + (k - w.offset.0)) 0
 
-unfoldable pub joinedByte : List ℕ → List SheetWrite → Bytes
-joinedByte memory ws k = byte_of memory (get_or ws (ownerOf ws k) noWrite) k
+unfoldable pub joined_byte : List ℕ → List SheetWrite → Bytes
+joined_byte memory ws k = byte_of memory (get_or ws (owner_of ws k) no_write) k
 
 -- "packed in that order"
 unfoldable pub packed : Bytes → List Range → List ℕ
@@ -104,14 +104,14 @@ packed s (r ∷ rs) = window s r.start.0 (size_of r) ++ packed s rs
 -- the ranges as writes, whose bytes lie so in the output, from `at` on
 unfoldable pub placed : ℕ → List Range → List SheetWrite
 placed at [] = []
-placed at (r ∷ rs) = writeAs r.start.0 at (size_of r) ∷ placed (at + size_of r) rs
+placed at (r ∷ rs) = write_as r.start.0 at (size_of r) ∷ placed (at + size_of r) rs
 
-abbrev pub joinedOf : List SheetWrite → List SheetWrite
-joinedOf ws = placed 0 (rangesOf ws)
+abbrev pub joined_of : List SheetWrite → List SheetWrite
+joined_of ws = placed 0 (ranges_of ws)
 
 -- "at the front of a lent output, its rest untouched"
-abbrev pub inFront : List ℕ → List ℕ → List ℕ
-inFront new old = put old 0 new
+abbrev pub in_front : List ℕ → List ℕ → List ℕ
+in_front new old = put old 0 new
 
 -- ---- the call: its answer, and every byte of the output and word of the joined writes after it
 
@@ -120,22 +120,22 @@ pub record Joins : Type 0 where
   pub output : List ℕ
   pub joined : List ℕ
 
-abbrev pub refusedAs : Refusal → List ℕ → List ℕ → Joins
-refusedAs r output words = record { answer = Refused r; output = output; joined = words }
+abbrev pub refused_as : Refusal → List ℕ → List ℕ → Joins
+refused_as r output words = record { answer = Refused r; output = output; joined = words }
 
-abbrev pub joinedAs : List SheetWrite → List ℕ → List ℕ → List ℕ → Joins
-joinedAs ws memory output words = record {
-  answer = Into (record { ranges = length (rangesOf ws); bytes = total_of (rangesOf ws) });
-  output = inFront (packed (joinedByte memory ws) (rangesOf ws)) output;
-  joined = inFront (words_of (joinedOf ws)) words;
+abbrev pub joined_as : List SheetWrite → List ℕ → List ℕ → List ℕ → Joins
+joined_as ws memory output words = record {
+  answer = Into (record { ranges = length (ranges_of ws); bytes = total_of (ranges_of ws) });
+  output = in_front (packed (joined_byte memory ws) (ranges_of ws)) output;
+  joined = in_front (words_of (joined_of ws)) words;
 }
 
 -- "219 if the output is shorter than the joined bytes; 220 if [..]. 220 is tested first."
 unfoldable pub join_of : List SheetWrite → List ℕ → List ℕ → List ℕ → Joins
 join_of ws memory output words =
-    pick (sheetFits (length memory) ws)
-    (pick (leb (total_of (rangesOf ws)) (length output)) (joinedAs ws memory output words) (refusedAs NoRoom output words))
-    (refusedAs BadSheet output words)
+    pick (sheet_fits (length memory) ws)
+    (pick (leb (total_of (ranges_of ws)) (length output)) (joined_as ws memory output words) (refused_as NoRoom output words))
+    (refused_as BadSheet output words)
 
 abbrev pub JoinsAs : Joins → Joined → List ℕ → List ℕ → Type 0
 JoinsAs j answer output words = (answer ≡ j.answer) × (output ≡ j.output) × (words ≡ j.joined)

@@ -1,23 +1,23 @@
 -- What the parts of the sweep promise each other. A stretch from `at` up to its end has one owner throughout.
 use Rattle.std.specs.Prelude.{◌≡◌, true, List, [], ◌∷◌, ℕ, ◌+◌, ◌<◌, ◌≤◌, length}
-use Rattle.sheets.specs.Sheets.{sheetFits, ownerOf, rangesOf, total_of, joinedOf, joinedByte, packed, words_of, inFront}
+use Rattle.sheets.specs.Sheets.{sheet_fits, owner_of, ranges_of, total_of, joined_of, joined_byte, packed, words_of, in_front}
 use Rattle.sheets.specs.declared.sheet.SheetWrite.{SheetWrite}
 use Rattle.sheets.specs.declared.joining.Stretch.{Stretch}
 use Rattle.sheets.specs.declared.joining.Size.{Size}
 
 -- no refusal, over data of some length
 abbrev pub Fit : List SheetWrite → Type 0
-Fit ws = (n : ℕ) × (sheetFits n ws ≡ true)
+Fit ws = (n : ℕ) × (sheet_fits n ws ≡ true)
 
 pub record Owned (ws : List SheetWrite) (at : ℕ) (s : Stretch) : Type 0 where
   pub ahead : at < s.end
   pub most : s.end ≤ 18446744073709551615
-  pub owned : (k : ℕ) → at ≤ k → k < s.end → ownerOf ws k ≡ s.owner
+  pub owned : (k : ℕ) → at ≤ k → k < s.end → owner_of ws k ≡ s.owner
 
 -- the lengths of all writes
-unfoldable pub lengthsOf : List SheetWrite → ℕ
-lengthsOf [] = 0
-lengthsOf (w ∷ ws) = w.length + lengthsOf ws
+unfoldable pub lengths_of : List SheetWrite → ℕ
+lengths_of [] = 0
+lengths_of (w ∷ ws) = w.length + lengths_of ws
 
 -- a stretch of a write whose bytes lie in n bytes of data
 pub record Lies (w : SheetWrite) (at end n : ℕ) : Type 0 where
@@ -29,13 +29,13 @@ pub record Lies (w : SheetWrite) (at end n : ℕ) : Type 0 where
 
 -- no refusal: the sheet fits n bytes of data, its ranges m bytes of output, its rows all words
 pub record Room (ws : List SheetWrite) (n m words : ℕ) : Type 0 where
-  pub fit : sheetFits n ws ≡ true
-  pub room : total_of (rangesOf ws) ≤ m
+  pub fit : sheet_fits n ws ≡ true
+  pub room : total_of (ranges_of ws) ≤ m
   pub wide : words ≡ 192
 
 -- the bytes and the rows of a sheet that fits are put in front of what was there, and the ranges are counted
 abbrev pub PacksAs : List SheetWrite → List ℕ → Size → List ℕ → List ℕ → List ℕ → List ℕ → Type 0
-PacksAs ws memory size output words outputAfter wordsAfter =
-    (size ≡ record { ranges = length (rangesOf ws); bytes = total_of (rangesOf ws) })
-    × (outputAfter ≡ inFront (packed (joinedByte memory ws) (rangesOf ws)) output)
-    × (wordsAfter ≡ inFront (words_of (joinedOf ws)) words)
+PacksAs ws memory size output words outputAfter words_after =
+    (size ≡ record { ranges = length (ranges_of ws); bytes = total_of (ranges_of ws) })
+    × (outputAfter ≡ in_front (packed (joined_byte memory ws) (ranges_of ws)) output)
+    × (words_after ≡ in_front (words_of (joined_of ws)) words)

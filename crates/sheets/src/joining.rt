@@ -2,8 +2,8 @@
 // each byte of the output is written once; there are at most 128 bounds, and all writes are looked at in each turn.
 ghost use Rattle.std.specs.Prelude.{◌≡◌, ◌+◌, ◌-◌, ◌<◌, ◌≤◌, leb, length, take, drop};
 ghost use Rattle.vectors.specs.Vectors.{put};
-ghost use Rattle.sheets.specs.Sheets.{writesIn, rangesOf, total_of, join_of, JoinsAs};
-ghost use Rattle.sheets.specs.Stretches.{Fit, Owned, Lies, Room, lengthsOf, PacksAs};
+ghost use Rattle.sheets.specs.Sheets.{writes_in, ranges_of, total_of, join_of, JoinsAs};
+ghost use Rattle.sheets.specs.Stretches.{Fit, Owned, Lies, Room, lengths_of, PacksAs};
 
 use crate::sheet::{SheetWrite, get_write, put_write, sheet_fits};
 use arithmetic::offsets::{LARGEST, StoreOffset, lesser};
@@ -32,8 +32,8 @@ pub enum Joined {
 
 // The stretch from `at` on: up to the next bound of a write, or to the last offset.
 fn look(writes: &[u64], at: u64) -> Stretch
-    requires { Fit (writesIn writes.now) × (at < 18446744073709551615) }
-    ensures { Owned (writesIn writes.now) at result }
+    requires { Fit (writes_in writes.now) × (at < 18446744073709551615) }
+    ensures { Owned (writes_in writes.now) at result }
 {
     let n = writes.len() / 3;
     let mut owner = n;
@@ -56,8 +56,8 @@ fn look(writes: &[u64], at: u64) -> Stretch
 
 // How many bytes the joined ranges have.
 fn measure(writes: &[u64]) -> u64
-    requires { Fit (writesIn writes.now) }
-    ensures { result ≡ total_of (rangesOf (writesIn writes.now)) }
+    requires { Fit (writes_in writes.now) }
+    ensures { result ≡ total_of (ranges_of (writes_in writes.now)) }
 {
     let n = writes.len() / 3;
     let mut total: u64 = 0;
@@ -74,7 +74,7 @@ fn measure(writes: &[u64]) -> u64
 
 // Whether `room` bytes suffice for all writes, as if none covered a byte of another.
 fn holds_all(writes: &[u64], room: u64) -> bool
-    ensures { result ≡ leb (lengthsOf (writesIn writes.now)) room }
+    ensures { result ≡ leb (lengths_of (writes_in writes.now)) room }
 {
     let n = writes.len() / 3;
     let mut left = room;
@@ -92,8 +92,8 @@ fn holds_all(writes: &[u64], room: u64) -> bool
 
 // Whether `room` bytes suffice for the joined ranges. They are counted only where the writes' lengths do not decide it.
 fn has_room(writes: &[u64], room: u64) -> bool
-    requires { Fit (writesIn writes.now) }
-    ensures { result ≡ leb (total_of (rangesOf (writesIn writes.now))) room }
+    requires { Fit (writes_in writes.now) }
+    ensures { result ≡ leb (total_of (ranges_of (writes_in writes.now))) room }
 {
     if holds_all(writes, room) {
         return true;
@@ -116,8 +116,8 @@ fn carry(w: SheetWrite, data: &[u8], output: &mut [u8], at: u64, end: u64, fille
 
 // The bytes of the ranges into the output, and a row for each of them; how many both are. The row of a range that goes on is written anew.
 fn pack(writes: &[u64], data: &[u8], output: &mut [u8], joined: &mut [u64]) -> Size
-    requires { Room (writesIn writes.now) (length «data».now) (length output.old) (length joined.old) }
-    ensures { PacksAs (writesIn writes.now) «data».now result output.old joined.old
+    requires { Room (writes_in writes.now) (length «data».now) (length output.old) (length joined.old) }
+    ensures { PacksAs (writes_in writes.now) «data».now result output.old joined.old
         output.new joined.new }
 {
     let n = writes.len() / 3;
@@ -159,7 +159,7 @@ fn pack(writes: &[u64], data: &[u8], output: &mut [u8], joined: &mut [u64]) -> S
 // Join the writes: refused with 220, then with 219, before a byte or a word is written.
 pub fn join(writes: &[u64], data: &[u8], output: &mut [u8], joined: &mut [u64; 192]) -> Joined
     ensures { JoinsAs
-        (join_of (writesIn writes.now) «data».now output.old joined.old)
+        (join_of (writes_in writes.now) «data».now output.old joined.old)
         result output.new joined.new }
 {
     if !sheet_fits(writes, data.len()) {

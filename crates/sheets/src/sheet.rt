@@ -1,7 +1,7 @@
 // A sheet: writes whose bytes lie in lent data, each in a row of three words. Offset on the store, start in the data, length.
 ghost use Rattle.std.specs.Prelude.{◌≡◌, ◌+◌, ◌*◌, ◌<◌, ◌≤◌, length, get_or};
 ghost use Rattle.arithmetic.specs.Rows.{put};
-ghost use Rattle.sheets.specs.Sheets.{noWrite, writesIn, row_of, isSound, sheetFits};
+ghost use Rattle.sheets.specs.Sheets.{no_write, writes_in, row_of, is_sound, sheet_fits};
 
 use arithmetic::offsets::{LARGEST, StoreOffset};
 
@@ -17,8 +17,8 @@ pub const MOST_WRITES: usize = 64;
 
 // The write in row i.
 pub(crate) fn get_write(writes: &[u64], i: usize) -> SheetWrite
-    requires { i < length (writesIn writes.now) }
-    ensures { result ≡ get_or (writesIn writes.now) i noWrite }
+    requires { i < length (writes_in writes.now) }
+    ensures { result ≡ get_or (writes_in writes.now) i no_write }
 {
     let at = i * 3;
     SheetWrite {
@@ -42,7 +42,7 @@ pub(crate) fn put_write(writes: &mut [u64], i: usize, w: SheetWrite)
 impl SheetWrite {
     // Whether it is not empty, does not wrap and lies in the data.
     fn is_sound(self, data_len: usize) -> bool
-        ensures { result ≡ isSound data_len self }
+        ensures { result ≡ is_sound data_len self }
     {
         if self.length == 0 {
             return false;
@@ -60,7 +60,7 @@ impl SheetWrite {
 
 // Whether a sheet has at most 64 writes, and all are sound.
 pub(crate) fn sheet_fits(writes: &[u64], data_len: usize) -> bool
-    ensures { result ≡ sheetFits data_len (writesIn writes.now) }
+    ensures { result ≡ sheet_fits data_len (writes_in writes.now) }
 {
     let n = writes.len() / 3;
     if MOST_WRITES < n {

@@ -1,11 +1,11 @@
 -- A job's stages: document 01's "Requests of a padded write", "Reads", "Zeroes", "Discard" and "Events", for one job.
 use Rattle.std.specs.Prelude.{Bool, true, false, ◌&&◌, ◌||◌, not, ℕ, ◌+◌, ◌-◌, ◌^◌, ◌<◌, ◌≤◌, ltb, leb, eqb}
-use Rattle.arithmetic.specs.Rounding.{pick, isMultiple}
+use Rattle.arithmetic.specs.Rounding.{pick, is_multiple}
 use Rattle.arithmetic.specs.Refusals.{number_of}
-use Rattle.arithmetic.specs.Offsets.{bufferAt, range_of}
-use Rattle.arithmetic.specs.Settings.{lengthAlign}
-use Rattle.arithmetic.specs.Padding.{transferOf, reads_of}
-use Rattle.arithmetic.specs.Zeroes.{zeroCutOf, discardCutOf, chunk_of}
+use Rattle.arithmetic.specs.Offsets.{buffer_at, range_of}
+use Rattle.arithmetic.specs.Settings.{length_align}
+use Rattle.arithmetic.specs.Padding.{transfer_of, reads_of}
+use Rattle.arithmetic.specs.Zeroes.{zero_cut_of, discard_cut_of, chunk_of}
 use Rattle.arithmetic.specs.declared.refusals.Refusal.TheVariants.{TooLong}
 use Rattle.arithmetic.specs.declared.offsets.StoreOffset.{StoreOffset}
 use Rattle.arithmetic.specs.declared.offsets.Range.{Range}
@@ -53,8 +53,8 @@ pub record Holds (s : Span) : Type 0 where
 -- ---- the stage of one request, or of a padded write
 
 -- a request that goes to the store as it is
-unfoldable pub directStage : Range → Stage
-directStage r = record { asked = r; request = r; first = range_of 0 0; second = range_of 0 0; head = bufferAt 0; strong = false }
+unfoldable pub direct_stage : Range → Stage
+direct_stage r = record { asked = r; request = r; first = range_of 0 0; second = range_of 0 0; head = buffer_at 0; strong = false }
 
 -- the ranges of a padded write's reads: "one read of all", or "of the first H bytes if H > 0, then of the last T if T > 0"
 abbrev pub first_of : Span → Reads → Range
@@ -72,8 +72,8 @@ second_of s (ReadTail t) = range_of (s.end.0 - t) s.end.0
 second_of s (HeadThenTail h t) = range_of (s.end.0 - t) s.end.0
 
 -- a request that goes through the bounce buffer
-unfoldable pub paddedStage : Span → Range → Stage
-paddedStage s r = record {
+unfoldable pub padded_stage : Span → Range → Stage
+padded_stage s r = record {
   asked = r;
   request = record { start = s.start; end = s.end };
   first = first_of s (reads_of s);
@@ -84,12 +84,12 @@ paddedStage s r = record {
 
 -- The range of a stage's blocker, today that of its request: "over their range" for direct ones, "over the padded range" for padded writes.
 -- The theorem on every list asks of it only that the request lies inside.
-abbrev pub blockedOf : Stage → Range
-blockedOf g = g.request
+abbrev pub blocked_of : Stage → Range
+blocked_of g = g.request
 
 -- the first phase of a write from the bounce buffer: its reads come first
-unfoldable pub firstPhase : Stage → Phase
-firstPhase g = pick (ltb 0 (size_of g.first)) FirstRead (pick (ltb 0 (size_of g.second)) SecondRead BouncedWrite)
+unfoldable pub first_phase : Stage → Phase
+first_phase g = pick (ltb 0 (size_of g.first)) FirstRead (pick (ltb 0 (size_of g.second)) SecondRead BouncedWrite)
 
 -- ---- the first stage of each job
 
@@ -97,75 +97,75 @@ abbrev pub state_of : Job → Range → Range → Course → Stage → Phase →
 state_of j r m c g ph = record { phase = ph; answer = 0; job = j; range = r; middle = m; course = c; stage = g }
 
 -- "206: padded length over the share"
-abbrev pub inBounce : Settings → Span → Plan → Plan
-inBounce s x p = pick (leb x.length s.bounce) p (Refused TooLong)
+abbrev pub in_bounce : Settings → Span → Plan → Plan
+in_bounce s x p = pick (leb x.length s.bounce) p (Refused TooLong)
 
 abbrev pub asked : StoreOffset → ℕ → Range
 asked o n = range_of o.0 (o.0 + n)
 
 -- the first phase of a padded request: a read is one request, a write has its reads first
-abbrev pub bouncedPhase : Job → Stage → Phase
-bouncedPhase Read g = BouncedRead
-bouncedPhase Write g = firstPhase g
-bouncedPhase Zeroes g = firstPhase g
-bouncedPhase AllocatedZeroes g = firstPhase g
-bouncedPhase Discard g = firstPhase g
+abbrev pub bounced_phase : Job → Stage → Phase
+bounced_phase Read g = BouncedRead
+bounced_phase Write g = first_phase g
+bounced_phase Zeroes g = first_phase g
+bounced_phase AllocatedZeroes g = first_phase g
+bounced_phase Discard g = first_phase g
 
 -- a job over a vector of n bytes at o: direct in phase d, or padded
-abbrev pub vectorBy : Settings → Job → Phase → StoreOffset → ℕ → Transfer → Plan
-vectorBy s j d o n (Direct r) = Started (state_of j r (range_of 0 0) Last (directStage r) d)
-vectorBy s j d o n (Bounced x) =
-    inBounce s x (Started (state_of j (asked o n) (range_of 0 0) Last (paddedStage x (asked o n))
-    (bouncedPhase j (paddedStage x (asked o n)))))
-vectorBy s j d o n (NoTransfer r) = Refused r
+abbrev pub vector_by : Settings → Job → Phase → StoreOffset → ℕ → Transfer → Plan
+vector_by s j d o n (Direct r) = Started (state_of j r (range_of 0 0) Last (direct_stage r) d)
+vector_by s j d o n (Bounced x) =
+    in_bounce s x (Started (state_of j (asked o n) (range_of 0 0) Last (padded_stage x (asked o n))
+    (bounced_phase j (padded_stage x (asked o n)))))
+vector_by s j d o n (NoTransfer r) = Refused r
 
-abbrev pub vectorPlan : Settings → Job → Phase → StoreOffset → ℕ → Bool → Plan
-vectorPlan s j d o n aligned = pick (eqb n 0) Done (vectorBy s j d o n (transferOf s.align o n aligned))
+abbrev pub vector_plan : Settings → Job → Phase → StoreOffset → ℕ → Bool → Plan
+vector_plan s j d o n aligned = pick (eqb n 0) Done (vector_by s j d o n (transfer_of s.align o n aligned))
 
 -- "Reads. Direct: one request into the pieces. Padded: one read of the padded range into the share"
-unfoldable pub readPlan : Settings → StoreOffset → ℕ → Bool → Plan
-readPlan s o n aligned = vectorPlan s Read DirectRead o n aligned
+unfoldable pub read_plan : Settings → StoreOffset → ℕ → Bool → Plan
+read_plan s o n aligned = vector_plan s Read DirectRead o n aligned
 
-unfoldable pub writePlan : Settings → StoreOffset → ℕ → Bool → Plan
-writePlan s o n aligned = vectorPlan s Write DirectWrite o n aligned
+unfoldable pub write_plan : Settings → StoreOffset → ℕ → Bool → Plan
+write_plan s o n aligned = vector_plan s Write DirectWrite o n aligned
 
 -- a write of zeroes over r, from the bounce buffer: it starts at a multiple of M, so it is aligned where its length is a multiple of L
-abbrev pub zeroesBy : Settings → Job → Range → Range → Course → Range → Transfer → Plan
-zeroesBy s j whole m c r (Direct x) = pick (leb (size_of r) s.bounce) (Started (state_of j whole m c (directStage r) BouncedWrite))
+abbrev pub zeroes_by : Settings → Job → Range → Range → Course → Range → Transfer → Plan
+zeroes_by s j whole m c r (Direct x) = pick (leb (size_of r) s.bounce) (Started (state_of j whole m c (direct_stage r) BouncedWrite))
     (Refused TooLong)
-zeroesBy s j whole m c r (Bounced x) = inBounce s x (Started (state_of j whole m c (paddedStage x r) (firstPhase (paddedStage x r))))
-zeroesBy s j whole m c r (NoTransfer n) = Refused n
+zeroes_by s j whole m c r (Bounced x) = in_bounce s x (Started (state_of j whole m c (padded_stage x r) (first_phase (padded_stage x r))))
+zeroes_by s j whole m c r (NoTransfer n) = Refused n
 
-unfoldable pub zeroesPlan : Settings → Job → Range → Range → Course → Range → Plan
-zeroesPlan s j whole m c r =
-    zeroesBy s j whole m c r (transferOf s.align r.start (size_of r) (isMultiple (size_of r) (lengthAlign s.align)))
+unfoldable pub zeroes_plan : Settings → Job → Range → Range → Course → Range → Plan
+zeroes_plan s j whole m c r =
+    zeroes_by s j whole m c r (transfer_of s.align r.start (size_of r) (is_multiple (size_of r) (length_align s.align)))
 
 -- "If end > start: one zero request between [..] Otherwise one write of zeroes over the whole."
-abbrev pub zeroBy : Settings → Job → StoreOffset → ℕ → ZeroCut → Plan
-zeroBy s j o n NoCut = Done
-zeroBy s j o n (Whole r) = zeroesPlan s j r (range_of 0 0) Last r
-zeroBy s j o n (Split c) = Started (state_of j (asked o n) c.middle Middle (directStage c.middle) ZeroRequest)
-zeroBy s j o n (CutRefused r) = Refused r
+abbrev pub zero_by : Settings → Job → StoreOffset → ℕ → ZeroCut → Plan
+zero_by s j o n NoCut = Done
+zero_by s j o n (Whole r) = zeroes_plan s j r (range_of 0 0) Last r
+zero_by s j o n (Split c) = Started (state_of j (asked o n) c.middle Middle (direct_stage c.middle) ZeroRequest)
+zero_by s j o n (CutRefused r) = Refused r
 
-abbrev pub zeroJob : Bool → Job
-zeroJob true = AllocatedZeroes
-zeroJob false = Zeroes
+abbrev pub zero_job : Bool → Job
+zero_job true = AllocatedZeroes
+zero_job false = Zeroes
 
-unfoldable pub zeroPlan : Settings → Bool → StoreOffset → ℕ → Plan
-zeroPlan s allocate o n = zeroBy s (zeroJob allocate) o n (zeroCutOf s.align o n)
+unfoldable pub zero_plan : Settings → Bool → StoreOffset → ℕ → Plan
+zero_plan s allocate o n = zero_by s (zero_job allocate) o n (zero_cut_of s.align o n)
 
-abbrev pub discardBy : StoreOffset → ℕ → DiscardCut → Plan
-discardBy o n NoDiscard = Done
-discardBy o n (DiscardMiddle r) = Started (state_of Discard (asked o n) (range_of 0 0) Last (directStage r) DiscardRequest)
-discardBy o n (DiscardRefused r) = Refused r
+abbrev pub discard_by : StoreOffset → ℕ → DiscardCut → Plan
+discard_by o n NoDiscard = Done
+discard_by o n (DiscardMiddle r) = Started (state_of Discard (asked o n) (range_of 0 0) Last (direct_stage r) DiscardRequest)
+discard_by o n (DiscardRefused r) = Refused r
 
-unfoldable pub discardPlan : Settings → StoreOffset → ℕ → Plan
-discardPlan s o n = discardBy o n (discardCutOf s.align o n)
+unfoldable pub discard_plan : Settings → StoreOffset → ℕ → Plan
+discard_plan s o n = discard_by o n (discard_cut_of s.align o n)
 
 -- ---- what a told code leads to
 
-abbrev pub inPhase : Phase → State → State
-inPhase ph x = record {
+abbrev pub in_phase : Phase → State → State
+in_phase ph x = record {
   phase = ph;
   answer = x.answer;
   job = x.job;
@@ -176,8 +176,8 @@ inPhase ph x = record {
 }
 
 -- "A failure ends the job with that number"
-abbrev pub endedWith : ℕ → State → State
-endedWith a x = record {
+abbrev pub ended_with : ℕ → State → State
+ended_with a x = record {
   phase = Ended;
   answer = a;
   job = x.job;
@@ -188,170 +188,170 @@ endedWith a x = record {
 }
 
 -- "A 207 met by a later piece of a zero job ends it with 207"
-abbrev pub laterStage : State → Plan → Step
-laterStage x Done = Ends (endedWith 0 x)
-laterStage x (Started y) = Enters y
-laterStage x (Refused r) = Ends (endedWith (number_of r) x)
+abbrev pub later_stage : State → Plan → Step
+later_stage x Done = Ends (ended_with 0 x)
+later_stage x (Started y) = Enters y
+later_stage x (Refused r) = Ends (ended_with (number_of r) x)
 
 -- a write of zeroes over r as the job's next stage
-abbrev pub zeroesNext : Settings → State → Course → Range → Step
-zeroesNext s x c r = laterStage x (zeroesPlan s x.job x.range x.middle c r)
+abbrev pub zeroes_next : Settings → State → Course → Range → Step
+zeroes_next s x c r = later_stage x (zeroes_plan s x.job x.range x.middle c r)
 
-abbrev pub chunkBy : Settings → State → Chunk → Step
-chunkBy s x NoChunk = Ends (endedWith 0 x)
-chunkBy s x (Next r) = zeroesNext s x Chunks r
-chunkBy s x (ChunkRefused r) = Ends (endedWith (number_of r) x)
+abbrev pub chunk_by : Settings → State → Chunk → Step
+chunk_by s x NoChunk = Ends (ended_with 0 x)
+chunk_by s x (Next r) = zeroes_next s x Chunks r
+chunk_by s x (ChunkRefused r) = Ends (ended_with (number_of r) x)
 
 -- the next chunk of `write_full_zeroes`, from o on
-unfoldable pub chunkNext : Settings → State → StoreOffset → Step
-chunkNext s x o = chunkBy s x (chunk_of s (record { start = o; end = x.range.end }))
+unfoldable pub chunk_next : Settings → State → StoreOffset → Step
+chunk_next s x o = chunk_by s x (chunk_of s (record { start = o; end = x.range.end }))
 
 -- "then to the tail, where not empty"
-unfoldable pub tailNext : Settings → State → Step
-tailNext s x =
+unfoldable pub tail_next : Settings → State → Step
+tail_next s x =
     let r : Range = record { start = x.middle.end; end = x.range.end } in
-    pick (ltb 0 (size_of r)) (zeroesNext s x Last r) (Ends (endedWith 0 x))
+    pick (ltb 0 (size_of r)) (zeroes_next s x Last r) (Ends (ended_with 0 x))
 
 -- "then a write of zeroes to the head, then to the tail, where not empty"
-unfoldable pub headNext : Settings → State → Step
-headNext s x =
+unfoldable pub head_next : Settings → State → Step
+head_next s x =
     let r : Range = record { start = x.range.start; end = x.middle.start } in
-    pick (ltb 0 (size_of r)) (zeroesNext s x Head r) (tailNext s x)
+    pick (ltb 0 (size_of r)) (zeroes_next s x Head r) (tail_next s x)
 
 -- the stage is done
-abbrev pub stageDone : Course → Settings → State → Step
-stageDone Last s x = Ends (endedWith 0 x)
-stageDone Middle s x = headNext s x
-stageDone Head s x = tailNext s x
-stageDone Chunks s x = chunkNext s x x.stage.asked.end
+abbrev pub stage_done : Course → Settings → State → Step
+stage_done Last s x = Ends (ended_with 0 x)
+stage_done Middle s x = head_next s x
+stage_done Head s x = tail_next s x
+stage_done Chunks s x = chunk_next s x x.stage.asked.end
 
 -- "0 done"
-abbrev pub doneNext : Phase → Settings → State → Step
-doneNext Free s x = Ends (endedWith 0 x)
-doneNext Ended s x = Ends (endedWith 0 x)
-doneNext DirectRead s x = Ends (endedWith 0 x)
-doneNext BouncedRead s x = Ends (endedWith 0 x)
-doneNext FirstRead s x = Stays (inPhase (pick (ltb 0 (size_of x.stage.second)) SecondRead BouncedWrite) x)
-doneNext SecondRead s x = Stays (inPhase BouncedWrite x)
-doneNext BouncedWrite s x = stageDone x.course s x
-doneNext DirectWrite s x = Ends (endedWith 0 x)
-doneNext ZeroRequest s x = stageDone x.course s x
-doneNext DiscardRequest s x = Ends (endedWith 0 x)
+abbrev pub done_next : Phase → Settings → State → Step
+done_next Free s x = Ends (ended_with 0 x)
+done_next Ended s x = Ends (ended_with 0 x)
+done_next DirectRead s x = Ends (ended_with 0 x)
+done_next BouncedRead s x = Ends (ended_with 0 x)
+done_next FirstRead s x = Stays (in_phase (pick (ltb 0 (size_of x.stage.second)) SecondRead BouncedWrite) x)
+done_next SecondRead s x = Stays (in_phase BouncedWrite x)
+done_next BouncedWrite s x = stage_done x.course s x
+done_next DirectWrite s x = Ends (ended_with 0 x)
+done_next ZeroRequest s x = stage_done x.course s x
+done_next DiscardRequest s x = Ends (ended_with 0 x)
 
 -- "1 unsupported": a zero job falls back on `write_full_zeroes` over its whole range, a discard is done, all else ends with it
-abbrev pub unsupportedNext : Phase → Settings → State → Step
-unsupportedNext ZeroRequest s x = chunkNext s x x.range.start
-unsupportedNext DiscardRequest s x = Ends (endedWith 0 x)
-unsupportedNext Free s x = Ends (endedWith 1 x)
-unsupportedNext Ended s x = Ends (endedWith 1 x)
-unsupportedNext DirectRead s x = Ends (endedWith 1 x)
-unsupportedNext BouncedRead s x = Ends (endedWith 1 x)
-unsupportedNext FirstRead s x = Ends (endedWith 1 x)
-unsupportedNext SecondRead s x = Ends (endedWith 1 x)
-unsupportedNext BouncedWrite s x = Ends (endedWith 1 x)
-unsupportedNext DirectWrite s x = Ends (endedWith 1 x)
+abbrev pub unsupported_next : Phase → Settings → State → Step
+unsupported_next ZeroRequest s x = chunk_next s x x.range.start
+unsupported_next DiscardRequest s x = Ends (ended_with 0 x)
+unsupported_next Free s x = Ends (ended_with 1 x)
+unsupported_next Ended s x = Ends (ended_with 1 x)
+unsupported_next DirectRead s x = Ends (ended_with 1 x)
+unsupported_next BouncedRead s x = Ends (ended_with 1 x)
+unsupported_next FirstRead s x = Ends (ended_with 1 x)
+unsupported_next SecondRead s x = Ends (ended_with 1 x)
+unsupported_next BouncedWrite s x = Ends (ended_with 1 x)
+unsupported_next DirectWrite s x = Ends (ended_with 1 x)
 
 -- the job after its request's code
-unfoldable pub toldOf : Settings → State → ℕ → Step
-toldOf s x code =
-    pick (eqb code 0) (doneNext x.phase s x) (pick (eqb code 1) (unsupportedNext x.phase s x) (Ends (endedWith code x)))
+unfoldable pub told_of : Settings → State → ℕ → Step
+told_of s x code =
+    pick (eqb code 0) (done_next x.phase s x) (pick (eqb code 1) (unsupported_next x.phase s x) (Ends (ended_with code x)))
 
 -- ---- what is out
 
-abbrev pub isFree : Phase → Bool
-isFree Free = true
-isFree Ended = false
-isFree DirectRead = false
-isFree BouncedRead = false
-isFree FirstRead = false
-isFree SecondRead = false
-isFree BouncedWrite = false
-isFree DirectWrite = false
-isFree ZeroRequest = false
-isFree DiscardRequest = false
+abbrev pub is_free : Phase → Bool
+is_free Free = true
+is_free Ended = false
+is_free DirectRead = false
+is_free BouncedRead = false
+is_free FirstRead = false
+is_free SecondRead = false
+is_free BouncedWrite = false
+is_free DirectWrite = false
+is_free ZeroRequest = false
+is_free DiscardRequest = false
 
-abbrev pub hasEnded : Phase → Bool
-hasEnded Free = false
-hasEnded Ended = true
-hasEnded DirectRead = false
-hasEnded BouncedRead = false
-hasEnded FirstRead = false
-hasEnded SecondRead = false
-hasEnded BouncedWrite = false
-hasEnded DirectWrite = false
-hasEnded ZeroRequest = false
-hasEnded DiscardRequest = false
+abbrev pub has_ended : Phase → Bool
+has_ended Free = false
+has_ended Ended = true
+has_ended DirectRead = false
+has_ended BouncedRead = false
+has_ended FirstRead = false
+has_ended SecondRead = false
+has_ended BouncedWrite = false
+has_ended DirectWrite = false
+has_ended ZeroRequest = false
+has_ended DiscardRequest = false
 
 -- it has a request that is out or waited for
-abbrev pub isPending : Phase → Bool
-isPending ph = not (isFree ph || hasEnded ph)
+abbrev pub is_pending : Phase → Bool
+is_pending ph = not (is_free ph || has_ended ph)
 
 -- "reads enter none": whether a job in this phase has a blocker
-abbrev pub isBlocking : Phase → Bool
-isBlocking Free = false
-isBlocking Ended = false
-isBlocking DirectRead = false
-isBlocking BouncedRead = false
-isBlocking FirstRead = true
-isBlocking SecondRead = true
-isBlocking BouncedWrite = true
-isBlocking DirectWrite = true
-isBlocking ZeroRequest = true
-isBlocking DiscardRequest = true
+abbrev pub is_blocking : Phase → Bool
+is_blocking Free = false
+is_blocking Ended = false
+is_blocking DirectRead = false
+is_blocking BouncedRead = false
+is_blocking FirstRead = true
+is_blocking SecondRead = true
+is_blocking BouncedWrite = true
+is_blocking DirectWrite = true
+is_blocking ZeroRequest = true
+is_blocking DiscardRequest = true
 
-abbrev pub zeroKind : Job → Kind
-zeroKind Read = KZero
-zeroKind Write = KZero
-zeroKind Zeroes = KZero
-zeroKind AllocatedZeroes = KAllocatedZero
-zeroKind Discard = KZero
+abbrev pub zero_kind : Job → Kind
+zero_kind Read = KZero
+zero_kind Write = KZero
+zero_kind Zeroes = KZero
+zero_kind AllocatedZeroes = KAllocatedZero
+zero_kind Discard = KZero
 
 abbrev pub request : Kind → Range → ℕ → Request
 request k r n = record { kind = k; offset = r.start; length = size_of r; segments = n }
 
 -- the request of a job, whose vector has n segments
-abbrev pub requestBy : Phase → State → ℕ → Request
-requestBy Free x n = request KRead x.stage.request 0
-requestBy Ended x n = request KRead x.stage.request 0
-requestBy DirectRead x n = request KRead x.stage.request n
-requestBy BouncedRead x n = request KRead x.stage.request 1
-requestBy FirstRead x n = request KRead x.stage.first 1
-requestBy SecondRead x n = request KRead x.stage.second 1
-requestBy BouncedWrite x n = request KWrite x.stage.request 1
-requestBy DirectWrite x n = request KWrite x.stage.request n
-requestBy ZeroRequest x n = request (zeroKind x.job) x.stage.request 0
-requestBy DiscardRequest x n = request KDiscard x.stage.request 0
+abbrev pub request_by : Phase → State → ℕ → Request
+request_by Free x n = request KRead x.stage.request 0
+request_by Ended x n = request KRead x.stage.request 0
+request_by DirectRead x n = request KRead x.stage.request n
+request_by BouncedRead x n = request KRead x.stage.request 1
+request_by FirstRead x n = request KRead x.stage.first 1
+request_by SecondRead x n = request KRead x.stage.second 1
+request_by BouncedWrite x n = request KWrite x.stage.request 1
+request_by DirectWrite x n = request KWrite x.stage.request n
+request_by ZeroRequest x n = request (zero_kind x.job) x.stage.request 0
+request_by DiscardRequest x n = request KDiscard x.stage.request 0
 
-unfoldable pub requestOf : State → ℕ → Request
-requestOf x n = requestBy x.phase x n
+unfoldable pub request_of : State → ℕ → Request
+request_of x n = request_by x.phase x n
 
 -- ---- what a state keeps
 
 -- whether a job in this phase has bytes in its bounce buffer
-abbrev pub usesBounce : Phase → Bool
-usesBounce Free = false
-usesBounce Ended = false
-usesBounce DirectRead = false
-usesBounce BouncedRead = true
-usesBounce FirstRead = true
-usesBounce SecondRead = true
-usesBounce BouncedWrite = true
-usesBounce DirectWrite = false
-usesBounce ZeroRequest = false
-usesBounce DiscardRequest = false
+abbrev pub uses_bounce : Phase → Bool
+uses_bounce Free = false
+uses_bounce Ended = false
+uses_bounce DirectRead = false
+uses_bounce BouncedRead = true
+uses_bounce FirstRead = true
+uses_bounce SecondRead = true
+uses_bounce BouncedWrite = true
+uses_bounce DirectWrite = false
+uses_bounce ZeroRequest = false
+uses_bounce DiscardRequest = false
 
 -- where the second read's bytes start in the bounce buffer
-abbrev pub secondAt : Stage → ℕ
-secondAt g = g.second.start.0 - g.request.start.0
+abbrev pub second_at : Stage → ℕ
+second_at g = g.second.start.0 - g.request.start.0
 
 -- the stage's bytes lie in a bounce buffer of n bytes
-unfoldable pub liesIn : ℕ → Stage → Bool
-liesIn n g =
+unfoldable pub lies_in : ℕ → Stage → Bool
+lies_in n g =
     leb (g.head.0 + size_of g.asked) n
     && leb (size_of g.request) n
     && leb (size_of g.first) n
-    && leb (secondAt g + size_of g.second) n
+    && leb (second_at g + size_of g.second) n
 
 -- every state that a plan or a told code gives is sound; a state of no call's making may not be, and is refused
-unfoldable pub isSound : ℕ → State → Bool
-isSound n x = not (usesBounce x.phase) || liesIn n x.stage
+unfoldable pub is_sound : ℕ → State → Bool
+is_sound n x = not (uses_bounce x.phase) || lies_in n x.stage

@@ -4,10 +4,10 @@ use Rattle.std.proofs.Common.{arith}
 use Rattle.std.proofs.lemmas.Bool.{eqb-false}
 use Rattle.arithmetic.specs.Rounding.{pick}
 use Rattle.arithmetic.specs.Offsets.{range_of}
-use Rattle.arithmetic.specs.Settings.{alignmentsFit}
-use Rattle.arithmetic.specs.Padding.{transferOf, reads_of}
+use Rattle.arithmetic.specs.Settings.{alignments_fit}
+use Rattle.arithmetic.specs.Padding.{transfer_of, reads_of}
 use Rattle.arithmetic.specs.PaddingLaws.{Spans, Directs, Transfers, transfers}
-use Rattle.arithmetic.specs.Zeroes.{cutFits, hasMiddle, cut_of, zeroCutOf, discardCutOf}
+use Rattle.arithmetic.specs.Zeroes.{cut_fits, has_middle, cut_of, zero_cut_of, discard_cut_of}
 use Rattle.arithmetic.specs.ZeroesLaws.{CutSums, cut_sums}
 use Rattle.arithmetic.specs.declared.refusals.Refusal.TheVariants.{Unfit, Overflow}
 use Rattle.arithmetic.specs.declared.offsets.StoreOffset.{StoreOffset}
@@ -22,38 +22,38 @@ use Rattle.arithmetic.specs.declared.zeroes.DiscardCut.TheVariants.{Nothing as N
 use Rattle.arithmetic.specs.declared.zeroes.DiscardCut.TheVariants.{Refused as DiscardRefused}
 use Rattle.stages.specs.Stages.{Holds}
 
-pub direct : (a : Alignments) (o : StoreOffset) (n : ℕ) (t : Bool) (r : Range) → transferOf a o n t ≡ Direct r → Directs a o.0 n r
+pub direct : (a : Alignments) (o : StoreOffset) (n : ℕ) (t : Bool) (r : Range) → transfer_of a o n t ≡ Direct r → Directs a o.0 n r
 unfolding Transfers
 direct a o n t r e = rw e at (transfers a o n t)
 
-pub bounced : (a : Alignments) (o : StoreOffset) (n : ℕ) (t : Bool) (x : Span) → transferOf a o n t ≡ Bounced x → Spans a o.0 n x
+pub bounced : (a : Alignments) (o : StoreOffset) (n : ℕ) (t : Bool) (x : Span) → transfer_of a o n t ≡ Bounced x → Spans a o.0 n x
 unfolding Transfers
 bounced a o n t x e = rw e at (transfers a o n t)
 
 -- the head and tail reads of a padded range lie on the store, and so does the asked range
 pub holds : {a : Alignments} {o n : ℕ} {x : Span} → Spans a o n x → Holds x
-holds k = record { first = omega (arith, k.end, k.fits, k.prefix-le); second = omega (arith, k.end, k.suffix-le) }
+holds k = record { first = omega (arith, k.end, k.fits, k.prefix_le); second = omega (arith, k.end, k.suffix_le) }
 
-pub asked-fits : {a : Alignments} {o n : ℕ} {x : Span} → Spans a o n x → o + n < 2 ^ 64
-asked-fits k = omega (arith, k.end, k.fits, k.from, k.holds)
+pub asked_fits : {a : Alignments} {o n : ℕ} {x : Span} → Spans a o n x → o + n < 2 ^ 64
+asked_fits k = omega (arith, k.end, k.fits, k.from, k.holds)
 
 -- ---- cuts
 
 -- a cut at z of n bytes at o that has a middle c
 pub record Middles (z o n : ℕ) : Type 0 where
   pub sums : CutSums z o n
-  pub some : hasMiddle z o n ≡ true
+  pub some : has_middle z o n ≡ true
 
 -- a zero job's cut
 pub record Splits (a : Alignments) (o n : ℕ) (c : Cut) : Type 0 where
   pub middles : Middles a.zero o n
   pub is : c ≡ cut_of a.zero o n
 
-pub splits : (a : Alignments) (o : StoreOffset) (n : ℕ) (c : Cut) → zeroCutOf a o n ≡ Split c → Splits a o.0 n c
-unfolding zeroCutOf
-splits a o n c e = go (alignmentsFit a) (eqb n 0) (cutFits a.zero o.0 n) (hasMiddle a.zero o.0 n) refl refl e
+pub splits : (a : Alignments) (o : StoreOffset) (n : ℕ) (c : Cut) → zero_cut_of a o n ≡ Split c → Splits a o.0 n c
+unfolding zero_cut_of
+splits a o n c e = go (alignments_fit a) (eqb n 0) (cut_fits a.zero o.0 n) (has_middle a.zero o.0 n) refl refl e
   where
-    go : (x y z w : Bool) → cutFits a.zero o.0 n ≡ z → hasMiddle a.zero o.0 n ≡ w
+    go : (x y z w : Bool) → cut_fits a.zero o.0 n ≡ z → has_middle a.zero o.0 n ≡ w
         → pick x (pick y NoCut (pick z (pick w (Split (cut_of a.zero o.0 n)) (Whole (range_of o.0 (o.0 + n))))
         (CutRefused Overflow))) (CutRefused Unfit) ≡ Split c
         → Splits a o.0 n c
@@ -66,15 +66,15 @@ splits a o n c e = go (alignmentsFit a) (eqb n 0) (cutFits a.zero o.0 n) (hasMid
 -- a zero job without a middle
 pub record Wholes (a : Alignments) (o n : ℕ) (r : Range) : Type 0 where
   pub sums : CutSums a.zero o n
-  pub none : hasMiddle a.zero o n ≡ false
+  pub none : has_middle a.zero o n ≡ false
   pub some : 0 < n
   pub is : r ≡ range_of o (o + n)
 
-pub wholes : (a : Alignments) (o : StoreOffset) (n : ℕ) (r : Range) → zeroCutOf a o n ≡ Whole r → Wholes a o.0 n r
-unfolding zeroCutOf
-wholes a o n r e = go (alignmentsFit a) (eqb n 0) (cutFits a.zero o.0 n) (hasMiddle a.zero o.0 n) refl refl refl e
+pub wholes : (a : Alignments) (o : StoreOffset) (n : ℕ) (r : Range) → zero_cut_of a o n ≡ Whole r → Wholes a o.0 n r
+unfolding zero_cut_of
+wholes a o n r e = go (alignments_fit a) (eqb n 0) (cut_fits a.zero o.0 n) (has_middle a.zero o.0 n) refl refl refl e
   where
-    go : (x y z w : Bool) → eqb n 0 ≡ y → cutFits a.zero o.0 n ≡ z → hasMiddle a.zero o.0 n ≡ w
+    go : (x y z w : Bool) → eqb n 0 ≡ y → cut_fits a.zero o.0 n ≡ z → has_middle a.zero o.0 n ≡ w
         → pick x (pick y NoCut (pick z (pick w (Split (cut_of a.zero o.0 n)) (Whole (range_of o.0 (o.0 + n))))
         (CutRefused Overflow))) (CutRefused Unfit) ≡ Whole r
         → Wholes a o.0 n r
@@ -94,11 +94,11 @@ pub record Discards (a : Alignments) (o n : ℕ) (r : Range) : Type 0 where
   pub middles : Middles a.discard o n
   pub is : r ≡ (cut_of a.discard o n).middle
 
-pub discards : (a : Alignments) (o : StoreOffset) (n : ℕ) (r : Range) → discardCutOf a o n ≡ DiscardMiddle r → Discards a o.0 n r
-unfolding discardCutOf
-discards a o n r e = go (alignmentsFit a) (cutFits a.discard o.0 n) (hasMiddle a.discard o.0 n) refl refl e
+pub discards : (a : Alignments) (o : StoreOffset) (n : ℕ) (r : Range) → discard_cut_of a o n ≡ DiscardMiddle r → Discards a o.0 n r
+unfolding discard_cut_of
+discards a o n r e = go (alignments_fit a) (cut_fits a.discard o.0 n) (has_middle a.discard o.0 n) refl refl e
   where
-    go : (x z w : Bool) → cutFits a.discard o.0 n ≡ z → hasMiddle a.discard o.0 n ≡ w
+    go : (x z w : Bool) → cut_fits a.discard o.0 n ≡ z → has_middle a.discard o.0 n ≡ w
         → pick x (pick z (pick w (DiscardMiddle (cut_of a.discard o.0 n).middle) NoDiscard) (DiscardRefused Overflow))
         (DiscardRefused Unfit) ≡ DiscardMiddle r
         → Discards a o.0 n r
@@ -110,9 +110,9 @@ discards a o n r e = go (alignmentsFit a) (cutFits a.discard o.0 n) (hasMiddle a
 -- ---- the reads of a padded write
 
 -- H and T in a padded range's reads are its own
-pub head-is : (s : Span) (h : ℕ) → reads_of s ≡ Head h → h ≡ s.prefix
+pub head_is : (s : Span) (h : ℕ) → reads_of s ≡ Head h → h ≡ s.prefix
 unfolding reads_of
-head-is s h e = go (eqb (s.prefix + s.suffix) s.length) (eqb s.prefix 0) (eqb s.suffix 0) e
+head_is s h e = go (eqb (s.prefix + s.suffix) s.length) (eqb s.prefix 0) (eqb s.suffix 0) e
   where
     go : (x y z : Bool) → pick x ReadWhole (pick y (pick z NoReads (Tail s.suffix))
         (pick z (Head s.prefix) (HeadThenTail s.prefix s.suffix))) ≡ Head h → h ≡ s.prefix
@@ -122,9 +122,9 @@ head-is s h e = go (eqb (s.prefix + s.suffix) s.length) (eqb s.prefix 0) (eqb s.
     go false false true e = cc
     go false false false e = let z : ◌≡◌ {A = ℕ} 0 1 = cc in absurd (omega arith)
 
-pub tail-is : (s : Span) (t : ℕ) → reads_of s ≡ Tail t → t ≡ s.suffix
+pub tail_is : (s : Span) (t : ℕ) → reads_of s ≡ Tail t → t ≡ s.suffix
 unfolding reads_of
-tail-is s t e = go (eqb (s.prefix + s.suffix) s.length) (eqb s.prefix 0) (eqb s.suffix 0) e
+tail_is s t e = go (eqb (s.prefix + s.suffix) s.length) (eqb s.prefix 0) (eqb s.suffix 0) e
   where
     go : (x y z : Bool) → pick x ReadWhole (pick y (pick z NoReads (Tail s.suffix))
         (pick z (Head s.prefix) (HeadThenTail s.prefix s.suffix))) ≡ Tail t → t ≡ s.suffix
@@ -134,9 +134,9 @@ tail-is s t e = go (eqb (s.prefix + s.suffix) s.length) (eqb s.prefix 0) (eqb s.
     go false false true e = let z : ◌≡◌ {A = ℕ} 0 1 = cc in absurd (omega arith)
     go false false false e = let z : ◌≡◌ {A = ℕ} 0 1 = cc in absurd (omega arith)
 
-pub heads-are : (s : Span) (h t : ℕ) → reads_of s ≡ HeadThenTail h t → (h ≡ s.prefix) × (t ≡ s.suffix)
+pub heads_are : (s : Span) (h t : ℕ) → reads_of s ≡ HeadThenTail h t → (h ≡ s.prefix) × (t ≡ s.suffix)
 unfolding reads_of
-heads-are s h t e = go (eqb (s.prefix + s.suffix) s.length) (eqb s.prefix 0) (eqb s.suffix 0) e
+heads_are s h t e = go (eqb (s.prefix + s.suffix) s.length) (eqb s.prefix 0) (eqb s.suffix 0) e
   where
     go : (x y z : Bool) → pick x ReadWhole (pick y (pick z NoReads (Tail s.suffix))
         (pick z (Head s.prefix) (HeadThenTail s.prefix s.suffix))) ≡ HeadThenTail h t → (h ≡ s.prefix) × (t ≡ s.suffix)

@@ -1,8 +1,8 @@
 // The first stage of each job, and a write of zeroes as a stage of a zero job.
 ghost use Rattle.std.specs.Prelude.{◌≡◌, ◌+◌, ◌-◌, ◌<◌, ◌≤◌, ◌^◌};
 ghost use Rattle.arithmetic.specs.Offsets.{range_of};
-ghost use Rattle.stages.specs.Stages.{Holds, directStage, first_of, second_of, paddedStage, firstPhase, state_of, asked, bouncedPhase};
-ghost use Rattle.stages.specs.Stages.{vectorPlan, readPlan, writePlan, zeroesPlan, zeroJob, zeroPlan, discardPlan};
+ghost use Rattle.stages.specs.Stages.{Holds, direct_stage, first_of, second_of, padded_stage, first_phase, state_of, asked, bounced_phase};
+ghost use Rattle.stages.specs.Stages.{vector_plan, read_plan, write_plan, zeroes_plan, zero_job, zero_plan, discard_plan};
 ghost use Rattle.arithmetic.specs.Padding.{reads_of};
 
 use crate::state::{Course, Job, Phase, Stage, State, nowhere, size};
@@ -21,7 +21,7 @@ pub enum Plan {
 }
 
 fn direct_stage(r: Range) -> Stage
-    ensures { result ≡ directStage r }
+    ensures { result ≡ direct_stage r }
 {
     Stage {
         asked: r,
@@ -90,7 +90,7 @@ fn second_read(s: Span) -> Range
 
 fn padded_stage(s: Span, asked: Range) -> Stage
     requires { Holds s }
-    ensures { result ≡ paddedStage s asked }
+    ensures { result ≡ padded_stage s asked }
 {
     let start = s.start;
     let end = s.end;
@@ -109,7 +109,7 @@ fn padded_stage(s: Span, asked: Range) -> Stage
 
 // The first phase of a write from the bounce buffer: its reads come first.
 fn first_phase(g: Stage) -> Phase
-    ensures { result ≡ firstPhase g }
+    ensures { result ≡ first_phase g }
 {
     if 0 < size(g.first) {
         return Phase::FirstRead;
@@ -149,7 +149,7 @@ fn asked_range(offset: StoreOffset, n: u64) -> Range
 
 // The first phase of a padded request: a read is one request, a write has its reads first.
 fn bounced_phase(job: Job, g: Stage) -> Phase
-    ensures { result ≡ bouncedPhase job g }
+    ensures { result ≡ bounced_phase job g }
 {
     if let Job::Read = job {
         return Phase::BouncedRead;
@@ -166,7 +166,7 @@ fn plan_vector(
     n: u64,
     aligned: bool,
 ) -> Plan
-    ensures { result ≡ vectorPlan settings job direct offset n aligned }
+    ensures { result ≡ vector_plan settings job direct offset n aligned }
 {
     if n == 0 {
         return Plan::Done;
@@ -189,14 +189,14 @@ fn plan_vector(
 
 // A read of n bytes at `offset` into a vector that is or is not aligned.
 pub fn plan_read(settings: Settings, offset: StoreOffset, n: u64, aligned: bool) -> Plan
-    ensures { result ≡ readPlan settings offset n aligned }
+    ensures { result ≡ read_plan settings offset n aligned }
 {
     plan_vector(settings, Job::Read, Phase::DirectRead, offset, n, aligned)
 }
 
 // A write of n bytes at `offset` from a vector that is or is not aligned.
 pub fn plan_write(settings: Settings, offset: StoreOffset, n: u64, aligned: bool) -> Plan
-    ensures { result ≡ writePlan settings offset n aligned }
+    ensures { result ≡ write_plan settings offset n aligned }
 {
     plan_vector(settings, Job::Write, Phase::DirectWrite, offset, n, aligned)
 }
@@ -218,7 +218,7 @@ impl State {
     // A write of zeroes over `part` as the next stage of a zero job. The bounce buffer starts at a multiple of M, so the write is
     // aligned where its length is a multiple of L.
     pub fn plan_zero_write(self, settings: Settings, course: Course, part: Range) -> Plan
-        ensures { result ≡ zeroesPlan settings self.job self.range self.middle course part }
+        ensures { result ≡ zeroes_plan settings self.job self.range self.middle course part }
     {
         let align = settings.align;
         let n = size(part);
@@ -241,7 +241,7 @@ impl State {
 }
 
 pub fn zero_job(allocate: bool) -> Job
-    ensures { result ≡ zeroJob allocate }
+    ensures { result ≡ zero_job allocate }
 {
     if allocate {
         Job::AllocatedZeroes
@@ -252,7 +252,7 @@ pub fn zero_job(allocate: bool) -> Job
 
 // Zeroes over n bytes at `offset`, plain or allocating.
 pub fn plan_zeroes(settings: Settings, allocate: bool, offset: StoreOffset, n: u64) -> Plan
-    ensures { result ≡ zeroPlan settings allocate offset n }
+    ensures { result ≡ zero_plan settings allocate offset n }
 {
     let job = zero_job(allocate);
     match zero_cut(offset, n, settings.align) {
@@ -286,7 +286,7 @@ pub fn plan_zeroes(settings: Settings, allocate: bool, offset: StoreOffset, n: u
 
 // A discard of n bytes at `offset`.
 pub fn plan_discard(settings: Settings, offset: StoreOffset, n: u64) -> Plan
-    ensures { result ≡ discardPlan settings offset n }
+    ensures { result ≡ discard_plan settings offset n }
 {
     match discard_cut(offset, n, settings.align) {
         DiscardCut::Nothing => Plan::Done,

@@ -1,8 +1,8 @@
 // The state of one job.
 ghost use Rattle.std.specs.Prelude.{◌≡◌, ◌+◌, leb};
-ghost use Rattle.arithmetic.specs.Offsets.{bufferAt, range_of};
-ghost use Rattle.stages.specs.Stages.{size_of, isFree, hasEnded, isBlocking, usesBounce, secondAt, liesIn, isSound, zeroKind, request};
-ghost use Rattle.stages.specs.Stages.{requestOf};
+ghost use Rattle.arithmetic.specs.Offsets.{buffer_at, range_of};
+ghost use Rattle.stages.specs.Stages.{size_of, is_free, has_ended, is_blocking, uses_bounce, second_at, lies_in, is_sound, zero_kind, request};
+ghost use Rattle.stages.specs.Stages.{request_of};
 
 use arithmetic::offsets::{BufferOffset, InBuffer, Range, StoreOffset};
 
@@ -103,7 +103,7 @@ pub fn nowhere() -> Range
 }
 
 pub fn is_free(p: Phase) -> bool
-    ensures { result ≡ isFree p }
+    ensures { result ≡ is_free p }
 {
     match p {
         Phase::Free => true,
@@ -120,7 +120,7 @@ pub fn is_free(p: Phase) -> bool
 }
 
 pub fn has_ended(p: Phase) -> bool
-    ensures { result ≡ hasEnded p }
+    ensures { result ≡ has_ended p }
 {
     match p {
         Phase::Free => false,
@@ -138,7 +138,7 @@ pub fn has_ended(p: Phase) -> bool
 
 // Whether a job in this phase has a blocker: reads have none.
 pub fn is_blocking(p: Phase) -> bool
-    ensures { result ≡ isBlocking p }
+    ensures { result ≡ is_blocking p }
 {
     match p {
         Phase::Free => false,
@@ -156,7 +156,7 @@ pub fn is_blocking(p: Phase) -> bool
 
 // Plain or allocating, for a zero request of this job.
 fn zero_kind(j: Job) -> Kind
-    ensures { result ≡ zeroKind j }
+    ensures { result ≡ zero_kind j }
 {
     match j {
         Job::Read => Kind::Zero,
@@ -182,7 +182,7 @@ fn request_for(kind: Kind, r: Range, segments: usize) -> Request
 
 // Whether a job in this phase has bytes in its bounce buffer.
 pub fn uses_bounce(p: Phase) -> bool
-    ensures { result ≡ usesBounce p }
+    ensures { result ≡ uses_bounce p }
 {
     match p {
         Phase::Free => false,
@@ -211,7 +211,7 @@ fn is_sum_within(a: u64, b: u64, n: u64) -> bool
 impl Stage {
     // Where the bytes of the second read start in the bounce buffer, which holds the store from the request's start on.
     pub fn second_at(self) -> BufferOffset
-        ensures { result ≡ bufferAt (secondAt self) }
+        ensures { result ≡ buffer_at (second_at self) }
     {
         let request = self.request;
         let second = self.second;
@@ -224,7 +224,7 @@ impl Stage {
 
 // Whether a stage's bytes lie in a bounce buffer of n bytes.
 fn lies_in(g: Stage, n: u64) -> bool
-    ensures { result ≡ liesIn n g }
+    ensures { result ≡ lies_in n g }
 {
     let head = g.head;
     let tail = g.second_at();
@@ -237,7 +237,7 @@ fn lies_in(g: Stage, n: u64) -> bool
 impl State {
     // The request that is out, or waited for, of a job whose vector has `count` segments.
     pub fn request(self, count: usize) -> Request
-        ensures { result ≡ requestOf self count }
+        ensures { result ≡ request_of self count }
     {
         let p = self.phase;
         let job = self.job;
@@ -258,7 +258,7 @@ impl State {
 
     // Whether the stage's bytes lie in a bounce buffer of `bounce` bytes, where the phase uses one.
     pub fn is_sound(self, bounce: u64) -> bool
-        ensures { result ≡ isSound bounce self }
+        ensures { result ≡ is_sound bounce self }
     {
         let phase = self.phase;
         if uses_bounce(phase) {

@@ -1,8 +1,8 @@
 // What a told code leads to.
 ghost use Rattle.std.specs.Prelude.{◌≡◌, ltb};
 ghost use Rattle.arithmetic.specs.Rounding.{pick};
-ghost use Rattle.stages.specs.Stages.{size_of, inPhase, endedWith, laterStage, zeroesNext, chunkNext, tailNext, headNext, stageDone};
-ghost use Rattle.stages.specs.Stages.{doneNext, unsupportedNext};
+ghost use Rattle.stages.specs.Stages.{size_of, in_phase, ended_with, later_stage, zeroes_next, chunk_next, tail_next, head_next, stage_done};
+ghost use Rattle.stages.specs.Stages.{done_next, unsupported_next};
 
 use crate::plan::Plan;
 use crate::state::{Course, Phase, State, size};
@@ -21,14 +21,14 @@ pub enum Step {
 impl State {
     // The job in another phase. A store to a field that is an enum is not covered: the state is made anew of the other fields.
     fn set_phase(self, phase: Phase) -> State
-        ensures { result ≡ inPhase phase self }
+        ensures { result ≡ in_phase phase self }
     {
         State { phase, ..self }
     }
 
     // The job ended, with its final answer.
     fn end_with(mut self, answer: u8) -> State
-        ensures { result ≡ endedWith answer self }
+        ensures { result ≡ ended_with answer self }
     {
         self.answer = answer;
         self.set_phase(Phase::Ended)
@@ -36,14 +36,14 @@ impl State {
 
     // The job ends: a failure ends it with its number.
     pub fn ends(self, answer: u8) -> Step
-        ensures { result ≡ Step.Ends (endedWith answer self) }
+        ensures { result ≡ Step.Ends (ended_with answer self) }
     {
         Step::Ends(self.end_with(answer))
     }
 
     // A later stage: a refusal, 207 among them, is the job's final answer.
     fn enter_later(self, plan: Plan) -> Step
-        ensures { result ≡ laterStage self plan }
+        ensures { result ≡ later_stage self plan }
     {
         match plan {
             Plan::Done => self.ends(0),
@@ -53,14 +53,14 @@ impl State {
     }
 
     fn write_zeroes(self, settings: Settings, course: Course, part: Range) -> Step
-        ensures { result ≡ zeroesNext settings self course part }
+        ensures { result ≡ zeroes_next settings self course part }
     {
         self.enter_later(self.plan_zero_write(settings, course, part))
     }
 
     // The next chunk of write_full_zeroes, from `start` to the end of the job's range.
     fn write_chunk(self, settings: Settings, start: StoreOffset) -> Step
-        ensures { result ≡ chunkNext settings self start }
+        ensures { result ≡ chunk_next settings self start }
     {
         let range = self.range;
         let end = range.end;
@@ -74,7 +74,7 @@ impl State {
 
     // The write of zeroes behind the middle, where not empty.
     fn write_tail(self, settings: Settings) -> Step
-        ensures { result ≡ tailNext settings self }
+        ensures { result ≡ tail_next settings self }
     {
         let range = self.range;
         let middle = self.middle;
@@ -89,7 +89,7 @@ impl State {
 
     // The write of zeroes before the middle, where not empty, otherwise the one behind it.
     fn write_head(self, settings: Settings) -> Step
-        ensures { result ≡ headNext settings self }
+        ensures { result ≡ head_next settings self }
     {
         let range = self.range;
         let middle = self.middle;
@@ -104,7 +104,7 @@ impl State {
 
     // The stage is done: what its course says comes next.
     fn end_stage(self, settings: Settings) -> Step
-        ensures { result ≡ stageDone self.course settings self }
+        ensures { result ≡ stage_done self.course settings self }
     {
         let course = self.course;
         let stage = self.stage;
@@ -130,7 +130,7 @@ impl State {
 
     // The request is done.
     pub fn done(self, settings: Settings) -> Step
-        ensures { result ≡ doneNext self.phase settings self }
+        ensures { result ≡ done_next self.phase settings self }
     {
         let phase = self.phase;
         match phase {
@@ -148,7 +148,7 @@ impl State {
 
     // The store does not support the request.
     pub fn unsupported(self, settings: Settings) -> Step
-        ensures { result ≡ unsupportedNext self.phase settings self }
+        ensures { result ≡ unsupported_next self.phase settings self }
     {
         let phase = self.phase;
         let whole = self.range;

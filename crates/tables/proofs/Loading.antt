@@ -14,12 +14,12 @@ use Rattle.arithmetic.specs.Rounding.{pick}
 use Rattle.arithmetic.specs.declared.refusals.Refusal.{Refusal}
 use Rattle.arithmetic.specs.declared.refusals.Refusal.TheVariants.{Table as BadTable}
 use Rattle.arithmetic.specs.declared.settings.Alignments.{Alignments}
-use Rattle.records.specs.Records.{kindField, bodyLength, isCut, isShort, start_of, Form, end, broken, entry, formIn, form_of}
-use Rattle.records.specs.RecordsLaws.{form-next, Found, found}
+use Rattle.records.specs.Records.{kind_field, body_length, is_cut, is_short, start_of, Form, end, broken, entry, form_in, form_of}
+use Rattle.records.specs.RecordsLaws.{form_next, Found, found}
 use Rattle.records.specs.declared.Header.{Header}
 use Rattle.records.specs.declared.Start.{Start}
 use Rattle.records.specs.declared.Start.TheVariants.{End, Broken, Record}
-use Rattle.tables.specs.Tables.{entry_of, Rows, these, refused, before, withEntry, rows_from, table_of, no_row, loadedAs}
+use Rattle.tables.specs.Tables.{entry_of, Rows, these, refused, before, with_entry, rows_from, table_of, no_row, loaded_as}
 use Rattle.tables.specs.Tables.{load_of, finished}
 use Rattle.tables.specs.TablesLaws.{entry_row}
 use Rattle.tables.specs.declared.table.Entry.{Entry}
@@ -41,9 +41,9 @@ carried_row rs a (these more) = ap these (sym (append_assoc rs (a ∷ []) more))
 carried_row rs a (refused r) = refl
 
 -- one row more, in the place behind the last
-set-behind : (rs : List Alignments) (k : ℕ) (z a : Alignments) → set (rs ++ replicate (suc k) z) (length rs) a ≡ (rs ++ a ∷ []) ++ replicate k z
-set-behind [] k z a = refl
-set-behind (r ∷ rs) k z a = ap (λ (l : List Alignments). r ∷ l) (set-behind rs k z a)
+set_behind : (rs : List Alignments) (k : ℕ) (z a : Alignments) → set (rs ++ replicate (suc k) z) (length rs) a ≡ (rs ++ a ∷ []) ++ replicate k z
+set_behind [] k z a = refl
+set_behind (r ∷ rs) k z a = ap (λ (l : List Alignments). r ∷ l) (set_behind rs k z a)
 
 -- `count` rows are read from the bytes before `at`: the table is these and those that the bytes from `at` on add
 pub record Reading (bytes : List ℕ) (rows : List Alignments) (count at : ℕ) : Type 0 where
@@ -54,9 +54,9 @@ pub record Reading (bytes : List ℕ) (rows : List Alignments) (count at : ℕ) 
   pub within : at ≤ length bytes
   pub rest : table_of bytes ≡ carried read (rows_from count (form_of (drop at bytes)))
 
-pub reading-none : (bytes : List ℕ) → Reading bytes (replicate 64 no_row) 0 0
+pub reading_none : (bytes : List ℕ) → Reading bytes (replicate 64 no_row) 0 0
 unfolding table_of
-reading-none bytes = record {
+reading_none bytes = record {
   read = [];
   are = refl;
   long = refl;
@@ -69,9 +69,9 @@ reading-none bytes = record {
 
 not_end : (bs : List ℕ) → 0 < length bs → start_of bs ≡ End → ⊥
 unfolding start_of
-not_end bs h e = let n = ne_eqb (length bs) 0 (λ z. omega (arith, z)) in go (isCut bs || isShort bs) (simp n at e)
+not_end bs h e = let n = ne_eqb (length bs) 0 (λ z. omega (arith, z)) in go (is_cut bs || is_short bs) (simp n at e)
   where
-    go : (b : Bool) → pick b Broken (Record (record { kind = kindField bs; body = bodyLength bs })) ≡ End → ⊥
+    go : (b : Bool) → pick b Broken (Record (record { kind = kind_field bs; body = body_length bs })) ≡ End → ⊥
     go true q = let z : ◌≡◌ {A = ℕ} 0 1 = cc in absurd (omega arith)
     go false q = let z : ◌≡◌ {A = ℕ} 0 1 = cc in absurd (omega arith)
 
@@ -83,18 +83,18 @@ starts bytes at e = rw (take_all (length bytes - at) (drop at bytes) (rw length-
 
 module _ {bytes : List ℕ} {rows : List Alignments} {count at : ℕ} (k : Reading bytes rows count at) where
   -- where the records from here on are refused, the bytes are
-  refused-here : (r : Refusal) → rows_from count (form_of (drop at bytes)) ≡ refused r → load_of bytes ≡ loadedAs (refused r)
+  refused_here : (r : Refusal) → rows_from count (form_of (drop at bytes)) ≡ refused r → load_of bytes ≡ loaded_as (refused r)
   unfolding load_of carried
-  refused-here r e = ap loadedAs (k.rest ∙ ap (carried k.read) e)
+  refused_here r e = ap loaded_as (k.rest ∙ ap (carried k.read) e)
 
   -- what starts here is no record
-  pub broken-here : at < length bytes → (start_of (drop at bytes) ≡ End) ⊎ (start_of (drop at bytes) ≡ Broken)
-      → load_of bytes ≡ loadedAs (refused BadTable)
+  pub broken_here : at < length bytes → (start_of (drop at bytes) ≡ End) ⊎ (start_of (drop at bytes) ≡ Broken)
+      → load_of bytes ≡ loaded_as (refused BadTable)
   unfolding rows_from
-  broken-here h (inl e) = absurd (not_end (drop at bytes) (rw length-drop (omega arith)) e)
-  broken-here h (inr e) =
-      let f : form_of (drop at bytes) ≡ broken = form-next (drop at bytes) ∙ rw e in
-      refused-here BadTable (ap (rows_from count) f)
+  broken_here h (inl e) = absurd (not_end (drop at bytes) (rw length-drop (omega arith)) e)
+  broken_here h (inr e) =
+      let f : form_of (drop at bytes) ≡ broken = form_next (drop at bytes) ∙ rw e in
+      refused_here BadTable (ap (rows_from count) f)
 
   -- a record starts here
   module _ (h : Header) (e : start_of (drop at bytes) ≡ Record h) where
@@ -111,17 +111,17 @@ module _ {bytes : List ℕ} {rows : List Alignments} {count at : ℕ} (k : Readi
     abbrev More : Form
     More = form_of (drop (at + 4 + h.body) bytes)
 
-    form-here : form_of (drop at bytes) ≡ entry h.kind Body More
-    form-here =
+    form_here : form_of (drop at bytes) ≡ entry h.kind Body More
+    form_here =
         let n : at + 4 + h.body - (at + 4) ≡ h.body = omega arith in
         let b : take h.body (drop 4 (drop at bytes)) ≡ Body = rw (n, drop-drop 4 at bytes) in
         let s : at + (4 + h.body) ≡ at + 4 + h.body = omega arith in
         let m : form_of (drop (4 + h.body) (drop at bytes)) ≡ More = rw (drop-drop (4 + h.body) at bytes, s) in
         it.form ∙ rw (b, m)
 
-    step : rows_from count (form_of (drop at bytes)) ≡ withEntry (entry_of count h.kind Body) (rows_from count More) (rows_from (suc count) More)
+    step : rows_from count (form_of (drop at bytes)) ≡ with_entry (entry_of count h.kind Body) (rows_from count More) (rows_from (suc count) More)
     unfolding rows_from
-    step = ap (rows_from count) form-here
+    step = ap (rows_from count) form_here
 
     pub passed_on : entry_of count h.kind Body ≡ Passed → Reading bytes rows count (at + 4 + h.body)
     passed_on p = record {
@@ -138,7 +138,7 @@ module _ {bytes : List ℕ} {rows : List Alignments} {count at : ℕ} (k : Readi
         let l = (entry_row count h.kind Body a p).room in
         let n : 64 - count ≡ suc (64 - (count + 1)) = omega (arith, l) in
         let w : set rows count a ≡ (k.read ++ a ∷ []) ++ replicate (64 - (count + 1)) no_row =
-        rw (k.are, n, ← k.long) (set-behind k.read (64 - (length k.read + 1)) no_row a) in
+        rw (k.are, n, ← k.long) (set_behind k.read (64 - (length k.read + 1)) no_row a) in
         let s : rows_from count (form_of (drop at bytes)) ≡ before a (rows_from (suc count) More) = step ∙ rw p in
         record {
           read = k.read ++ a ∷ [];
@@ -149,18 +149,18 @@ module _ {bytes : List ℕ} {rows : List Alignments} {count at : ℕ} (k : Readi
           rest = k.rest ∙ ap (carried k.read) s ∙ rw (add-one) (carried_row k.read a (rows_from (suc count) More));
         }
 
-    pub refused-by : (r : Refusal) → entry_of count h.kind Body ≡ Refused r → load_of bytes ≡ loadedAs (refused r)
-    refused-by r p = refused-here r (step ∙ rw p)
+    pub refused_by : (r : Refusal) → entry_of count h.kind Body ≡ Refused r → load_of bytes ≡ loaded_as (refused r)
+    refused_by r p = refused_here r (step ∙ rw p)
 
   -- the bytes end here
   pub ended : length bytes ≤ at → load_of bytes ≡ finished rows count
-  unfolding load_of rows_from carried form_of formIn
+  unfolding load_of rows_from carried form_of form_in
   ended h =
       let a : at ≡ length bytes = omega (arith, k.within) in
       let d : drop at bytes ≡ [] = rw a (drop-length bytes) in
       let t : table_of bytes ≡ carried k.read (pick (eqb count 0) (refused BadTable) (these [])) = k.rest ∙ rw d in
-      ap loadedAs t ∙ go count refl
+      ap loaded_as t ∙ go count refl
     where
-      go : (n : ℕ) → count ≡ n → loadedAs (carried k.read (pick (eqb count 0) (refused BadTable) (these []))) ≡ finished rows count
+      go : (n : ℕ) → count ≡ n → loaded_as (carried k.read (pick (eqb count 0) (refused BadTable) (these []))) ≡ finished rows count
       go zero q = rw (eq-eqb count 0 q)
       go (suc n) q = rw (ne_eqb count 0 (λ z. omega (arith, z, q)), append-nil k.read, k.long, k.are)

@@ -1,14 +1,14 @@
 -- Document 02, N3, "Drive table from the customer": the table of a byte string, or its refusal.
 use Rattle.std.specs.Prelude.{◌&&◌, List, [], ◌∷◌, ◌++◌, ℕ, suc, ◌-◌, ltb, eqb, length, take, drop, get_or, replicate}
 use Rattle.arithmetic.specs.Rounding.{pick}
-use Rattle.arithmetic.specs.Settings.{alignments, alignmentsFit}
+use Rattle.arithmetic.specs.Settings.{alignments, alignments_fit}
 use Rattle.arithmetic.specs.declared.refusals.Refusal.{Refusal}
 use Rattle.arithmetic.specs.declared.refusals.Refusal.TheVariants.{Unfit, Table as BadTable, Row as BadRow}
 use Rattle.arithmetic.specs.declared.refusals.Outcome.TheVariants.{Done, Refused as NotLoaded}
 use Rattle.arithmetic.specs.declared.settings.Alignments.{Alignments}
 use Rattle.arithmetic.specs.declared.settings.Profile.{Profile}
 use Rattle.arithmetic.specs.declared.settings.Profile.TheVariants.{Of, Refused as NoProfile}
-use Rattle.records.specs.Records.{littleEndian, Form, end, broken, entry, form_of}
+use Rattle.records.specs.Records.{little_endian, Form, end, broken, entry, form_of}
 use Rattle.tables.specs.declared.table.Table.{Table}
 use Rattle.tables.specs.declared.table.Loaded.{Loaded}
 use Rattle.tables.specs.declared.table.Entry.{Entry}
@@ -19,8 +19,8 @@ use Rattle.tables.specs.declared.table.Entry.TheVariants.{Passed, Row, Refused}
 -- "four 32-bit alignments M, R, Z, D"
 unfoldable pub row_of : List ℕ → Alignments
 row_of body =
-    alignments (littleEndian (take 4 body)) (littleEndian (take 4 (drop 4 body)))
-    (littleEndian (take 4 (drop 8 body))) (littleEndian (take 4 (drop 12 body)))
+    alignments (little_endian (take 4 body)) (little_endian (take 4 (drop 4 body)))
+    (little_endian (take 4 (drop 8 body))) (little_endian (take 4 (drop 12 body)))
 
 -- What it is to a table that has n rows. "Kind 1 is a row [..], so its length is 18": two bytes of kind, 16 of body. "Other kinds are
 -- passed over". "211 if [..] a row of another length, a 65th row [..]; 212 if a row breaks an alignment limit. [..] 211 is tested before
@@ -29,7 +29,7 @@ unfoldable pub entry_of : ℕ → ℕ → List ℕ → Entry
 entry_of n kind body =
     pick (eqb kind 1)
     (pick (eqb (length body) 16 && ltb n 64)
-    (pick (alignmentsFit (row_of body)) (Row (row_of body)) (Refused BadRow))
+    (pick (alignments_fit (row_of body)) (Row (row_of body)) (Refused BadRow))
     (Refused BadTable))
     Passed
 
@@ -45,17 +45,17 @@ before a (these rs) = these (a ∷ rs)
 before a (refused r) = refused r
 
 -- by what the record is: the rows without one of it, and those after one of it
-abbrev pub withEntry : Entry → Rows → Rows → Rows
-withEntry Passed without after = without
-withEntry (Row a) without after = before a after
-withEntry (Refused r) without after = refused r
+abbrev pub with_entry : Entry → Rows → Rows → Rows
+with_entry Passed without after = without
+with_entry (Row a) without after = before a after
+with_entry (Refused r) without after = refused r
 
 -- The rows that records add to n rows, "in file order". "The first bad record decides." "211 if a record is cut, shorter than its kind
 -- field, [..] or none in all": that is seen at the end.
 unfoldable pub rows_from : ℕ → Form → Rows
 rows_from n end = pick (eqb n 0) (refused BadTable) (these [])
 rows_from n broken = refused BadTable
-rows_from n (entry kind body more) = withEntry (entry_of n kind body) (rows_from n more) (rows_from (suc n) more)
+rows_from n (entry kind body more) = with_entry (entry_of n kind body) (rows_from n more) (rows_from (suc n) more)
 
 unfoldable pub table_of : List ℕ → Rows
 table_of bytes = rows_from 0 (form_of bytes)
@@ -65,22 +65,22 @@ table_of bytes = rows_from 0 (form_of bytes)
 abbrev pub no_row : Alignments
 no_row = alignments 0 0 0 0
 
-abbrev pub tableWith : List Alignments → Table
-tableWith rs = record { rows = rs ++ replicate (64 - length rs) no_row; count = length rs }
+abbrev pub table_with : List Alignments → Table
+table_with rs = record { rows = rs ++ replicate (64 - length rs) no_row; count = length rs }
 
-abbrev pub noTable : Table
-noTable = tableWith []
+abbrev pub no_table : Table
+no_table = table_with []
 
-abbrev pub loadedAs : Rows → Loaded
-loadedAs (these rs) = record { table = tableWith rs; outcome = Done }
-loadedAs (refused r) = record { table = noTable; outcome = NotLoaded r }
+abbrev pub loaded_as : Rows → Loaded
+loaded_as (these rs) = record { table = table_with rs; outcome = Done }
+loaded_as (refused r) = record { table = no_table; outcome = NotLoaded r }
 
 unfoldable pub load_of : List ℕ → Loaded
-load_of bytes = loadedAs (table_of bytes)
+load_of bytes = loaded_as (table_of bytes)
 
 -- the 64 rows of which `n` were read, at the end of the bytes
 abbrev pub finished : List Alignments → ℕ → Loaded
-finished rs n = pick (eqb n 0) (loadedAs (refused BadTable)) (record { table = record { rows = rs; count = n }; outcome = Done })
+finished rs n = pick (eqb n 0) (loaded_as (refused BadTable)) (record { table = record { rows = rs; count = n }; outcome = Done })
 
 -- ---- a row by its index
 
@@ -88,5 +88,5 @@ abbrev pub rows_of : Table → List Alignments
 rows_of t = take t.count t.rows
 
 -- "201 [..] drive row unfit", as for the built-in rows: past the last
-unfoldable pub profileIn : Table → ℕ → Profile
-profileIn t i = pick (ltb i (length (rows_of t))) (Of (get_or (rows_of t) i no_row)) (NoProfile Unfit)
+unfoldable pub profile_in : Table → ℕ → Profile
+profile_in t i = pick (ltb i (length (rows_of t))) (Of (get_or (rows_of t) i no_row)) (NoProfile Unfit)

@@ -6,13 +6,13 @@ use Rattle.std.proofs.lemmas.List.{length-replicate}
 use Rattle.std.proofs.Math.ListN.{get_or-append}
 use Rattle.std.proofs.lemmas.Bool.{eqb-false}
 use Rattle.arithmetic.specs.Rounding.{pick}
-use Rattle.arithmetic.specs.Settings.{alignmentsFit}
+use Rattle.arithmetic.specs.Settings.{alignments_fit}
 use Rattle.arithmetic.specs.declared.refusals.Refusal.TheVariants.{Unfit, Table as BadTable, Row as BadRow}
 use Rattle.arithmetic.specs.declared.settings.Alignments.{Alignments}
 use Rattle.arithmetic.specs.declared.settings.Profile.TheVariants.{Of, Refused as NoProfile}
 use Rattle.records.specs.Records.{Form, end, broken, entry, form_of}
-use Rattle.tables.specs.Tables.{row_of, entry_of, Rows, these, refused, before, withEntry, rows_from, table_of, no_row, tableWith, load_of}
-use Rattle.tables.specs.Tables.{rows_of, profileIn}
+use Rattle.tables.specs.Tables.{row_of, entry_of, Rows, these, refused, before, with_entry, rows_from, table_of, no_row, table_with, load_of}
+use Rattle.tables.specs.Tables.{rows_of, profile_in}
 use Rattle.tables.specs.declared.table.Table.{Table}
 use Rattle.tables.specs.declared.table.Entry.{Entry}
 use Rattle.tables.specs.declared.table.Entry.TheVariants.{Passed, Row, Refused}
@@ -21,11 +21,11 @@ use Rattle.tables.specs.declared.table.Entry.TheVariants.{Passed, Row, Refused}
 
 -- a record that is a row
 pub record IsRow (n kind : ℕ) (body : List ℕ) (a : Alignments) : Type 0 where
-  pub kind-is : kind ≡ 1
+  pub kind_is : kind ≡ 1
   pub long : length body ≡ 16
   pub room : n < 64
   pub is : a ≡ row_of body
-  pub fits : alignmentsFit a ≡ true
+  pub fits : alignments_fit a ≡ true
 
 abbrev row_in : Alignments → Entry → Alignments
 row_in a Passed = a
@@ -34,14 +34,14 @@ row_in a (Refused r) = a
 
 pub entry_row : (n kind : ℕ) (body : List ℕ) (a : Alignments) → entry_of n kind body ≡ Row a → IsRow n kind body a
 unfolding entry_of
-entry_row n kind body a e = go (eqb kind 1) (eqb (length body) 16) (ltb n 64) (alignmentsFit (row_of body)) refl refl refl refl e
+entry_row n kind body a e = go (eqb kind 1) (eqb (length body) 16) (ltb n 64) (alignments_fit (row_of body)) refl refl refl refl e
   where
-    go : (k l m f : Bool) → eqb kind 1 ≡ k → eqb (length body) 16 ≡ l → ltb n 64 ≡ m → alignmentsFit (row_of body) ≡ f
+    go : (k l m f : Bool) → eqb kind 1 ≡ k → eqb (length body) 16 ≡ l → ltb n 64 ≡ m → alignments_fit (row_of body) ≡ f
         → pick k (pick (l && m) (pick f (Row (row_of body)) (Refused BadRow)) (Refused BadTable)) Passed ≡ Row a → IsRow n kind body a
     go true true true true p q s t e =
         let i : row_of body ≡ a = ap (row_in a) e in
         record {
-          kind-is = eqb-true kind 1 p;
+          kind_is = eqb-true kind 1 p;
           long = eqb-true (length body) 16 q;
           room = ltb-true n 64 s;
           is = sym i;
@@ -53,9 +53,9 @@ entry_row n kind body a e = go (eqb kind 1) (eqb (length body) 16) (ltb n 64) (a
     go false l m f p q s t e = let z : ◌≡◌ {A = ℕ} 0 1 = cc in absurd (omega arith)
 
 -- "Other kinds are passed over"
-pub other-passed : (n kind : ℕ) (body : List ℕ) (more : Form) → (kind ≡ 1 → ⊥) → rows_from n (entry kind body more) ≡ rows_from n more
+pub other_passed : (n kind : ℕ) (body : List ℕ) (more : Form) → (kind ≡ 1 → ⊥) → rows_from n (entry kind body more) ≡ rows_from n more
 unfolding rows_from entry_of
-other-passed n kind body more h = rw (ne_eqb kind 1 h)
+other_passed n kind body more h = rw (ne_eqb kind 1 h)
 
 -- ---- all of them
 
@@ -63,11 +63,11 @@ other-passed n kind body more h = rw (ne_eqb kind 1 h)
 pub record Sound (n : ℕ) (rs : List Alignments) : Type 0 where
   pub some : 0 < n + length rs
   pub most : n + length rs ≤ 64
-  pub fit : (i : ℕ) → i < length rs → alignmentsFit (get_or rs i no_row) ≡ true
+  pub fit : (i : ℕ) → i < length rs → alignments_fit (get_or rs i no_row) ≡ true
 
-abbrev rowsIn : List Alignments → Rows → List Alignments
-rowsIn d (these rs) = rs
-rowsIn d (refused r) = d
+abbrev rows_in : List Alignments → Rows → List Alignments
+rows_in d (these rs) = rs
+rows_in d (refused r) = d
 
 sound_none : (n : ℕ) (rs : List Alignments) → n ≤ 64 → rows_from n end ≡ these rs → Sound n rs
 unfolding rows_from
@@ -76,73 +76,73 @@ sound_none n rs h e = go (eqb n 0) refl e
     go : (b : Bool) → eqb n 0 ≡ b → pick b (refused BadTable) (these []) ≡ these rs → Sound n rs
     go true q e = let z : ◌≡◌ {A = ℕ} 0 1 = cc in absurd (omega arith)
     go false q e =
-        let i : [] ≡ rs = ap (rowsIn rs) e in
+        let i : [] ≡ rs = ap (rows_in rs) e in
         let m = eqb-false n 0 q in
         rw (← i) (record { some = omega (arith, m); most = omega (arith, h); fit = λ j l. absurd (omega (arith, l)) })
 
-sound-row : (n : ℕ) (a : Alignments) (x : Rows) (rs : List Alignments) → alignmentsFit a ≡ true → before a x ≡ these rs
+sound_row : (n : ℕ) (a : Alignments) (x : Rows) (rs : List Alignments) → alignments_fit a ≡ true → before a x ≡ these rs
     → ((ts : List Alignments) → x ≡ these ts → Sound (suc n) ts) → Sound n rs
-sound-row n a (these ts) rs f e g =
-    let i : a ∷ ts ≡ rs = ap (rowsIn rs) e in
+sound_row n a (these ts) rs f e g =
+    let i : a ∷ ts ≡ rs = ap (rows_in rs) e in
     let s = g ts refl in
-    let fit : (j : ℕ) → j < length (a ∷ ts) → alignmentsFit (get_or (a ∷ ts) j no_row) ≡ true =
+    let fit : (j : ℕ) → j < length (a ∷ ts) → alignments_fit (get_or (a ∷ ts) j no_row) ≡ true =
     λ j. elim j [
       | zero ↦ λ l. f
       | suc j ↦ λ l. s.fit j (omega (arith, l))
     ] in
     rw (← i) (record { some = omega (arith, s.some); most = omega (arith, s.most); fit = fit })
-sound-row n a (refused r) rs f e g = let z : ◌≡◌ {A = ℕ} 0 1 = cc in absurd (omega arith)
+sound_row n a (refused r) rs f e g = let z : ◌≡◌ {A = ℕ} 0 1 = cc in absurd (omega arith)
 
-sound-from : (n : ℕ) (form : Form) (rs : List Alignments) → n ≤ 64 → rows_from n form ≡ these rs → Sound n rs
+sound_from : (n : ℕ) (form : Form) (rs : List Alignments) → n ≤ 64 → rows_from n form ≡ these rs → Sound n rs
 unfolding rows_from
-sound-from n end rs h e = sound_none n rs h e
-sound-from n broken rs h e = let z : ◌≡◌ {A = ℕ} 0 1 = cc in absurd (omega arith)
-sound-from n (entry kind body more) rs h e =
-    go (entry_of n kind body) refl e (λ q. sound-from n more rs h q) (λ l ts q. sound-from (suc n) more ts l q)
+sound_from n end rs h e = sound_none n rs h e
+sound_from n broken rs h e = let z : ◌≡◌ {A = ℕ} 0 1 = cc in absurd (omega arith)
+sound_from n (entry kind body more) rs h e =
+    go (entry_of n kind body) refl e (λ q. sound_from n more rs h q) (λ l ts q. sound_from (suc n) more ts l q)
   where
-    go : (x : Entry) → entry_of n kind body ≡ x → withEntry x (rows_from n more) (rows_from (suc n) more) ≡ these rs
+    go : (x : Entry) → entry_of n kind body ≡ x → with_entry x (rows_from n more) (rows_from (suc n) more) ≡ these rs
         → (rows_from n more ≡ these rs → Sound n rs)
         → (suc n ≤ 64 → (ts : List Alignments) → rows_from (suc n) more ≡ these ts → Sound (suc n) ts) → Sound n rs
     go Passed q e f g = f e
     go (Row a) q e f g =
-        let k = entry_row n kind body a q in sound-row n a (rows_from (suc n) more) rs k.fits e (g (omega (arith, k.room)))
+        let k = entry_row n kind body a q in sound_row n a (rows_from (suc n) more) rs k.fits e (g (omega (arith, k.room)))
     go (Refused r) q e f g = let z : ◌≡◌ {A = ℕ} 0 1 = cc in absurd (omega arith)
 
-pub table-sound : (bytes : List ℕ) (rs : List Alignments) → table_of bytes ≡ these rs → Sound 0 rs
+pub table_sound : (bytes : List ℕ) (rs : List Alignments) → table_of bytes ≡ these rs → Sound 0 rs
 unfolding table_of
-table-sound bytes rs e = sound-from 0 (form_of bytes) rs (omega arith) e
+table_sound bytes rs e = sound_from 0 (form_of bytes) rs (omega arith) e
 
 -- ---- a row by its index
 
-pub past-last : (t : Table) (i : ℕ) → (t.count ≤ i) ⊎ (length t.rows ≤ i) → profileIn t i ≡ NoProfile Unfit
-unfolding profileIn
-past-last t i (inl h) = rw (le-ltb i (length (rows_of t)) (rw length-take (omega arith)))
-past-last t i (inr h) = rw (le-ltb i (length (rows_of t)) (rw length-take (omega arith)))
+pub past_last : (t : Table) (i : ℕ) → (t.count ≤ i) ⊎ (length t.rows ≤ i) → profile_in t i ≡ NoProfile Unfit
+unfolding profile_in
+past_last t i (inl h) = rw (le-ltb i (length (rows_of t)) (rw length-take (omega arith)))
+past_last t i (inr h) = rw (le-ltb i (length (rows_of t)) (rw length-take (omega arith)))
 
-pub row-there : (t : Table) (i : ℕ) → i < t.count → i < length t.rows → profileIn t i ≡ Of (get_or t.rows i no_row)
-unfolding profileIn
-row-there t i h l =
+pub row_there : (t : Table) (i : ℕ) → i < t.count → i < length t.rows → profile_in t i ≡ Of (get_or t.rows i no_row)
+unfolding profile_in
+row_there t i h l =
     rw (lt-ltb i (length (rows_of t)) (rw length-take (omega arith)), get_or-take t.count t.rows i no_row h)
 
 module _ (bytes : List ℕ) (rs : List Alignments) (e : table_of bytes ≡ these rs) where
   -- as a value it has them, and 64 places
-  pub loaded-with : (load_of bytes).table ≡ tableWith rs
+  pub loaded_with : (load_of bytes).table ≡ table_with rs
   unfolding load_of
-  loaded-with = rw e
+  loaded_with = rw e
 
-  pub loaded-long : length (load_of bytes).table.rows ≡ 64
-  loaded-long =
-      let s = table-sound bytes rs e in
-      rw loaded-with
+  pub loaded_long : length (load_of bytes).table.rows ≡ 64
+  loaded_long =
+      let s = table_sound bytes rs e in
+      rw loaded_with
       (length-append rs (replicate (64 - length rs) no_row) ∙ rw (length-replicate (64 - length rs) no_row) (omega (arith, s.most)))
 
   -- row i of the loaded table is row i of the file, and past the last there is none
-  pub loaded-row : (i : ℕ) → i < length rs → profileIn (load_of bytes).table i ≡ Of (get_or rs i no_row)
-  loaded-row i h =
-      let l : length (rs ++ replicate (64 - length rs) no_row) ≡ 64 = rw loaded-with at loaded-long in
-      let s = table-sound bytes rs e in
-      rw loaded-with (row-there (tableWith rs) i h (omega (arith, l, s.most)))
+  pub loaded_row : (i : ℕ) → i < length rs → profile_in (load_of bytes).table i ≡ Of (get_or rs i no_row)
+  loaded_row i h =
+      let l : length (rs ++ replicate (64 - length rs) no_row) ≡ 64 = rw loaded_with at loaded_long in
+      let s = table_sound bytes rs e in
+      rw loaded_with (row_there (table_with rs) i h (omega (arith, l, s.most)))
       ∙ ap Of (get_or-append rs (replicate (64 - length rs) no_row) no_row i h)
 
-  pub loaded-past : (i : ℕ) → length rs ≤ i → profileIn (load_of bytes).table i ≡ NoProfile Unfit
-  loaded-past i h = rw loaded-with (past-last (tableWith rs) i (inl h))
+  pub loaded_past : (i : ℕ) → length rs ≤ i → profile_in (load_of bytes).table i ≡ NoProfile Unfit
+  loaded_past i h = rw loaded_with (past_last (table_with rs) i (inl h))

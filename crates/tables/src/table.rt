@@ -1,7 +1,7 @@
 // A drive table: up to 64 rows, numbered from 0 in the order of the file. Loading takes any bytes.
 ghost use Rattle.std.specs.Prelude.{◌≡◌, ◌+◌, ◌≤◌, length, take, drop, replicate};
-ghost use Rattle.records.specs.Records.{littleEndian};
-ghost use Rattle.tables.specs.Tables.{no_row, noTable, row_of, entry_of, load_of, finished, profileIn};
+ghost use Rattle.records.specs.Records.{little_endian};
+ghost use Rattle.tables.specs.Tables.{no_row, no_table, row_of, entry_of, load_of, finished, profile_in};
 
 use arithmetic::refusals::{Outcome, Refusal};
 use arithmetic::settings::{Alignments, Profile};
@@ -53,7 +53,7 @@ fn make_rows() -> [Alignments; 64]
 
 // What is left of a table that is refused: none of its rows.
 fn refuse(r: Refusal) -> Loaded
-    ensures { result ≡ record { table = noTable; outcome = Outcome.Refused r } }
+    ensures { result ≡ record { table = no_table; outcome = Outcome.Refused r } }
 {
     let rows = make_rows();
     Loaded {
@@ -65,7 +65,7 @@ fn refuse(r: Refusal) -> Loaded
 // The 32-bit number from `at` on.
 fn number_at(body: &[u8], at: usize) -> u64
     requires { at + 4 ≤ length body.now }
-    ensures { result ≡ littleEndian (take 4 (drop at body.now)) }
+    ensures { result ≡ little_endian (take 4 (drop at body.now)) }
 {
     u32_of(body[at], body[at + 1], body[at + 2], body[at + 3])
 }
@@ -148,7 +148,7 @@ pub fn load(bytes: &[u8]) -> Loaded
 impl Table {
     // A row by its index, as a drive profile; past the count 201.
     pub fn row(self, index: usize) -> Profile
-        ensures { result ≡ profileIn self index }
+        ensures { result ≡ profile_in self index }
     {
         if self.count <= index {
             return Profile::Refused(Refusal::Unfit);

@@ -1,7 +1,7 @@
 // A drive table in 257 words, as a host holds it: how many rows, then M, R, Z, D of each of the 64. Any words are a table.
 ghost use Rattle.std.specs.Prelude.{◌≡◌, length};
-ghost use Rattle.tables.specs.Tables.{load_of, profileIn};
-ghost use Rattle.tables.specs.Words.{tableFrom, tableWords, LoadsIn};
+ghost use Rattle.tables.specs.Tables.{load_of, profile_in};
+ghost use Rattle.tables.specs.Words.{table_from, table_words, LoadsIn};
 
 use crate::table::{MOST_ROWS, Table, load};
 use arithmetic::refusals::{Outcome, Refusal};
@@ -10,7 +10,7 @@ use arithmetic::settings::{Alignments, Profile};
 // Write a table over all words.
 fn put_table(words: &mut [u64], t: Table)
     requires { length words.old ≡ 257 }
-    ensures { words.new ≡ tableWords t }
+    ensures { words.new ≡ table_words t }
 {
     words[0] = t.count as u64;
     let mut i: usize = 0;
@@ -40,7 +40,7 @@ pub fn load_words(table: &mut [u64; 257], bytes: &[u8]) -> Outcome
 
 // A row by its index, as a drive profile; past the count 201.
 pub fn row_of(table: &[u64; 257], index: usize) -> Profile
-    ensures { result ≡ profileIn (tableFrom table.now) index }
+    ensures { result ≡ profile_in (table_from table.now) index }
 {
     if MOST_ROWS <= index {
         return Profile::Refused(Refusal::Unfit);

@@ -1,16 +1,16 @@
 -- A lawful list, its bytes computed on both sides. A padded write, a direct write that waits behind it, a padded read, zeroes that fall
 -- back, a write that fails part-way, a discard, a direct read; a begin that is refused, and one that is lent other buffers.
 use Rattle.std.specs.Prelude.{◌≡◌, refl, true, false, List, [], ◌∷◌, ◌++◌, ℕ, ltb, length, take, drop, replicate}
-use Rattle.arithmetic.specs.Offsets.{storeAt}
+use Rattle.arithmetic.specs.Offsets.{store_at}
 use Rattle.arithmetic.specs.Settings.{alignments}
 use Rattle.arithmetic.specs.Content.{window}
 use Rattle.arithmetic.specs.declared.refusals.Refusal.TheVariants.{Overlap, Buffer}
 use Rattle.arithmetic.specs.declared.settings.Settings.{Settings}
 use Rattle.arithmetic.specs.declared.settings.Buffers.{Buffers}
-use Rattle.vectors.specs.Vectors.{vectorOf, segment}
-use Rattle.dock.specs.Begin.{read_of, writeOf, zeroesOf, discardOf, beginOf}
+use Rattle.vectors.specs.Vectors.{vector_of, segment}
+use Rattle.dock.specs.Begin.{read_of, write_of, zeroes_of, discard_of, begin_of}
 use Rattle.dock.specs.Next.{next_of, piece_of}
-use Rattle.dock.specs.Tell.{collectOf}
+use Rattle.dock.specs.Tell.{collect_of}
 use Rattle.dock.specs.declared.begin.Asked.{Asked}
 use Rattle.dock.specs.declared.begin.Begun.{Begun}
 use Rattle.dock.specs.declared.begin.Begun.TheVariants.{Refused}
@@ -21,10 +21,10 @@ use Rattle.dock.specs.declared.next.Due.TheVariants.{Waiting}
 use Rattle.dock.specs.declared.next.Piece.{Piece}
 use Rattle.dock.specs.declared.next.Piece.TheVariants.{InData}
 use Rattle.theorem_lists.specs.Store.{Choice}
-use Rattle.theorem_lists.specs.PlainStore.{Plain, plainOpened}
+use Rattle.theorem_lists.specs.PlainStore.{Plain, plain_opened}
 use Rattle.theorem_lists.specs.Histories.{Lends, World, opened, Lawful}
-use Rattle.theorem_lists.specs.Acts.{Act, begin, begin-lent, carry, tell, collect, own, eventsOf, run, allAllowed, lawful}
-use Rattle.theorem_lists.specs.Acts.{computing-lists}
+use Rattle.theorem_lists.specs.Acts.{Act, begin, begin_lent, carry, tell, collect, own, events_of, run, all_allowed, lawful}
+use Rattle.theorem_lists.specs.Acts.{computing_lists}
 
 -- a drive of blocks of 8 bytes, shares of 32; a store whose every byte is 9
 abbrev pub settings : Settings
@@ -44,11 +44,11 @@ abbrev pub world : World
 world = opened settings buffers (λ x. 9) memory (replicate 256 0)
 
 abbrev pub plain : Plain
-plain = plainOpened settings buffers (λ x. 9)
+plain = plain_opened settings buffers (λ x. 9)
 
 -- a store that leaves 55 where it discards, and of a failing write does the bytes before offset 27 alone
 abbrev pub choice : Choice
-choice = record { isNew = λ x. ltb x 27; left = λ x. 55 }
+choice = record { is_new = λ x. ltb x 27; left = λ x. 55 }
 
 -- requests of slot p are carried out and told, with these codes
 abbrev pub served : ℕ → List ℕ → List Act
@@ -57,52 +57,52 @@ served p (c ∷ cs) = carry p c choice ∷ (tell p c ∷ served p cs)
 
 -- "write 2 at 3", "write 8 at 0" behind it
 abbrev edits : List Act
-edits = begin (writeOf (storeAt 3) (vectorOf (segment 0 2 ∷ []))) ∷ (begin (writeOf (storeAt 0) (vectorOf (segment 2 8 ∷ []))) ∷ [])
+edits = begin (write_of (store_at 3) (vector_of (segment 0 2 ∷ []))) ∷ (begin (write_of (store_at 0) (vector_of (segment 2 8 ∷ []))) ∷ [])
 
 -- the first one's two reads and its write, then the second one's write
 abbrev first_done : List Act
 first_done = edits ++ served 0 (0 ∷ 0 ∷ 0 ∷ [])
 
-abbrev both-done : List Act
-both-done = first_done ++ served 1 (0 ∷ [])
+abbrev both_done : List Act
+both_done = first_done ++ served 1 (0 ∷ [])
 
 -- "read 4 at 2"; "zero 20 at 4", told 1: 4 bytes at 4, padded, then 16 at 8
-abbrev zeroes-done : List Act
-zeroes-done =
-    both-done
-    ++ (begin (read_of (storeAt 2) (vectorOf (segment 10 4 ∷ [])))
-    ∷ (served 2 (0 ∷ []) ++ (begin (zeroesOf false (storeAt 4) 20) ∷ served 3 (1 ∷ 0 ∷ 0 ∷ 0 ∷ []))))
+abbrev zeroes_done : List Act
+zeroes_done =
+    both_done
+    ++ (begin (read_of (store_at 2) (vector_of (segment 10 4 ∷ [])))
+    ∷ (served 2 (0 ∷ []) ++ (begin (zeroes_of false (store_at 4) 20) ∷ served 3 (1 ∷ 0 ∷ 0 ∷ 0 ∷ []))))
 
 -- "write 2 at 26", whose write fails with code 5; "discard 10 at 31": 8 at 32; "read 8 at 24", direct
-abbrev read-begun : List Act
-read-begun =
-    zeroes-done
-    ++ (begin (writeOf (storeAt 26) (vectorOf (segment 26 2 ∷ [])))
+abbrev read_begun : List Act
+read_begun =
+    zeroes_done
+    ++ (begin (write_of (store_at 26) (vector_of (segment 26 2 ∷ [])))
     ∷ (served 4 (0 ∷ 0 ∷ 5 ∷ [])
-    ++ (begin (discardOf (storeAt 31) 10) ∷ (served 5 (0 ∷ []) ++ (begin (read_of (storeAt 24) (vectorOf (segment 16 8 ∷ []))) ∷ [])))))
+    ++ (begin (discard_of (store_at 31) 10) ∷ (served 5 (0 ∷ []) ++ (begin (read_of (store_at 24) (vector_of (segment 16 8 ∷ []))) ∷ [])))))
 
-abbrev jobs-done : List Act
-jobs-done = read-begun ++ served 6 (0 ∷ [])
+abbrev jobs_done : List Act
+jobs_done = read_begun ++ served 6 (0 ∷ [])
 
 -- a read into a byte of the direct write, which is in flight until its collect; a begin that is lent no bytes at all
 abbrev overlapping : Asked
-overlapping = read_of (storeAt 0) (vectorOf (segment 9 1 ∷ []))
+overlapping = read_of (store_at 0) (vector_of (segment 9 1 ∷ []))
 
 abbrev no_bytes : Lends
 no_bytes = record { memory = []; scratch = [] }
 
 abbrev all_done : List Act
-all_done = jobs-done ++ (begin overlapping ∷ (begin-lent no_bytes overlapping ∷ []))
+all_done = jobs_done ++ (begin overlapping ∷ (begin_lent no_bytes overlapping ∷ []))
 
 -- and the seven collects
-abbrev pub whole-list : List Act
-whole-list = all_done ++ (collect 0 ∷ (collect 1 ∷ (collect 2 ∷ (collect 3 ∷ (collect 4 ∷ (collect 5 ∷ (collect 6 ∷ [])))))))
+abbrev pub whole_list : List Act
+whole_list = all_done ++ (collect 0 ∷ (collect 1 ∷ (collect 2 ∷ (collect 3 ∷ (collect 4 ∷ (collect 5 ∷ (collect 6 ∷ [])))))))
 
 abbrev begun : World → Asked → Lends → Begun
-begun w q l = (beginOf w.dock q l.memory l.scratch).answer
+begun w q l = (begin_of w.dock q l.memory l.scratch).answer
 
 abbrev answer : World → ℕ → Collected
-answer w p = (collectOf w.dock p (length w.memory) (length w.scratch)).answer
+answer w p = (collect_of w.dock p (length w.memory) (length w.scratch)).answer
 
 abbrev due : World → ℕ → Due
 due w p = next_of w.dock p (length w.memory) (length w.scratch)
@@ -119,50 +119,50 @@ pub record Computed : Type 0 where
   pub waits : due (run world plain edits).real 1 ≡ Waiting
   -- the padded write puts its two bytes, and none beside them
   pub first : window (run world plain first_done).real.store 0 10 ≡ 9 ∷ 9 ∷ 9 ∷ 101 ∷ 102 ∷ 9 ∷ 9 ∷ 9 ∷ 9 ∷ 9 ∷ []
-  pub second : window (run world plain both-done).real.store 0 10 ≡ 1 ∷ 2 ∷ 3 ∷ 4 ∷ 5 ∷ 6 ∷ 7 ∷ 8 ∷ 9 ∷ 9 ∷ []
+  pub second : window (run world plain both_done).real.store 0 10 ≡ 1 ∷ 2 ∷ 3 ∷ 4 ∷ 5 ∷ 6 ∷ 7 ∷ 8 ∷ 9 ∷ 9 ∷ []
   -- the second read goes straight to its bytes of the data
-  pub direct : piece (run world plain read-begun).real 6 ≡ InData (segment 16 8)
+  pub direct : piece (run world plain read_begun).real 6 ≡ InData (segment 16 8)
   -- at the end both sides have the same bytes
   pub real : window (run world plain all_done).real.store 0 42 ≡ bytes
-  pub plain-bytes : window (run world plain all_done).plain.bytes 0 42 ≡ bytes
+  pub plain_bytes : window (run world plain all_done).plain.bytes 0 42 ≡ bytes
   -- the failing write is answered 5, the other jobs 0
-  pub write-answer : answer (run world plain all_done).real 0 ≡ Final 0
-  pub direct-answer : answer (run world plain all_done).real 1 ≡ Final 0
+  pub write_answer : answer (run world plain all_done).real 0 ≡ Final 0
+  pub direct_answer : answer (run world plain all_done).real 1 ≡ Final 0
   pub read_answer : answer (run world plain all_done).real 2 ≡ Final 0
-  pub zero-answer : answer (run world plain all_done).real 3 ≡ Final 0
-  pub failed-answer : answer (run world plain all_done).real 4 ≡ Final 5
-  pub discard-answer : answer (run world plain all_done).real 5 ≡ Final 0
-  pub direct-read-answer : answer (run world plain all_done).real 6 ≡ Final 0
+  pub zero_answer : answer (run world plain all_done).real 3 ≡ Final 0
+  pub failed_answer : answer (run world plain all_done).real 4 ≡ Final 5
+  pub discard_answer : answer (run world plain all_done).real 5 ≡ Final 0
+  pub direct_read_answer : answer (run world plain all_done).real 6 ≡ Final 0
   -- 203, and 205 for the same read where it is lent other buffers
-  pub refused : begun (run world plain jobs-done).real overlapping (own (run world plain jobs-done).real) ≡ Refused Overlap
-  pub refused-lent : begun (run world plain jobs-done).real overlapping no_bytes ≡ Refused Buffer
+  pub refused : begun (run world plain jobs_done).real overlapping (own (run world plain jobs_done).real) ≡ Refused Overlap
+  pub refused_lent : begun (run world plain jobs_done).real overlapping no_bytes ≡ Refused Buffer
   -- both reads hold what they yielded, and the bytes beside them are as they were
   pub holds : take 16 (drop 10 (run world plain all_done).real.memory)
       ≡ 3 ∷ 4 ∷ 5 ∷ 6 ∷ 77 ∷ 77 ∷ 9 ∷ 9 ∷ 31 ∷ 9 ∷ 9 ∷ 9 ∷ 9 ∷ 9 ∷ 77 ∷ 77 ∷ []
   -- and the list is lawful, with the collects
-  pub is_lawful : allAllowed world whole-list ≡ true
+  pub is_lawful : all_allowed world whole_list ≡ true
 
 pub computed : Computed
-unfolding computing-lists
+unfolding computing_lists
 computed = record {
   waits = refl;
   first = refl;
   second = refl;
   direct = refl;
   real = refl;
-  plain-bytes = refl;
-  write-answer = refl;
-  direct-answer = refl;
+  plain_bytes = refl;
+  write_answer = refl;
+  direct_answer = refl;
   read_answer = refl;
-  zero-answer = refl;
-  failed-answer = refl;
-  discard-answer = refl;
-  direct-read-answer = refl;
+  zero_answer = refl;
+  failed_answer = refl;
+  discard_answer = refl;
+  direct_read_answer = refl;
   refused = refl;
-  refused-lent = refl;
+  refused_lent = refl;
   holds = refl;
   is_lawful = refl;
 }
 
-pub example : Lawful world plain (eventsOf world whole-list)
-example = lawful world plain whole-list computed.is_lawful
+pub example : Lawful world plain (events_of world whole_list)
+example = lawful world plain whole_list computed.is_lawful

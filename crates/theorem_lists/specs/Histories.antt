@@ -2,7 +2,7 @@
 -- every list.
 use Rattle.std.specs.Prelude.{◌≡◌, Bool, true, false, ◌&&◌, List, [], ◌∷◌, ℕ, ◌-◌, eqb, length, get_or}
 use Rattle.std.proofs.Math.Option.{Option, none, some}
-use Rattle.arithmetic.specs.Refusals.{whenDone}
+use Rattle.arithmetic.specs.Refusals.{when_done}
 use Rattle.arithmetic.specs.Rounding.{pick}
 use Rattle.arithmetic.specs.Content.{Bytes, in_range}
 use Rattle.arithmetic.specs.declared.offsets.Range.{Range}
@@ -10,27 +10,27 @@ use Rattle.arithmetic.specs.declared.settings.Settings.{Settings}
 use Rattle.arithmetic.specs.declared.settings.Buffers.{Buffers}
 use Rattle.arithmetic.specs.declared.refusals.Outcome.{Outcome}
 use Rattle.arithmetic.specs.declared.refusals.Outcome.TheVariants.{Done}
-use Rattle.vectors.specs.Vectors.{segmentsOf, bytes_of}
+use Rattle.vectors.specs.Vectors.{segments_of, bytes_of}
 use Rattle.vectors.specs.Places.{covered}
 use Rattle.vectors.specs.declared.vector.Segment.{Segment}
 use Rattle.vectors.specs.declared.vector.IoVector.{IoVector}
 use Rattle.stages.specs.declared.state.Job.{Job}
 use Rattle.stages.specs.declared.state.Job.TheVariants.{Read, Write, Zeroes, AllocatedZeroes, Discard}
 use Rattle.stages.specs.declared.state.Request.{Request}
-use Rattle.dock.specs.Dock.{openOf, lentFits}
-use Rattle.dock.specs.Begin.{Begins, vectorFor, beginOf}
+use Rattle.dock.specs.Dock.{open_of, lent_fits}
+use Rattle.dock.specs.Begin.{Begins, vector_for, begin_of}
 use Rattle.dock.specs.Next.{next_of}
-use Rattle.dock.specs.Tell.{Told, tellOf, collectOf}
+use Rattle.dock.specs.Tell.{Told, tell_of, collect_of}
 use Rattle.dock.specs.declared.dock.Dock.{Dock}
 use Rattle.dock.specs.declared.begin.Asked.{Asked}
 use Rattle.dock.specs.declared.next.Due.{Due}
 use Rattle.dock.specs.declared.next.Due.TheVariants.{Waiting, Make, Answer, Refused as NotDue}
 use Rattle.dock.specs.declared.tell.Collects.{Collects}
 use Rattle.dock.specs.declared.tell.Collected.TheVariants.{Final}
-use Rattle.theorem_lists.specs.Store.{Choice, piecesFrom, gathered, rangeAsked, storeAfter, fetched}
+use Rattle.theorem_lists.specs.Store.{Choice, pieces_from, gathered, range_asked, store_after, fetched}
 use Rattle.theorem_lists.specs.PlainStore.{Item, begin, carry, tell, collect, nothing, Did, yielded, wrote, zeroed, discarded}
-use Rattle.theorem_lists.specs.PlainStore.{rangeFor}
-use Rattle.theorem_lists.specs.PlainStore.{Tracked, Plain, plainOpened, plainStep, set_at}
+use Rattle.theorem_lists.specs.PlainStore.{range_for}
+use Rattle.theorem_lists.specs.PlainStore.{Tracked, Plain, plain_opened, plain_step, set_at}
 
 -- ---- events
 
@@ -71,30 +71,30 @@ acted w p code store memory scratch =
 
 abbrev pub opened : Settings → Buffers → Bytes → List ℕ → List ℕ → World
 opened s b content memory scratch =
-    record { dock = (openOf s b).dock; store = content; memory = memory; scratch = scratch; carried = λ p. none }
+    record { dock = (open_of s b).dock; store = content; memory = memory; scratch = scratch; carried = λ p. none }
 
 -- a call that is lent buffers of other lengths is refused (205), and touches none of these
-abbrev pub fitsLent : World → Lends → Bool
-fitsLent w l = lentFits w.dock.buffers (length l.memory) (length l.scratch)
+abbrev pub fits_lent : World → Lends → Bool
+fits_lent w l = lent_fits w.dock.buffers (length l.memory) (length l.scratch)
 
-abbrev pub afterBegin : World → Lends → Begins → World
-afterBegin w l b = pick (fitsLent w l) (called w b.dock l.memory b.scratch) w
+abbrev pub after_begin : World → Lends → Begins → World
+after_begin w l b = pick (fits_lent w l) (called w b.dock l.memory b.scratch) w
 
 abbrev pub told : Outcome → World → ℕ → Told → World
-told o w p t = whenDone o (answered w p t.dock t.memory t.scratch) (λ r. called w t.dock t.memory t.scratch)
+told o w p t = when_done o (answered w p t.dock t.memory t.scratch) (λ r. called w t.dock t.memory t.scratch)
 
-abbrev pub afterTell : World → ℕ → Lends → Told → World
-afterTell w p l t = pick (fitsLent w l) (told t.outcome w p t) w
+abbrev pub after_tell : World → ℕ → Lends → Told → World
+after_tell w p l t = pick (fits_lent w l) (told t.outcome w p t) w
 
-abbrev pub afterCollect : World → Lends → Collects → World
-afterCollect w l c = pick (fitsLent w l) (called w c.dock l.memory w.scratch) w
+abbrev pub after_collect : World → Lends → Collects → World
+after_collect w l c = pick (fits_lent w l) (called w c.dock l.memory w.scratch) w
 
 -- "it carries out one request that is out, once, and fixes its code"
-abbrev pub carriesOut : World → ℕ → ℕ → Choice → Request → World
-carriesOut w p code c q =
-    let ps = piecesFrom w.dock p (length w.memory) (length w.scratch) 0 q.segments in
+abbrev pub carries_out : World → ℕ → ℕ → Choice → Request → World
+carries_out w p code c q =
+    let ps = pieces_from w.dock p (length w.memory) (length w.scratch) 0 q.segments in
     let b = fetched q.kind q ps code c w.store w.memory w.scratch in
-    acted w p code (storeAfter q.kind (rangeAsked q) code c (gathered ps w.memory w.scratch) w.store) b.memory b.scratch
+    acted w p code (store_after q.kind (range_asked q) code c (gathered ps w.memory w.scratch) w.store) b.memory b.scratch
 
 -- the request that is out in a slot and was not carried out yet
 abbrev pub unless : Option ℕ → Option Request → Option Request
@@ -110,40 +110,40 @@ made (NotDue r) = none
 abbrev pub out_in : World → ℕ → Option Request
 out_in w p = unless (w.carried p) (made (next_of w.dock p (length w.memory) (length w.scratch)))
 
-abbrev pub afterCarry : Option Request → World → ℕ → ℕ → Choice → World
-afterCarry none w p code c = w
-afterCarry (some q) w p code c = carriesOut w p code c q
+abbrev pub after_carry : Option Request → World → ℕ → ℕ → Choice → World
+after_carry none w p code c = w
+after_carry (some q) w p code c = carries_out w p code c q
 
 unfoldable pub step : World → Event → World
-step w (begins q l) = afterBegin w l (beginOf w.dock q l.memory l.scratch)
-step w (carries p code c) = afterCarry (out_in w p) w p code c
-step w (tells p code l) = afterTell w p l (tellOf w.dock p code l.memory l.scratch)
-step w (collects p l) = afterCollect w l (collectOf w.dock p (length l.memory) (length l.scratch))
+step w (begins q l) = after_begin w l (begin_of w.dock q l.memory l.scratch)
+step w (carries p code c) = after_carry (out_in w p) w p code c
+step w (tells p code l) = after_tell w p l (tell_of w.dock p code l.memory l.scratch)
+step w (collects p l) = after_collect w l (collect_of w.dock p (length l.memory) (length l.scratch))
 
 -- ---- what the plain byte store is fed of an event
 
-abbrev pub carryItem : Option Request → ℕ → ℕ → Choice → Item
-carryItem none p code c = nothing
-carryItem (some q) p code c = carry p code c
+abbrev pub carry_item : Option Request → ℕ → ℕ → Choice → Item
+carry_item none p code c = nothing
+carry_item (some q) p code c = carry p code c
 
 unfoldable pub fed : World → Event → Item
-fed w (begins q l) = begin q l.memory (beginOf w.dock q l.memory l.scratch).answer
-fed w (carries p code c) = carryItem (out_in w p) p code c
-fed w (tells p code l) = tell p code (tellOf w.dock p code l.memory l.scratch).outcome
-fed w (collects p l) = collect p (collectOf w.dock p (length l.memory) (length l.scratch)).answer
+fed w (begins q l) = begin q l.memory (begin_of w.dock q l.memory l.scratch).answer
+fed w (carries p code c) = carry_item (out_in w p) p code c
+fed w (tells p code l) = tell p code (tell_of w.dock p code l.memory l.scratch).outcome
+fed w (collects p l) = collect p (collect_of w.dock p (length l.memory) (length l.scratch)).answer
 
 -- ---- what a list may assume
 
 -- the data of the job in a slot: its vector's, as it was handed to begin
 abbrev pub data_of : Option Tracked → List Segment
 data_of none = []
-data_of (some j) = segmentsOf (vectorFor j.asked)
+data_of (some j) = segments_of (vector_for j.asked)
 
 -- "scratch and the data of jobs in flight are as the last event left them, other data may change, and a call refused with 205 may be lent
 -- other buffers"
 abbrev pub LentOf : World → Plain → Lends → Type 0
 LentOf w m l =
-    fitsLent w l ≡ true →
+    fits_lent w l ≡ true →
     (l.scratch ≡ w.scratch) × ((p k : ℕ) → covered (data_of (m.jobs p)) k ≡ true → get_or l.memory k 0 ≡ get_or w.memory k 0)
 
 -- the code of a carry; a request that was not carried out has none
@@ -153,7 +153,7 @@ CodeOf (some c) code = c ≡ code
 
 -- "An accepted tell follows its request's carry and hands in that code; a refused one may hand in any."
 abbrev pub HandsIn : World → ℕ → ℕ → Lends → Type 0
-HandsIn w p code l = (tellOf w.dock p code l.memory l.scratch).outcome ≡ Done → CodeOf (w.carried p) code
+HandsIn w p code l = (tell_of w.dock p code l.memory l.scratch).outcome ≡ Done → CodeOf (w.carried p) code
 
 abbrev pub Allowed : World → Plain → Event → Type 0
 Allowed w m (begins q l) = LentOf w m l
@@ -163,7 +163,7 @@ Allowed w m (collects p l) = LentOf w m l
 
 abbrev pub Lawful : World → Plain → List Event → Type 0
 Lawful w m [] = Unit {0}
-Lawful w m (e ∷ es) = Allowed w m e × Lawful (step w e) (plainStep m (fed w e)) es
+Lawful w m (e ∷ es) = Allowed w m e × Lawful (step w e) (plain_step m (fed w e)) es
 
 -- ---- what is claimed
 
@@ -183,26 +183,26 @@ puts (wrote r code new) x = eqb code 0 && in_range r x
 puts (zeroed r code) x = eqb code 0 && in_range r x
 puts (discarded r) x = false
 
-abbrev pub putBy : List Did → ℕ → Bool
-putBy [] x = false
-putBy (d ∷ ds) x = pick (puts d x) true (putBy ds x)
+abbrev pub put_by : List Did → ℕ → Bool
+put_by [] x = false
+put_by (d ∷ ds) x = pick (puts d x) true (put_by ds x)
 
 -- "Owed besides", by what was handed to begin: the kind of the job, its range r, its vector v; j has its bytes then and its steps, memory
 -- is the data at collect
 abbrev pub OwedBy : Job → Range → IoVector → Tracked → List ℕ → Type 0
 -- "A read answered 0 holds at collect what its step yielded."
-OwedBy Read r v j memory = (bs : List ℕ) × Among (yielded r bs) j.steps × (bytes_of memory (segmentsOf v) ≡ bs)
+OwedBy Read r v j memory = (bs : List ℕ) × Among (yielded r bs) j.steps × (bytes_of memory (segments_of v) ≡ bs)
 -- "a write step of that job, code 0, with its vector's bytes over its asked range"
 OwedBy Write r v j memory =
     (new : Bytes) × Among (wrote r 0 new) j.steps × ((x : ℕ) → in_range r x ≡ true → new x ≡ get_or j.bytes (x - r.start.0) 0)
 -- "every byte of the job's range is covered by a write or zero step of that job with code 0"
-OwedBy Zeroes r v j memory = (x : ℕ) → in_range r x ≡ true → putBy j.steps x ≡ true
-OwedBy AllocatedZeroes r v j memory = (x : ℕ) → in_range r x ≡ true → putBy j.steps x ≡ true
+OwedBy Zeroes r v j memory = (x : ℕ) → in_range r x ≡ true → put_by j.steps x ≡ true
+OwedBy AllocatedZeroes r v j memory = (x : ℕ) → in_range r x ≡ true → put_by j.steps x ≡ true
 OwedBy Discard r v j memory = Unit {0}
 
 abbrev pub OwedTo : Option Tracked → List ℕ → Type 0
 OwedTo none memory = ⊥
-OwedTo (some j) memory = OwedBy j.asked.job (rangeFor j.asked) (vectorFor j.asked) j memory
+OwedTo (some j) memory = OwedBy j.asked.job (range_for j.asked) (vector_for j.asked) j memory
 
 -- "Answered 0: collect returned 0."
 abbrev pub Owed : World → Plain → Event → Type 0
@@ -210,12 +210,12 @@ Owed w m (begins q l) = Unit {0}
 Owed w m (carries p code c) = Unit {0}
 Owed w m (tells p code l) = Unit {0}
 Owed w m (collects p l) =
-    (collectOf w.dock p (length l.memory) (length l.scratch)).answer ≡ Final 0 → OwedTo (m.jobs p) l.memory
+    (collect_of w.dock p (length l.memory) (length l.scratch)).answer ≡ Final 0 → OwedTo (m.jobs p) l.memory
 
 -- after every event, and at every collect that answers 0
 abbrev pub Claim : World → Plain → List Event → Type 0
 Claim w m [] = Same w m
-Claim w m (e ∷ es) = Same w m × Owed w m e × Claim (step w e) (plainStep m (fed w e)) es
+Claim w m (e ∷ es) = Same w m × Owed w m e × Claim (step w e) (plain_step m (fed w e)) es
 
 -- ---- THE THEOREM
 
@@ -223,7 +223,7 @@ Claim w m (e ∷ es) = Same w m × Owed w m e × Claim (step w e) (plainStep m (
 -- begin, carry, tell and collect, refused ones included: a lawful list has the claim. Proved in proofs/Theorem.antt.
 abbrev pub EveryList : Type 0
 EveryList =
-    (s : Settings) (b : Buffers) → (openOf s b).outcome ≡ Done → (content : Bytes) (memory scratch : List ℕ)
-    → lentFits b (length memory) (length scratch) ≡ true → (es : List Event)
-    → Lawful (opened s b content memory scratch) (plainOpened s b content) es
-    → Claim (opened s b content memory scratch) (plainOpened s b content) es
+    (s : Settings) (b : Buffers) → (open_of s b).outcome ≡ Done → (content : Bytes) (memory scratch : List ℕ)
+    → lent_fits b (length memory) (length scratch) ≡ true → (es : List Event)
+    → Lawful (opened s b content memory scratch) (plain_opened s b content) es
+    → Claim (opened s b content memory scratch) (plain_opened s b content) es

@@ -3,7 +3,7 @@
 use Rattle.std.specs.Prelude.{◌≡◌, true, List, ℕ, ◌<◌, ◌≤◌, length, get_or}
 use Rattle.std.proofs.Common.{ap}
 use Rattle.std.proofs.Math.Option.{none}
-use Rattle.arithmetic.specs.Settings.{bounceFits, settingsFit}
+use Rattle.arithmetic.specs.Settings.{bounce_fits, settings_fit}
 use Rattle.arithmetic.specs.Content.{Bytes}
 use Rattle.arithmetic.specs.declared.refusals.Refusal.TheVariants.{Unfit}
 use Rattle.arithmetic.specs.declared.refusals.Outcome.TheVariants.{Done, Refused}
@@ -12,34 +12,34 @@ use Rattle.arithmetic.specs.declared.settings.Settings.{Settings}
 use Rattle.arithmetic.specs.declared.settings.Buffers.{Buffers}
 use Rattle.arithmetic.specs.declared.settings.Profile.{Profile}
 use Rattle.arithmetic.specs.declared.settings.Profile.TheVariants.{Of}
-use Rattle.tables.specs.Tables.{these, table_of, load_of, profileIn, no_row}
-use Rattle.tables.specs.TablesLaws.{table-sound, loaded-row, loaded-past}
-use Rattle.dock.specs.Dock.{openOf, openBy, lentFits}
+use Rattle.tables.specs.Tables.{these, table_of, load_of, profile_in, no_row}
+use Rattle.tables.specs.TablesLaws.{table_sound, loaded_row, loaded_past}
+use Rattle.dock.specs.Dock.{open_of, open_by, lent_fits}
 use Rattle.dock.specs.declared.open.Opened.{Opened}
-use Rattle.theorem_lists.specs.PlainStore.{plainOpened}
+use Rattle.theorem_lists.specs.PlainStore.{plain_opened}
 use Rattle.theorem_lists.specs.Histories.{World, Event, Lawful, Claim}
 
 -- row i, with a share of n bytes
-abbrev pub rowSettings : List Alignments → ℕ → ℕ → Settings
-rowSettings rs i n = record { align = get_or rs i no_row; bounce = n }
+abbrev pub row_settings : List Alignments → ℕ → ℕ → Settings
+row_settings rs i n = record { align = get_or rs i no_row; bounce = n }
 
 module _ (bytes : List ℕ) (rs : List Alignments) (e : table_of bytes ≡ these rs) (i n : ℕ) (b : Buffers) where
   -- opening by row i of the table of these bytes
-  abbrev pub byRow : Opened
-  byRow = openBy (profileIn (load_of bytes).table i) n b
+  abbrev pub by_row : Opened
+  by_row = open_by (profile_in (load_of bytes).table i) n b
 
   -- it is opening with the alignments of row i
-  pub opens_as : i < length rs → byRow ≡ openOf (rowSettings rs i n) b
-  opens_as h = ap (λ (f : Profile). openBy f n b) (loaded-row bytes rs e i h)
+  pub opens_as : i < length rs → by_row ≡ open_of (row_settings rs i n) b
+  opens_as h = ap (λ (f : Profile). open_by f n b) (loaded_row bytes rs e i h)
 
   -- which fit, so that 201 can be for the share alone
-  pub row_fits : i < length rs → settingsFit (rowSettings rs i n) ≡ bounceFits (get_or rs i no_row) n
-  unfolding settingsFit
-  row_fits h = rw ((table-sound bytes rs e).fit i h)
+  pub row_fits : i < length rs → settings_fit (row_settings rs i n) ≡ bounce_fits (get_or rs i no_row) n
+  unfolding settings_fit
+  row_fits h = rw ((table_sound bytes rs e).fit i h)
 
   -- "201 [..] drive row unfit": past the last row
-  pub past-refused : length rs ≤ i → byRow.outcome ≡ Refused Unfit
-  past-refused h = ap (λ (f : Profile). (openBy f n b).outcome) (loaded-past bytes rs e i h)
+  pub past_refused : length rs ≤ i → by_row.outcome ≡ Refused Unfit
+  past_refused h = ap (λ (f : Profile). (open_by f n b).outcome) (loaded_past bytes rs e i h)
 
 -- where lists start: with the dock that an opening returned
 abbrev pub starts_with : Opened → Bytes → List ℕ → List ℕ → World
@@ -50,7 +50,7 @@ starts_with o content memory scratch =
 abbrev pub EveryLoadedList : Type 0
 EveryLoadedList =
     (bytes : List ℕ) (rs : List Alignments) (e : table_of bytes ≡ these rs) (i n : ℕ) (b : Buffers) → i < length rs
-    → (byRow bytes rs e i n b).outcome ≡ Done → (content : Bytes) (memory scratch : List ℕ)
-    → lentFits b (length memory) (length scratch) ≡ true → (es : List Event)
-    → Lawful (starts_with (byRow bytes rs e i n b) content memory scratch) (plainOpened (rowSettings rs i n) b content) es
-    → Claim (starts_with (byRow bytes rs e i n b) content memory scratch) (plainOpened (rowSettings rs i n) b content) es
+    → (by_row bytes rs e i n b).outcome ≡ Done → (content : Bytes) (memory scratch : List ℕ)
+    → lent_fits b (length memory) (length scratch) ≡ true → (es : List Event)
+    → Lawful (starts_with (by_row bytes rs e i n b) content memory scratch) (plain_opened (row_settings rs i n) b content) es
+    → Claim (starts_with (by_row bytes rs e i n b) content memory scratch) (plain_opened (row_settings rs i n) b content) es

@@ -3,7 +3,7 @@
 use Rattle.std.specs.Prelude.{Bool, true, List, [], ◌∷◌, ◌++◌, ℕ, zero, suc, ◌+◌, eqb, length, take, drop}
 use Rattle.arithmetic.specs.Rounding.{pick}
 use Rattle.arithmetic.specs.Offsets.{range_of}
-use Rattle.arithmetic.specs.Content.{Bytes, changed, window, laidAt}
+use Rattle.arithmetic.specs.Content.{Bytes, changed, window, laid_at}
 use Rattle.arithmetic.specs.declared.offsets.Range.{Range}
 use Rattle.vectors.specs.Vectors.{put}
 use Rattle.stages.specs.declared.state.Kind.{Kind}
@@ -17,19 +17,19 @@ use Rattle.dock.specs.declared.next.Piece.TheVariants.{InData, InScratch, Refuse
 -- "as the store chose": which bytes of a failing request are new; what a discard, or a failing read, leaves. By the byte's offset on the
 -- store.
 pub record Choice : Type 0 where
-  pub isNew : ℕ → Bool
+  pub is_new : ℕ → Bool
   pub left : Bytes
 
 -- "code 0: [..] Other codes: each byte of that range is old or new, as the store chose"
-abbrev pub becomesNew : ℕ → Choice → ℕ → Bool
-becomesNew code c x = pick (eqb code 0) true (c.isNew x)
+abbrev pub becomes_new : ℕ → Choice → ℕ → Bool
+becomes_new code c x = pick (eqb code 0) true (c.is_new x)
 
 -- ---- a request's own bytes
 
 -- pieces i, i + 1, .., k of them
-unfoldable pub piecesFrom : Dock → ℕ → ℕ → ℕ → ℕ → ℕ → List Piece
-piecesFrom d p m n i zero = []
-piecesFrom d p m n i (suc k) = piece_of d p i m n ∷ piecesFrom d p m n (suc i) k
+unfoldable pub pieces_from : Dock → ℕ → ℕ → ℕ → ℕ → ℕ → List Piece
+pieces_from d p m n i zero = []
+pieces_from d p m n i (suc k) = piece_of d p i m n ∷ pieces_from d p m n (suc i) k
 
 -- the bytes of pieces, joined in order: what a write hands to the store
 unfoldable pub gathered : List Piece → List ℕ → List ℕ → List ℕ
@@ -50,16 +50,16 @@ landed (Refused r ∷ qs) bs memory scratch = landed qs bs memory scratch
 
 -- ---- the act
 
-abbrev pub rangeAsked : Request → Range
-rangeAsked q = range_of q.offset.0 (q.offset.0 + q.length)
+abbrev pub range_asked : Request → Range
+range_asked q = range_of q.offset.0 (q.offset.0 + q.length)
 
 -- what the store holds after it; `payload` is what a write hands to it
-abbrev pub storeAfter : Kind → Range → ℕ → Choice → List ℕ → Bytes → Bytes
-storeAfter Read r code c payload s = s
-storeAfter Write r code c payload s = changed s r (becomesNew code c) (laidAt r.start.0 payload)
-storeAfter Zero r code c payload s = changed s r (becomesNew code c) (λ x. 0)
-storeAfter AllocatedZero r code c payload s = changed s r (becomesNew code c) (λ x. 0)
-storeAfter Discard r code c payload s = changed s r (λ x. true) c.left
+abbrev pub store_after : Kind → Range → ℕ → Choice → List ℕ → Bytes → Bytes
+store_after Read r code c payload s = s
+store_after Write r code c payload s = changed s r (becomes_new code c) (laid_at r.start.0 payload)
+store_after Zero r code c payload s = changed s r (becomes_new code c) (λ x. 0)
+store_after AllocatedZero r code c payload s = changed s r (becomes_new code c) (λ x. 0)
+store_after Discard r code c payload s = changed s r (λ x. true) c.left
 
 -- what a read leaves in its pieces: with code 0 the store's bytes, otherwise anything
 abbrev pub yields : ℕ → Choice → Bytes → Bytes

@@ -1,20 +1,20 @@
 -- Document 01, "Traced jobs": a job run through the dock's own definitions, with the store's codes given. Which requests come, what each
 -- was asked for, where its pieces lie, which blocker it has; and every answer by its number.
 use Rattle.std.specs.Prelude.{◌≡◌, refl, false, List, [], ◌∷◌, ◌++◌, ℕ, zero, suc, ◌*◌, ◌-◌, ◌^◌, length, replicate}
-use Rattle.arithmetic.specs.Offsets.{storeAt}
+use Rattle.arithmetic.specs.Offsets.{store_at}
 use Rattle.arithmetic.specs.declared.refusals.Outcome.TheVariants.{Done}
-use Rattle.vectors.specs.Vectors.{vectorOf, segment}
-use Rattle.blockers.specs.Blockers.{blockerAt}
+use Rattle.vectors.specs.Vectors.{vector_of, segment}
+use Rattle.blockers.specs.Blockers.{blocker_at}
 use Rattle.blockers.specs.declared.Kind.{Kind as Blocking}
 use Rattle.blockers.specs.declared.Kind.TheVariants.{Weak, Strong}
 use Rattle.stages.specs.Stages.{size_of}
 use Rattle.stages.specs.declared.state.Kind.{Kind}
 use Rattle.stages.specs.declared.state.Kind.TheVariants.{Read, Write, Zero}
-use Rattle.dock.specs.Dock.{stateAt, openProfileOf}
-use Rattle.dock.specs.Begin.{Begins, writeOf, zeroesOf, discardOf, beginOf}
+use Rattle.dock.specs.Dock.{state_at, open_profile_of}
+use Rattle.dock.specs.Begin.{Begins, write_of, zeroes_of, discard_of, begin_of}
 use Rattle.dock.specs.Next.{next_of, piece_of}
-use Rattle.dock.specs.Tell.{Told, tellOf, collectOf}
-use Rattle.dock.specs.Numbers.{Paper, numbered, valued, begunPaper, duePaper, collectedPaper}
+use Rattle.dock.specs.Tell.{Told, tell_of, collect_of}
+use Rattle.dock.specs.Numbers.{Paper, numbered, valued, begun_paper, due_paper, collected_paper}
 use Rattle.dock.specs.Computing.{computing}
 use Rattle.dock.specs.declared.dock.Dock.{Dock}
 use Rattle.dock.specs.declared.begin.Asked.{Asked}
@@ -56,15 +56,15 @@ count_of (Make q) = q.segments
 count_of (Answer a) = 0
 count_of (NotDue r) = 0
 
-abbrev pub seenIn : Dock → ℕ → ℕ → ℕ → Seen
-seenIn d p m n =
+abbrev pub seen_in : Dock → ℕ → ℕ → ℕ → Seen
+seen_in d p m n =
     let q = next_of d p m n in
-    let r = (stateAt d p).stage.asked in
+    let r = (state_at d p).stage.asked in
     record {
       due = q;
       asked = record { bytes = size_of r; offset = r.start.0 };
       pieces = pieces_of d p m n (count_of q);
-      blocker = (blockerAt d.blockers p).kind;
+      blocker = (blocker_at d.blockers p).kind;
     }
 
 -- the codes are told one by one
@@ -72,16 +72,16 @@ abbrev pub driven : List ℕ → Paper → ℕ → Told → Trace
 driven [] b p t = record {
   begun = b;
   seen = [];
-  shown = duePaper (next_of t.dock p (length t.memory) (length t.scratch));
-  collected = collectedPaper (collectOf t.dock p (length t.memory) (length t.scratch)).answer;
+  shown = due_paper (next_of t.dock p (length t.memory) (length t.scratch));
+  collected = collected_paper (collect_of t.dock p (length t.memory) (length t.scratch)).answer;
 }
 driven (c ∷ cs) b p t =
-    let u = tellOf t.dock p c t.memory t.scratch in
+    let u = tell_of t.dock p c t.memory t.scratch in
     let r = driven cs b p u in
     record {
       begun =
           b;
-      seen = seenIn t.dock p (length t.memory) (length t.scratch) ∷ r.seen;
+      seen = seen_in t.dock p (length t.memory) (length t.scratch) ∷ r.seen;
       shown = r.shown;
       collected = r.collected;
     }
@@ -92,32 +92,32 @@ driven (c ∷ cs) b p t =
 abbrev pub memory : List ℕ
 memory = replicate 2048 7
 
-abbrev pub dockOf : ℕ → ℕ → Dock
-dockOf row share =
-    (openProfileOf row share (record {
+abbrev pub dock_of : ℕ → ℕ → Dock
+dock_of row share =
+    (open_profile_of row share (record {
       «data» =
           record { address = 1; length = 2048 };
       scratch = record { address = 0; length = 8 * share };
     })).dock
 
 abbrev pub begun : ℕ → ℕ → Asked → Begins
-begun row share q = beginOf (dockOf row share) q memory (replicate (8 * share) 0)
+begun row share q = begin_of (dock_of row share) q memory (replicate (8 * share) 0)
 
 abbrev pub traced : ℕ → ℕ → Asked → List ℕ → Trace
 traced row share q codes =
     let b = begun row share q in
-    driven codes (begunPaper b.answer) 0 (record { dock = b.dock; outcome = Done; memory = memory; scratch = b.scratch })
+    driven codes (begun_paper b.answer) 0 (record { dock = b.dock; outcome = Done; memory = memory; scratch = b.scratch })
 
 -- "Row index 1, share 4096, one piece unless said": n bytes at o
 abbrev pub writes : ℕ → ℕ → List ℕ → Trace
-writes n o codes = traced 1 4096 (writeOf (storeAt o) (vectorOf (segment 0 n ∷ []))) codes
+writes n o codes = traced 1 4096 (write_of (store_at o) (vector_of (segment 0 n ∷ []))) codes
 
 abbrev pub zeroes : ℕ → ℕ → List ℕ → Trace
-zeroes n o codes = traced 1 4096 (zeroesOf false (storeAt o) n) codes
+zeroes n o codes = traced 1 4096 (zeroes_of false (store_at o) n) codes
 
 -- a discard without a request, or refused: what begin answers
 abbrev pub discards : ℕ → ℕ → Paper
-discards n o = begunPaper (begun 1 4096 (discardOf (storeAt o) n)).answer
+discards n o = begun_paper (begun 1 4096 (discard_of (store_at o) n)).answer
 
 -- ---- what is expected of them
 
@@ -127,7 +127,7 @@ at n o = record { bytes = n; offset = o }
 -- "0+512 is offset 0, length 512", its pieces as listed
 abbrev pub request : Kind → ℕ → ℕ → List Piece → Asking → Blocking → Seen
 request k o n ps asked blocker = record {
-  due = Make (record { kind = k; offset = storeAt o; length = n; segments = length ps });
+  due = Make (record { kind = k; offset = store_at o; length = n; segments = length ps });
   asked = asked;
   pieces = ps;
   blocker = blocker;
@@ -166,14 +166,14 @@ pub record Starred : Type 0 where
   -- "512 at 512: direct"
   pub direct : writes 512 512 (0 ∷ []) ≡ ends (unpadded 512 512 0)
   -- "Pieces 256 and 256, a gap between in the data, at 512: write 512+512, no read": padded, since neither length is a multiple of L
-  pub pieces : traced 1 4096 (writeOf (storeAt 512) (vectorOf (segment 0 256 ∷ segment 300 256 ∷ []))) (0 ∷ [])
+  pub pieces : traced 1 4096 (write_of (store_at 512) (vector_of (segment 0 256 ∷ segment 300 256 ∷ []))) (0 ∷ [])
       ≡ ends (padded (at 512 512) (write 512 512 0 ∷ []))
   -- "900 at 100: read 0+1024"
   pub two_blocks : writes 900 100 (0 ∷ 0 ∷ []) ≡ ends (padded (at 900 100) (read 0 1024 0 ∷ write 0 1024 0 ∷ []))
   -- "1500 at 100: reads 0+512, 1536+512, write 0+2048"
   pub edges : writes 1500 100 (0 ∷ 0 ∷ 0 ∷ []) ≡ ends (padded (at 1500 100) (read 0 512 0 ∷ read 1536 512 1536 ∷ write 0 2048 0 ∷ []))
   -- "Row index 4, share 12288, piece address off 4096, 10 at 700: reads 512+4096 twice, write 512+4096"
-  pub off-memory : traced 4 12288 (writeOf (storeAt 700) (vectorOf (segment 0 10 ∷ []))) (0 ∷ 0 ∷ 0 ∷ [])
+  pub off_memory : traced 4 12288 (write_of (store_at 700) (vector_of (segment 0 10 ∷ []))) (0 ∷ 0 ∷ 0 ∷ [])
       ≡ ends (padded (at 10 700) (read 512 4096 0 ∷ read 512 4096 0 ∷ write 512 4096 0 ∷ []))
   -- "Zero 1000 at 100: zero 512+512, then writes 412 at 100 and 76 at 1024": each of the two padded
   pub zeroing : zeroes 1000 100 (0 ∷ 0 ∷ 0 ∷ 0 ∷ 0 ∷ [])
@@ -184,12 +184,12 @@ pub record Starred : Type 0 where
       ≡ ends (zeroed 512 512
       ++ (padded (at 412 100) (read 0 512 0 ∷ write 0 512 0 ∷ []) ++ padded (at 588 512) (read 1024 512 512 ∷ write 512 1024 0 ∷ [])))
   -- "Zero 1022 at 1: one write"
-  pub one-write : zeroes 1022 1 (0 ∷ 0 ∷ []) ≡ ends (padded (at 1022 1) (read 0 1024 0 ∷ write 0 1024 0 ∷ []))
+  pub one_write : zeroes 1022 1 (0 ∷ 0 ∷ []) ≡ ends (padded (at 1022 1) (read 0 1024 0 ∷ write 0 1024 0 ∷ []))
   -- "Discard 400 at 100: done, no request"
   pub discard : discards 400 100 ≡ numbered 0
   -- "Discard 0 at 2^64 - 511: 207; at 2^64 - 512: 0"
-  pub discard-over : discards 0 (2 ^ 64 - 511) ≡ numbered 207
-  pub discard-last : discards 0 (2 ^ 64 - 512) ≡ numbered 0
+  pub discard_over : discards 0 (2 ^ 64 - 511) ≡ numbered 207
+  pub discard_last : discards 0 (2 ^ 64 - 512) ≡ numbered 0
 
 pub starred : Starred
 unfolding computing
@@ -200,11 +200,11 @@ starred = record {
   pieces = refl;
   two_blocks = refl;
   edges = refl;
-  off-memory = refl;
+  off_memory = refl;
   zeroing = refl;
   fallback = refl;
-  one-write = refl;
+  one_write = refl;
   discard = refl;
-  discard-over = refl;
-  discard-last = refl;
+  discard_over = refl;
+  discard_last = refl;
 }

@@ -8,33 +8,33 @@ use lib.ListN.{length, take, drop, get_or, set, replicate, length-append, length
 use lib.Seq.{set-append_seam, append_snoc, take-suc, get_or-drop, get_or-take, take-take}
 use Rattle.vectors.specs.declared.vector.Segment.{Segment}
 use Rattle.vectors.specs.declared.vector.IoVector.{IoVector}
-use Rattle.vectors.specs.Vectors.{none, segmentsOf, size_of, vectorOf}
+use Rattle.vectors.specs.Vectors.{none, segments_of, size_of, vector_of}
 use Rattle.vectors.specs.Joining.{Room, Joins, Gluing}
-use Rattle.vectors.specs.SegmentLaws.{size-append, size-cut, segments-of}
+use Rattle.vectors.specs.SegmentLaws.{size_append, size_cut, segments_of_lem}
 use Rattle.vectors.proofs.Pass.{nth, in_use}
 
 -- a vector that is one of a list is that of its own segments
-pub plain_of : (v : IoVector) (ps : List Segment) → v ≡ vectorOf ps → v ≡ vectorOf (segmentsOf v)
-plain_of v ps e = rw e (ap vectorOf (sym (segments-of ps)))
+pub plain_of : (v : IoVector) (ps : List Segment) → v ≡ vector_of ps → v ≡ vector_of (segments_of v)
+plain_of v ps e = rw e (ap vector_of (sym (segments_of_lem ps)))
 
 -- one segment more
-pub with-is : (v : IoVector) (ps : List Segment) (p : Segment) → v ≡ vectorOf ps → length ps < 16
-    → record { segments = set v.segments v.count p; count = v.count + 1; total = v.total + p.length } ≡ vectorOf (ps ++ (p ∷ []))
-unfolding vectorOf size_of
-with-is v ps p e h =
+pub with_is : (v : IoVector) (ps : List Segment) (p : Segment) → v ≡ vector_of ps → length ps < 16
+    → record { segments = set v.segments v.count p; count = v.count + 1; total = v.total + p.length } ≡ vector_of (ps ++ (p ∷ []))
+unfolding vector_of size_of
+with_is v ps p e h =
     let n : length (ps ++ (p ∷ [])) ≡ length ps + 1 = length-append ps (p ∷ []) in
     let k : 16 - length ps ≡ suc (16 - (length ps + 1)) = omega arith in
     let l : set (ps ++ replicate (16 - length ps) none) (length ps) p ≡ (ps ++ (p ∷ [])) ++ replicate (16 - length (ps ++ (p ∷ []))) none =
     rw (n, k) (set-append_seam ps none (replicate (16 - (length ps + 1)) none) p ∙ sym (append_snoc ps p (replicate (16 - (length ps + 1)) none))) in
-    let z : size_of (ps ++ (p ∷ [])) ≡ size_of ps + p.length = size-append ps (p ∷ []) ∙ (omega arith) in
+    let z : size_of (ps ++ (p ∷ [])) ≡ size_of ps + p.length = size_append ps (p ∷ []) ∙ (omega arith) in
     rw (e, l, n, z)
 
-pub with-room : (v : IoVector) (p : Segment) → Room v p
-    → record { segments = set v.segments v.count p; count = v.count + 1; total = v.total + p.length } ≡ vectorOf (segmentsOf v ++ (p ∷ []))
-unfolding vectorOf
-with-room v p r =
-    let n : v.count ≡ length (segmentsOf v) = ap (λ (w : IoVector). w.count) r.plain in
-    with-is v (segmentsOf v) p r.plain (omega (arith, r.few))
+pub with_room : (v : IoVector) (p : Segment) → Room v p
+    → record { segments = set v.segments v.count p; count = v.count + 1; total = v.total + p.length } ≡ vector_of (segments_of v ++ (p ∷ []))
+unfolding vector_of
+with_room v p r =
+    let n : v.count ≡ length (segments_of v) = ap (λ (w : IoVector). w.count) r.plain in
+    with_is v (segments_of v) p r.plain (omega (arith, r.few))
 
 -- ---- the loop of `join`
 
@@ -42,18 +42,18 @@ pub record Joining (v₀ w : IoVector) (s n : ℕ) (v : IoVector) (i : ℕ) : Ty
   pub wide : length w.segments ≡ 16
   pub asked : Joins v₀ w s n
   pub reach : i ≤ n
-  pub is : v ≡ vectorOf (segmentsOf v₀ ++ take i (drop s (segmentsOf w)))
+  pub is : v ≡ vector_of (segments_of v₀ ++ take i (drop s (segments_of w)))
 
-pub join-start : (v w : IoVector) (s n : ℕ) → length w.segments ≡ 16 → Joins v w s n → Joining v w s n v 0
-join-start v w s n l j = record { wide = l; asked = j; reach = omega arith; is = j.plain ∙ ap vectorOf (sym (append-nil (segmentsOf v))) }
+pub join_start : (v w : IoVector) (s n : ℕ) → length w.segments ≡ 16 → Joins v w s n → Joining v w s n v 0
+join_start v w s n l j = record { wide = l; asked = j; reach = omega arith; is = j.plain ∙ ap vector_of (sym (append-nil (segments_of v))) }
 
 module _ (v₀ w : IoVector) (s n : ℕ) (v : IoVector) (i : ℕ) (g : Joining v₀ w s n v i) where
-  pub join-end : n ≤ i → v ≡ vectorOf (segmentsOf v₀ ++ take n (drop s (segmentsOf w)))
-  join-end h = let e : i ≡ n = omega (arith, g.reach) in rw e at g.is
+  pub join_end : n ≤ i → v ≡ vector_of (segments_of v₀ ++ take n (drop s (segments_of w)))
+  join_end h = let e : i ≡ n = omega (arith, g.reach) in rw e at g.is
 
   module _ (h : i < n) where
     abbrev qs : List Segment
-    qs = drop s (segmentsOf w)
+    qs = drop s (segments_of w)
 
     long : i < length qs
     long = simp length-drop (omega (arith, in_use w g.wide g.asked.most, g.asked.whole))
@@ -62,67 +62,67 @@ module _ (v₀ w : IoVector) (s n : ℕ) (v : IoVector) (i : ℕ) (g : Joining v
     reads = omega (arith, g.asked.whole, g.asked.most)
 
     next : get_or qs i none ≡ nth w (s + i)
-    next = get_or-drop s (segmentsOf w) i none ∙ get_or-take w.count w.segments (s + i) none (omega (arith, g.asked.whole))
+    next = get_or-drop s (segments_of w) i none ∙ get_or-take w.count w.segments (s + i) none (omega (arith, g.asked.whole))
 
     taken : take (i + 1) qs ≡ take i qs ++ (nth w (s + i) ∷ [])
     taken = rw add-one (take-suc qs i none long ∙ ap (λ (p : Segment). take i qs ++ (p ∷ [])) next)
 
-    size-taken : size_of (take (i + 1) qs) ≡ size_of (take i qs) + (nth w (s + i)).length
+    size_taken : size_of (take (i + 1) qs) ≡ size_of (take i qs) + (nth w (s + i)).length
     unfolding size_of
-    size-taken = ap size_of taken ∙ size-append (take i qs) (nth w (s + i) ∷ []) ∙ (omega arith)
+    size_taken = ap size_of taken ∙ size_append (take i qs) (nth w (s + i) ∷ []) ∙ (omega arith)
 
-    size-most : size_of (take (i + 1) qs) ≤ size_of (take n qs)
-    size-most =
+    size_most : size_of (take (i + 1) qs) ≤ size_of (take n qs)
+    size_most =
         let e : take (i + 1) (take n qs) ≡ take (i + 1) qs = take-take (i + 1) n qs (omega arith) in
-        omega (arith, ap size_of e, size-cut (i + 1) (take n qs))
+        omega (arith, ap size_of e, size_cut (i + 1) (take n qs))
 
-    pub join-room : Room v (nth w (s + i))
-    unfolding vectorOf
-    join-room =
-        let c : v.count ≡ length (segmentsOf v₀ ++ take i qs) = ap (λ (u : IoVector). u.count) g.is in
-        let t : v.total ≡ size_of (segmentsOf v₀ ++ take i qs) = ap (λ (u : IoVector). u.total) g.is in
-        let c₀ : v₀.count ≡ length (segmentsOf v₀) = ap (λ (u : IoVector). u.count) g.asked.plain in
-        let t₀ : v₀.total ≡ size_of (segmentsOf v₀) = ap (λ (u : IoVector). u.total) g.asked.plain in
+    pub join_room : Room v (nth w (s + i))
+    unfolding vector_of
+    join_room =
+        let c : v.count ≡ length (segments_of v₀ ++ take i qs) = ap (λ (u : IoVector). u.count) g.is in
+        let t : v.total ≡ size_of (segments_of v₀ ++ take i qs) = ap (λ (u : IoVector). u.total) g.is in
+        let c₀ : v₀.count ≡ length (segments_of v₀) = ap (λ (u : IoVector). u.count) g.asked.plain in
+        let t₀ : v₀.total ≡ size_of (segments_of v₀) = ap (λ (u : IoVector). u.total) g.asked.plain in
         record {
-          plain = plain_of v (segmentsOf v₀ ++ take i qs) g.is;
-          few = omega (arith, length-append (segmentsOf v₀) (take i qs), length-take i qs, g.asked.few);
-          small = omega (arith, size-append (segmentsOf v₀) (take i qs), size-taken, size-most, g.asked.small);
+          plain = plain_of v (segments_of v₀ ++ take i qs) g.is;
+          few = omega (arith, length-append (segments_of v₀) (take i qs), length-take i qs, g.asked.few);
+          small = omega (arith, size_append (segments_of v₀) (take i qs), size_taken, size_most, g.asked.small);
         }
 
-    pub join-next : (u : IoVector) → u ≡ vectorOf (segmentsOf v ++ (nth w (s + i) ∷ [])) → Joining v₀ w s n u (i + 1)
-    join-next u e =
-        let s₁ : segmentsOf v ≡ segmentsOf v₀ ++ take i qs = rw g.is (segments-of (segmentsOf v₀ ++ take i qs)) in
+    pub join_next : (u : IoVector) → u ≡ vector_of (segments_of v ++ (nth w (s + i) ∷ [])) → Joining v₀ w s n u (i + 1)
+    join_next u e =
+        let s₁ : segments_of v ≡ segments_of v₀ ++ take i qs = rw g.is (segments_of_lem (segments_of v₀ ++ take i qs)) in
         record {
           wide = g.wide;
           asked = g.asked;
           reach = omega arith;
-          is = e ∙ ap vectorOf (ap (λ (l : List Segment). l ++ (nth w (s + i) ∷ [])) s₁ ∙ append_assoc (segmentsOf v₀) (take i qs) (nth w (s + i) ∷ []) ∙ ap (λ (l : List Segment). segmentsOf v₀ ++ l) (sym taken));
+          is = e ∙ ap vector_of (ap (λ (l : List Segment). l ++ (nth w (s + i) ∷ [])) s₁ ∙ append_assoc (segments_of v₀) (take i qs) (nth w (s + i) ∷ []) ∙ ap (λ (l : List Segment). segments_of v₀ ++ l) (sym taken));
         }
 
 -- ---- what a caller of `join` and `add` shows, over the vector of a list
 
 -- the segments of a vector that is that of a list
-pub its : {u : IoVector} {xs : List Segment} → u ≡ vectorOf xs → segmentsOf u ≡ xs
-its {u} {xs} e = rw e (segments-of xs)
+pub its : {u : IoVector} {xs : List Segment} → u ≡ vector_of xs → segments_of u ≡ xs
+its {u} {xs} e = rw e (segments_of_lem xs)
 
-pub grown : {u r : IoVector} (xs ys : List Segment) → u ≡ vectorOf xs → r ≡ vectorOf (segmentsOf u ++ ys) → r ≡ vectorOf (xs ++ ys)
+pub grown : {u r : IoVector} (xs ys : List Segment) → u ≡ vector_of xs → r ≡ vector_of (segments_of u ++ ys) → r ≡ vector_of (xs ++ ys)
 grown xs ys e f = rw (its e) at f
 
-module _ (u : IoVector) (ps : List Segment) (e : u ≡ vectorOf ps) where
+module _ (u : IoVector) (ps : List Segment) (e : u ≡ vector_of ps) where
   pub count_of : u.count ≡ length ps
-  unfolding vectorOf
+  unfolding vector_of
   count_of = rw e
 
   pub total_of : u.total ≡ size_of ps
-  unfolding vectorOf
+  unfolding vector_of
   total_of = rw e
 
   pub room_of : (p : Segment) → length ps < 16 → size_of ps + p.length ≤ 1048576 → Room u p
   room_of p h k = record { plain = plain_of u ps e; few = omega (arith, count_of); small = omega (arith, total_of) }
 
   pub joins_of : (w : IoVector) (s n : ℕ) → length ps + n ≤ 16 → s + n ≤ w.count → w.count ≤ 16
-      → size_of ps + size_of (take n (drop s (segmentsOf w))) ≤ 1048576 → Joins u w s n
+      → size_of ps + size_of (take n (drop s (segments_of w))) ≤ 1048576 → Joins u w s n
   joins_of w s n h k m z = record { plain = plain_of u ps e; few = omega (arith, count_of); whole = k; most = m; small = omega (arith, total_of) }
 
-  pub gluing-of : (n : ℕ) → length ps ≤ 16 → size_of ps + n ≤ 1048576 → Gluing u n
-  gluing-of n h k = record { plain = plain_of u ps e; few = omega (arith, count_of); small = omega (arith, total_of) }
+  pub gluing_of : (n : ℕ) → length ps ≤ 16 → size_of ps + n ≤ 1048576 → Gluing u n
+  gluing_of n h k = record { plain = plain_of u ps e; few = omega (arith, count_of); small = omega (arith, total_of) }

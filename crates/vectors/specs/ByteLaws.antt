@@ -10,31 +10,31 @@ use Rattle.std.proofs.Math.ListN.{length, take, drop, length-drop, get_or-append
 use Rattle.std.proofs.lemmas.List.{length-replicate, replicate-append-replicate, get_or-replicate, take-append-le}
 use Rattle.std.proofs.Math.Seq.{take-take, take-nil, drop-drop, take-append_seam, drop-append-add, length-take-le}
 use borrow.Rule.Slice.PartMut.{put_mid}
-use Rattle.arithmetic.specs.Loops.{or-first}
+use Rattle.arithmetic.specs.Loops.{or_first}
 use Rattle.arithmetic.specs.SettingsLaws.{and_left, and_right}
 use Rattle.vectors.specs.declared.vector.Segment.{Segment}
-use Rattle.vectors.specs.Vectors.{size_of, liesIn, allSegments, anySegment, put, bytes_of, scatterOf, fillOf, shares, overlapOf}
-use Rattle.vectors.specs.Vectors.{selfOverlapOf, seam, glued}
-use Rattle.vectors.specs.Places.{inSegment, covered, place_of}
-use Rattle.vectors.specs.SegmentLaws.{Lies, lies, size-append}
-use Rattle.vectors.specs.SeamLaws.{Touching, seam-cases, glued-size}
+use Rattle.vectors.specs.Vectors.{size_of, lies_in, all_segments, any_segment, put, bytes_of, scatter_of, fill_of, shares, overlap_of}
+use Rattle.vectors.specs.Vectors.{self_overlap_of, seam, glued}
+use Rattle.vectors.specs.Places.{in_segment, covered, place_of}
+use Rattle.vectors.specs.SegmentLaws.{Lies, lies, size_append}
+use Rattle.vectors.specs.SeamLaws.{Touching, seam_cases, glued_size}
 use Rattle.vectors.specs.OverlapLaws.{or_left, or_right, or_cases, apart, inside, outside}
 
 -- ---- put
 
 module _ {A : Type 0} where
-  take-drop : (k n : ℕ) (l : List A) → take n (drop k l) ≡ drop k (take (k + n) l)
-  take-drop zero n l = rw zero-add
-  take-drop (suc k) n [] = take-nil n ∙ sym (ap (λ (t : List A). drop (suc k) t) (take-nil (suc k + n)))
-  take-drop (suc k) n (a ∷ l) = rw suc-add (take-drop k n l)
+  take_drop : (k n : ℕ) (l : List A) → take n (drop k l) ≡ drop k (take (k + n) l)
+  take_drop zero n l = rw zero-add
+  take_drop (suc k) n [] = take-nil n ∙ sym (ap (λ (t : List A). drop (suc k) t) (take-nil (suc k + n)))
+  take_drop (suc k) n (a ∷ l) = rw suc-add (take_drop k n l)
 
   module _ (l : List A) (a : ℕ) (bs : List A) (h : a + length bs ≤ length l) where
     front : length (take a l ++ bs) ≡ a + length bs
     front = length-append (take a l) bs ∙ ap (λ (n : ℕ). n + length bs) (length-take-le a l (omega arith))
 
-    pub length-put : length (put l a bs) ≡ length l
+    pub length_put : length (put l a bs) ≡ length l
     unfolding put
-    length-put = simp (length-append, length-drop, length-take-le a l (omega arith)) (omega arith)
+    length_put = simp (length-append, length-drop, length-take-le a l (omega arith)) (omega arith)
 
     pub take_put : take (a + length bs) (put l a bs) ≡ take a l ++ bs
     unfolding put
@@ -48,17 +48,17 @@ module _ {A : Type 0} where
         (take-append_seam bs (drop (length bs) (drop a l)))
 
     -- what lies apart from it is as it was
-    pub put-before : (s n : ℕ) → s + n ≤ a → take n (drop s (put l a bs)) ≡ take n (drop s l)
+    pub put_before : (s n : ℕ) → s + n ≤ a → take n (drop s (put l a bs)) ≡ take n (drop s l)
     unfolding put
-    put-before s n k =
+    put_before s n k =
         let e : s + n ≤ length (take a l) = omega (arith, length-take-le a l (omega arith)) in
-        take-drop s n (take a l ++ (bs ++ drop (length bs) (drop a l)))
+        take_drop s n (take a l ++ (bs ++ drop (length bs) (drop a l)))
         ∙ ap (λ (t : List A). drop s t) (take-append-le (s + n) (take a l) (bs ++ drop (length bs) (drop a l)) e ∙ take-take (s + n) a l k)
-        ∙ sym (take-drop s n l)
+        ∙ sym (take_drop s n l)
 
-    pub put-after : (s n : ℕ) → a + length bs ≤ s → take n (drop s (put l a bs)) ≡ take n (drop s l)
+    pub put_after : (s n : ℕ) → a + length bs ≤ s → take n (drop s (put l a bs)) ≡ take n (drop s l)
     unfolding put
-    put-after s n k =
+    put_after s n k =
         let e : s ≡ length (take a l ++ bs) + (s - (a + length bs)) = omega (arith, front) in
         let f : a + length bs + (s - (a + length bs)) ≡ s = omega arith in
         ap (λ (t : List A). take n t)
@@ -69,28 +69,28 @@ module _ {A : Type 0} where
         ∙ ap (λ (i : ℕ). drop i l) f)
 
 -- what a copy leaves of a part as long as its source
-pub copied-whole : (p q : List ℕ) → length p ≡ length q → take (length p) q ++ drop (length q) p ≡ q
-copied-whole p q e = rw (take_all (length p) q (omega arith), drop_of_length-le p {i = length q} (omega arith)) (append-nil q)
+pub copied_whole : (p q : List ℕ) → length p ≡ length q → take (length p) q ++ drop (length q) p ≡ q
+copied_whole p q e = rw (take_all (length p) q (omega arith), drop_of_length-le p {i = length q} (omega arith)) (append-nil q)
 
 -- the part from a on comes back from a copy of the part of d from f on, n bytes each
-pub copied-back : (s d : List ℕ) (a n f : ℕ) (ys : List ℕ) → a + n ≤ length s → f + n ≤ length d
+pub copied_back : (s d : List ℕ) (a n f : ℕ) (ys : List ℕ) → a + n ≤ length s → f + n ≤ length d
     → ys
     ≡ take (length (take (a + n - a) (drop a s))) (take (f + n - f) (drop f d))
     ++ drop (length (take (f + n - f) (drop f d))) (take (a + n - a) (drop a s))
     → put_mid a (a + n - a) s ys ≡ put s a (take n (drop f d))
 unfolding put
-copied-back s d a n f ys g h e =
+copied_back s d a n f ys g h e =
     let k : f + n - f ≡ n = omega arith in
     let m : a + n - a ≡ n = omega arith in
     let l : length (take n (drop f d)) ≡ n = length-take-le n (drop f d) (rw length-drop (omega arith)) in
     let p : length (take n (drop a s)) ≡ n = length-take-le n (drop a s) (rw length-drop (omega arith)) in
-    let w : ys ≡ take n (drop f d) = (rw (k, m) at e) ∙ copied-whole (take n (drop a s)) (take n (drop f d)) (p ∙ sym l) in
+    let w : ys ≡ take n (drop f d) = (rw (k, m) at e) ∙ copied_whole (take n (drop a s)) (take n (drop f d)) (p ∙ sym l) in
     rw (m, w, l)
 
 -- two runs of bytes, the second put behind the first, are one
-pub put-behind : (l : List ℕ) (a : ℕ) (bs cs : List ℕ) → a ≤ length l → put (put l a bs) (a + length bs) cs ≡ put l a (bs ++ cs)
+pub put_behind : (l : List ℕ) (a : ℕ) (bs cs : List ℕ) → a ≤ length l → put (put l a bs) (a + length bs) cs ≡ put l a (bs ++ cs)
 unfolding put
-put-behind l a bs cs h =
+put_behind l a bs cs h =
     let front : List ℕ = take a l ++ bs in
     let rest : List ℕ = drop (length bs) (drop a l) in
     let n : length front ≡ a + length bs = length-append (take a l) bs ∙ ap (λ (k : ℕ). k + length bs) (length-take-le a l h) in
@@ -112,8 +112,8 @@ one l m k e =
 
 module _ (l : List ℕ) (a : ℕ) (bs : List ℕ) (h : a + length bs ≤ length l) (k : ℕ) where
   -- at an index off the bytes put
-  pub put-off : (k < a) ⊎ (a + length bs ≤ k) → get_or (put l a bs) k 0 ≡ get_or l k 0
-  put-off o = one (put l a bs) l k (⊎_elim (λ x. put-before l a bs h k 1 (omega arith)) (λ x. put-after l a bs h k 1 x) o)
+  pub put_off : (k < a) ⊎ (a + length bs ≤ k) → get_or (put l a bs) k 0 ≡ get_or l k 0
+  put_off o = one (put l a bs) l k (⊎_elim (λ x. put_before l a bs h k 1 (omega arith)) (λ x. put_after l a bs h k 1 x) o)
 
   -- and at one of them
   pub put_on : a ≤ k → k < a + length bs → get_or (put l a bs) k 0 ≡ get_or bs (k - a) 0
@@ -126,39 +126,39 @@ module _ (l : List ℕ) (a : ℕ) (bs : List ℕ) (h : a + length bs ≤ length 
 
 -- ---- the bytes of segments
 
-pub bytes-append : (d : List ℕ) (ps qs : List Segment) → bytes_of d (ps ++ qs) ≡ bytes_of d ps ++ bytes_of d qs
+pub bytes_append : (d : List ℕ) (ps qs : List Segment) → bytes_of d (ps ++ qs) ≡ bytes_of d ps ++ bytes_of d qs
 unfolding bytes_of
-bytes-append d [] qs = refl
-bytes-append d (p ∷ ps) qs = rw (bytes-append d ps qs) (sym (append_assoc (take p.length (drop p.start d)) (bytes_of d ps)
+bytes_append d [] qs = refl
+bytes_append d (p ∷ ps) qs = rw (bytes_append d ps qs) (sym (append_assoc (take p.length (drop p.start d)) (bytes_of d ps)
     (bytes_of d qs)))
 
 -- the first of the segments lies in the data, and so do the others
-head-lies : (n : ℕ) (p : Segment) (ps : List Segment) → allSegments (liesIn n) (p ∷ ps) ≡ true → Lies n p
-unfolding allSegments
-head-lies n p ps e = lies n p (and_left (liesIn n p) (allSegments (liesIn n) ps) e)
+head_lies : (n : ℕ) (p : Segment) (ps : List Segment) → all_segments (lies_in n) (p ∷ ps) ≡ true → Lies n p
+unfolding all_segments
+head_lies n p ps e = lies n p (and_left (lies_in n p) (all_segments (lies_in n) ps) e)
 
-rest-lies : (n : ℕ) (p : Segment) (ps : List Segment) → allSegments (liesIn n) (p ∷ ps) ≡ true → allSegments (liesIn n) ps ≡ true
-unfolding allSegments
-rest-lies n p ps e = and_right (liesIn n p) (allSegments (liesIn n) ps) e
+rest_lies : (n : ℕ) (p : Segment) (ps : List Segment) → all_segments (lies_in n) (p ∷ ps) ≡ true → all_segments (lies_in n) ps ≡ true
+unfolding all_segments
+rest_lies n p ps e = and_right (lies_in n p) (all_segments (lies_in n) ps) e
 
 part_length : (d : List ℕ) (p : Segment) → Lies (length d) p → length (take p.length (drop p.start d)) ≡ p.length
 part_length d p l = length-take-le p.length (drop p.start d) (simp length-drop (omega (arith, l.ends)))
 
-pub bytes-length : (d : List ℕ) (ps : List Segment) → allSegments (liesIn (length d)) ps ≡ true → length (bytes_of d ps) ≡ size_of ps
+pub bytes_length : (d : List ℕ) (ps : List Segment) → all_segments (lies_in (length d)) ps ≡ true → length (bytes_of d ps) ≡ size_of ps
 unfolding bytes_of size_of
-bytes-length d [] e = refl
-bytes-length d (p ∷ ps) e =
+bytes_length d [] e = refl
+bytes_length d (p ∷ ps) e =
     length-append (take p.length (drop p.start d)) (bytes_of d ps)
-    ∙ (omega (arith, part_length d p (head-lies (length d) p ps e), bytes-length d ps (rest-lies (length d) p ps e)))
+    ∙ (omega (arith, part_length d p (head_lies (length d) p ps e), bytes_length d ps (rest_lies (length d) p ps e)))
 
 -- byte i of the segments is the data's byte at their place i
-pub bytes-at : (d : List ℕ) (ps : List Segment) (i : ℕ) → allSegments (liesIn (length d)) ps ≡ true → i < size_of ps →
+pub bytes_at_lem : (d : List ℕ) (ps : List Segment) (i : ℕ) → all_segments (lies_in (length d)) ps ≡ true → i < size_of ps →
     get_or (bytes_of d ps) i 0 ≡ get_or d (place_of ps i) 0
 unfolding bytes_of size_of place_of
-bytes-at d [] i e h = absurd (omega arith)
-bytes-at d (p ∷ ps) i e h =
+bytes_at_lem d [] i e h = absurd (omega arith)
+bytes_at_lem d (p ∷ ps) i e h =
     let x = take p.length (drop p.start d) in
-    let n : length x ≡ p.length = part_length d p (head-lies (length d) p ps e) in
+    let n : length x ≡ p.length = part_length d p (head_lies (length d) p ps e) in
     elim (dec_lt i p.length) [
       | yes l ↦
           get_or-append x (bytes_of d ps) 0 i (omega (arith, n))
@@ -170,22 +170,22 @@ bytes-at d (p ∷ ps) i e h =
           let j : i ≡ length x + (i - p.length) = omega (arith, n) in
           ap (λ (k : ℕ). get_or (x ++ bytes_of d ps) k 0) j
           ∙ get_or-append-add x (bytes_of d ps) (i - p.length) 0
-          ∙ bytes-at d ps (i - p.length) (rest-lies (length d) p ps e) (omega arith)
+          ∙ bytes_at_lem d ps (i - p.length) (rest_lies (length d) p ps e) (omega arith)
           ∙ (rw (le-ltb i p.length g))
     ]
 
 -- ---- scatter and fill, one segment: the bytes of a run no longer than the segment, put at its start
 
-module _ (l : List ℕ) (p : Segment) (ps : List Segment) (bs : List ℕ) (e : allSegments (liesIn (length l)) (p ∷ ps) ≡ true)
+module _ (l : List ℕ) (p : Segment) (ps : List Segment) (bs : List ℕ) (e : all_segments (lies_in (length l)) (p ∷ ps) ≡ true)
     (m : length bs ≤ p.length) where
   fits : p.start + length bs ≤ length l
-  fits = omega (arith, (head-lies (length l) p ps e).ends)
+  fits = omega (arith, (head_lies (length l) p ps e).ends)
 
-  still : allSegments (liesIn (length (put l p.start bs))) ps ≡ true
-  still = rw (length-put l p.start bs fits) (rest-lies (length l) p ps e)
+  still : all_segments (lies_in (length (put l p.start bs))) ps ≡ true
+  still = rw (length_put l p.start bs fits) (rest_lies (length l) p ps e)
 
-  kept : (k : ℕ) → inSegment k p ≡ false → get_or (put l p.start bs) k 0 ≡ get_or l k 0
-  kept k o = put-off l p.start bs fits k (⊎_elim (λ x. inl x) (λ x. inr (omega arith)) (outside k p o))
+  kept : (k : ℕ) → in_segment k p ≡ false → get_or (put l p.start bs) k 0 ≡ get_or l k 0
+  kept k o = put_off l p.start bs fits k (⊎_elim (λ x. inl x) (λ x. inr (omega arith)) (outside k p o))
 
 -- how many bytes a segment takes of src
 taken : (p : Segment) (src : List ℕ) → length (take p.length src) ≤ p.length
@@ -194,18 +194,18 @@ taken p src = omega (arith, length-take p.length src)
 filling : (p : Segment) (b : ℕ) → length (replicate p.length b) ≤ p.length
 filling p b = omega (arith, length-replicate p.length b)
 
-pub scatter-length : (l : List ℕ) (ps : List Segment) (src : List ℕ) → allSegments (liesIn (length l)) ps ≡ true →
-    length (scatterOf l ps src) ≡ length l
-unfolding scatterOf
-scatter-length l [] src e = refl
-scatter-length l (p ∷ ps) src e =
+pub scatter_length : (l : List ℕ) (ps : List Segment) (src : List ℕ) → all_segments (lies_in (length l)) ps ≡ true →
+    length (scatter_of l ps src) ≡ length l
+unfolding scatter_of
+scatter_length l [] src e = refl
+scatter_length l (p ∷ ps) src e =
     let bs = take p.length src in
-    scatter-length (put l p.start bs) ps (drop p.length src) (still l p ps bs e (taken p src))
-    ∙ length-put l p.start bs (fits l p ps bs e (taken p src))
+    scatter_length (put l p.start bs) ps (drop p.length src) (still l p ps bs e (taken p src))
+    ∙ length_put l p.start bs (fits l p ps bs e (taken p src))
 
 -- a fill is a scatter of one byte over and over
-pub fill_is : (l : List ℕ) (ps : List Segment) (b : ℕ) → fillOf l ps b ≡ scatterOf l ps (replicate (size_of ps) b)
-unfolding fillOf scatterOf size_of
+pub fill_is : (l : List ℕ) (ps : List Segment) (b : ℕ) → fill_of l ps b ≡ scatter_of l ps (replicate (size_of ps) b)
+unfolding fill_of scatter_of size_of
 fill_is l [] b = refl
 fill_is l (p ∷ ps) b =
     let n = p.length in
@@ -214,132 +214,132 @@ fill_is l (p ∷ ps) b =
     fill_is (put l p.start (replicate n b)) ps b
     ∙ (rw (← replicate-append-replicate n m b, take_at (replicate n b) (replicate m b) n r, drop_at (replicate n b) (replicate m b) n r))
 
-pub fill-length : (l : List ℕ) (ps : List Segment) (b : ℕ) → allSegments (liesIn (length l)) ps ≡ true → length (fillOf l ps b) ≡ length l
-fill-length l ps b e = ap length (fill_is l ps b) ∙ scatter-length l ps (replicate (size_of ps) b) e
+pub fill_length : (l : List ℕ) (ps : List Segment) (b : ℕ) → all_segments (lies_in (length l)) ps ≡ true → length (fill_of l ps b) ≡ length l
+fill_length l ps b e = ap length (fill_is l ps b) ∙ scatter_length l ps (replicate (size_of ps) b) e
 
 -- off the segments every byte is as it was
-pub scatter-off : (l : List ℕ) (ps : List Segment) (src : List ℕ) (k : ℕ) → allSegments (liesIn (length l)) ps ≡ true → covered ps k ≡ false
-    → get_or (scatterOf l ps src) k 0 ≡ get_or l k 0
-unfolding scatterOf covered anySegment
-scatter-off l [] src k e o = refl
-scatter-off l (p ∷ ps) src k e o =
+pub scatter_off : (l : List ℕ) (ps : List Segment) (src : List ℕ) (k : ℕ) → all_segments (lies_in (length l)) ps ≡ true → covered ps k ≡ false
+    → get_or (scatter_of l ps src) k 0 ≡ get_or l k 0
+unfolding scatter_of covered any_segment
+scatter_off l [] src k e o = refl
+scatter_off l (p ∷ ps) src k e o =
     let bs = take p.length src in
-    scatter-off (put l p.start bs) ps (drop p.length src) k (still l p ps bs e (taken p src))
-    (or_right (inSegment k p) (anySegment (inSegment k) ps) o)
-    ∙ kept l p ps bs e (taken p src) k (or_left (inSegment k p) (anySegment (inSegment k) ps) o)
+    scatter_off (put l p.start bs) ps (drop p.length src) k (still l p ps bs e (taken p src))
+    (or_right (in_segment k p) (any_segment (in_segment k) ps) o)
+    ∙ kept l p ps bs e (taken p src) k (or_left (in_segment k p) (any_segment (in_segment k) ps) o)
 
-pub fill-off : (l : List ℕ) (ps : List Segment) (b : ℕ) (k : ℕ) → allSegments (liesIn (length l)) ps ≡ true → covered ps k ≡ false →
-    get_or (fillOf l ps b) k 0 ≡ get_or l k 0
-fill-off l ps b k e o = ap (λ (t : List ℕ). get_or t k 0) (fill_is l ps b) ∙ scatter-off l ps (replicate (size_of ps) b) k e o
+pub fill_off : (l : List ℕ) (ps : List Segment) (b : ℕ) (k : ℕ) → all_segments (lies_in (length l)) ps ≡ true → covered ps k ≡ false →
+    get_or (fill_of l ps b) k 0 ≡ get_or l k 0
+fill_off l ps b k e o = ap (λ (t : List ℕ). get_or t k 0) (fill_is l ps b) ∙ scatter_off l ps (replicate (size_of ps) b) k e o
 
 -- on them every byte is the one filled in
-pub fill_on : (l : List ℕ) (ps : List Segment) (b : ℕ) (k : ℕ) → allSegments (liesIn (length l)) ps ≡ true → covered ps k ≡ true →
-    get_or (fillOf l ps b) k 0 ≡ b
-unfolding fillOf covered anySegment
+pub fill_on : (l : List ℕ) (ps : List Segment) (b : ℕ) (k : ℕ) → all_segments (lies_in (length l)) ps ≡ true → covered ps k ≡ true →
+    get_or (fill_of l ps b) k 0 ≡ b
+unfolding fill_of covered any_segment
 fill_on l [] b k e o = absurd (let z : ◌≡◌ {A = ℕ} 0 1 = cc in omega arith)
-fill_on l (p ∷ ps) b k e o = go (anySegment (inSegment k) ps) refl
+fill_on l (p ∷ ps) b k e o = go (any_segment (in_segment k) ps) refl
     (λ t. fill_on (put l p.start (replicate p.length b)) ps b k (still l p ps (replicate p.length b) e (filling p b)) t)
   where
     bs : List ℕ
     bs = replicate p.length b
 
-    here : anySegment (inSegment k) ps ≡ false → (inSegment k p || anySegment (inSegment k) ps) ≡ true → inSegment k p ≡ true
-    here f t = or-first (inSegment k p) (rw f at t)
+    here : any_segment (in_segment k) ps ≡ false → (in_segment k p || any_segment (in_segment k) ps) ≡ true → in_segment k p ≡ true
+    here f t = or_first (in_segment k p) (rw f at t)
 
-    go : (t : Bool) → anySegment (inSegment k) ps ≡ t → (anySegment (inSegment k) ps ≡ true → get_or (fillOf (put l p.start bs) ps b) k 0
-        ≡ b) → get_or (fillOf (put l p.start bs) ps b) k 0 ≡ b
+    go : (t : Bool) → any_segment (in_segment k) ps ≡ t → (any_segment (in_segment k) ps ≡ true → get_or (fill_of (put l p.start bs) ps b) k 0
+        ≡ b) → get_or (fill_of (put l p.start bs) ps b) k 0 ≡ b
     go true t f = f t
     go false t f =
         let i = inside k p (here t o) in
         let n = length-replicate p.length b in
-        fill-off (put l p.start bs) ps b k (still l p ps bs e (filling p b)) t
+        fill_off (put l p.start bs) ps b k (still l p ps bs e (filling p b)) t
         ∙ put_on l p.start bs (fits l p ps bs e (filling p b)) k i.0 (omega (arith, i.1))
         ∙ get_or-replicate p.length (k - p.start) b 0 (omega (arith, i))
 
 -- ---- gather after scatter
 
 -- a segment apart from the others keeps its bytes
-scatter-apart : (l : List ℕ) (q : Segment) (ps : List Segment) (src : List ℕ) → 0 < q.length → allSegments (liesIn (length l)) ps ≡ true →
-    anySegment (shares q) ps ≡ false
-    → take q.length (drop q.start (scatterOf l ps src)) ≡ take q.length (drop q.start l)
-unfolding scatterOf anySegment
-scatter-apart l q [] src z e o = refl
-scatter-apart l q (p ∷ ps) src z e o =
+scatter_apart : (l : List ℕ) (q : Segment) (ps : List Segment) (src : List ℕ) → 0 < q.length → all_segments (lies_in (length l)) ps ≡ true →
+    any_segment (shares q) ps ≡ false
+    → take q.length (drop q.start (scatter_of l ps src)) ≡ take q.length (drop q.start l)
+unfolding scatter_of any_segment
+scatter_apart l q [] src z e o = refl
+scatter_apart l q (p ∷ ps) src z e o =
     let bs = take p.length src in
     let t = taken p src in
     let f = fits l p ps bs e t in
-    scatter-apart (put l p.start bs) q ps (drop p.length src) z (still l p ps bs e t)
-    (or_right (shares q p) (anySegment (shares q) ps) o)
-    ∙ ⊎_elim (λ k. put-before l p.start bs f q.start q.length k)
-    (λ k. put-after l p.start bs f q.start q.length (omega arith))
-    (apart q p z (head-lies (length l) p ps e).positive (or_left (shares q p) (anySegment (shares q) ps) o))
+    scatter_apart (put l p.start bs) q ps (drop p.length src) z (still l p ps bs e t)
+    (or_right (shares q p) (any_segment (shares q) ps) o)
+    ∙ ⊎_elim (λ k. put_before l p.start bs f q.start q.length k)
+    (λ k. put_after l p.start bs f q.start q.length (omega arith))
+    (apart q p z (head_lies (length l) p ps e).positive (or_left (shares q p) (any_segment (shares q) ps) o))
 
 -- and so do all the segments of a list that does not overlap the ones written
-pub scatter-others : (l : List ℕ) (qs ps : List Segment) (src : List ℕ) → allSegments (liesIn (length l)) qs ≡ true →
-    allSegments (liesIn (length l)) ps ≡ true → overlapOf qs ps ≡ false
-    → bytes_of (scatterOf l ps src) qs ≡ bytes_of l qs
-unfolding bytes_of overlapOf anySegment
-scatter-others l [] ps src d e o = refl
-scatter-others l (q ∷ qs) ps src d e o =
-    let a = anySegment (shares q) ps in
-    let b = anySegment (λ p. anySegment (shares p) ps) qs in
+pub scatter_others : (l : List ℕ) (qs ps : List Segment) (src : List ℕ) → all_segments (lies_in (length l)) qs ≡ true →
+    all_segments (lies_in (length l)) ps ≡ true → overlap_of qs ps ≡ false
+    → bytes_of (scatter_of l ps src) qs ≡ bytes_of l qs
+unfolding bytes_of overlap_of any_segment
+scatter_others l [] ps src d e o = refl
+scatter_others l (q ∷ qs) ps src d e o =
+    let a = any_segment (shares q) ps in
+    let b = any_segment (λ p. any_segment (shares p) ps) qs in
     rw (
-      scatter-apart l q ps src (head-lies (length l) q qs d).positive e (or_left a b o),
-      scatter-others l qs ps src
-          (rest-lies (length l) q qs d) e (or_right a b o),
+      scatter_apart l q ps src (head_lies (length l) q qs d).positive e (or_left a b o),
+      scatter_others l qs ps src
+          (rest_lies (length l) q qs d) e (or_right a b o),
     )
 
 -- what is scattered over segments that do not overlap is gathered from them again
-pub gather-scatter : (l : List ℕ) (ps : List Segment) (src : List ℕ) → allSegments (liesIn (length l)) ps ≡ true → selfOverlapOf ps ≡ false
+pub gather_scatter : (l : List ℕ) (ps : List Segment) (src : List ℕ) → all_segments (lies_in (length l)) ps ≡ true → self_overlap_of ps ≡ false
     → length src ≡ size_of ps
-    → bytes_of (scatterOf l ps src) ps ≡ src
-unfolding scatterOf bytes_of size_of selfOverlapOf
-gather-scatter l [] [] h d e = refl
-gather-scatter l [] (x ∷ src) h d e = absurd (let z : suc (length src) ≡ 0 = e in omega arith)
-gather-scatter l (p ∷ ps) src h d e =
+    → bytes_of (scatter_of l ps src) ps ≡ src
+unfolding scatter_of bytes_of size_of self_overlap_of
+gather_scatter l [] [] h d e = refl
+gather_scatter l [] (x ∷ src) h d e = absurd (let z : suc (length src) ≡ 0 = e in omega arith)
+gather_scatter l (p ∷ ps) src h d e =
     let n : ℕ = p.length in
     let bs = take n src in
     let m : List ℕ = put l p.start bs in
     let s : length bs ≡ n = length-take-le n src (omega arith) in
     let k : length (drop n src) ≡ size_of ps = length-drop n src ∙ (omega arith) in
     let t = still l p ps bs h (taken p src) in
-    let first : take n (drop p.start (scatterOf m ps (drop n src))) ≡ bs =
-    scatter-apart m p ps (drop n src) (head-lies (length l) p ps h).positive t (or_left (anySegment (shares p) ps) (selfOverlapOf ps) d)
+    let first : take n (drop p.start (scatter_of m ps (drop n src))) ≡ bs =
+    scatter_apart m p ps (drop n src) (head_lies (length l) p ps h).positive t (or_left (any_segment (shares p) ps) (self_overlap_of ps) d)
     ∙ (rw s at (put_same l p.start bs (fits l p ps bs h (taken p src)))) in
-    ap (λ (x : List ℕ). x ++ bytes_of (scatterOf m ps (drop n src)) ps) first
-    ∙ ap (λ (x : List ℕ). bs ++ x) (gather-scatter m ps (drop n src) t (or_right (anySegment (shares p) ps) (selfOverlapOf ps) d) k)
+    ap (λ (x : List ℕ). x ++ bytes_of (scatter_of m ps (drop n src)) ps) first
+    ∙ ap (λ (x : List ℕ). bs ++ x) (gather_scatter m ps (drop n src) t (or_right (any_segment (shares p) ps) (self_overlap_of ps) d) k)
     ∙ take-append-drop n src
 
 -- byte i of src then stands at place i
-pub scatter-at : (l : List ℕ) (ps : List Segment) (src : List ℕ) (i : ℕ) → allSegments (liesIn (length l)) ps ≡ true
-    → selfOverlapOf ps ≡ false → length src ≡ size_of ps → i < size_of ps
-    → get_or (scatterOf l ps src) (place_of ps i) 0 ≡ get_or src i 0
-scatter-at l ps src i e d n h =
-    let long = scatter-length l ps src e in
-    sym (bytes-at (scatterOf l ps src) ps i (rw long e) h) ∙ ap (λ (t : List ℕ). get_or t i 0) (gather-scatter l ps src e d n)
+pub scatter_at : (l : List ℕ) (ps : List Segment) (src : List ℕ) (i : ℕ) → all_segments (lies_in (length l)) ps ≡ true
+    → self_overlap_of ps ≡ false → length src ≡ size_of ps → i < size_of ps
+    → get_or (scatter_of l ps src) (place_of ps i) 0 ≡ get_or src i 0
+scatter_at l ps src i e d n h =
+    let long = scatter_length l ps src e in
+    sym (bytes_at_lem (scatter_of l ps src) ps i (rw long e) h) ∙ ap (λ (t : List ℕ). get_or t i 0) (gather_scatter l ps src e d n)
 
 -- a place lies in one of the segments
-pub place-covered : (ps : List Segment) (i : ℕ) → i < size_of ps → covered ps (place_of ps i) ≡ true
-unfolding covered anySegment size_of place_of inSegment
-place-covered [] i h = absurd (omega arith)
-place-covered (p ∷ ps) i h = elim (dec_lt i p.length) [
+pub place_covered : (ps : List Segment) (i : ℕ) → i < size_of ps → covered ps (place_of ps i) ≡ true
+unfolding covered any_segment size_of place_of in_segment
+place_covered [] i h = absurd (omega arith)
+place_covered (p ∷ ps) i h = elim (dec_lt i p.length) [
   | yes l ↦
       let a : p.start ≤ p.start + i = omega arith in
       let b : p.start + i < p.start + p.length = omega arith in
       rw (lt-ltb i p.length l) (rw (le-leb p.start (p.start + i) a, lt-ltb (p.start + i) (p.start + p.length) b))
   | no l ↦
       let g : p.length ≤ i = omega arith in
-      rw (le-ltb i p.length g) (rw (place-covered ps (i - p.length) (omega arith)) (or-true (inSegment (place_of ps (i - p.length)) p)))
+      rw (le-ltb i p.length g) (rw (place_covered ps (i - p.length) (omega arith)) (or-true (in_segment (place_of ps (i - p.length)) p)))
 ]
 
 -- and each index in one of them is a place
-pub covered-place : (ps : List Segment) (k : ℕ) → covered ps k ≡ true → (i : ℕ) × (i < size_of ps) × (place_of ps i ≡ k)
-unfolding covered anySegment size_of place_of
-covered-place [] k e = absurd (let z : ◌≡◌ {A = ℕ} 0 1 = cc in omega arith)
-covered-place (p ∷ ps) k e = ⊎_elim (λ a. here a) (λ b. there (covered-place ps k b))
-    (or_cases (inSegment k p) (anySegment (inSegment k) ps) e)
+pub covered_place : (ps : List Segment) (k : ℕ) → covered ps k ≡ true → (i : ℕ) × (i < size_of ps) × (place_of ps i ≡ k)
+unfolding covered any_segment size_of place_of
+covered_place [] k e = absurd (let z : ◌≡◌ {A = ℕ} 0 1 = cc in omega arith)
+covered_place (p ∷ ps) k e = ⊎_elim (λ a. here a) (λ b. there (covered_place ps k b))
+    (or_cases (in_segment k p) (any_segment (in_segment k) ps) e)
   where
-    here : inSegment k p ≡ true → (i : ℕ) × (i < size_of (p ∷ ps)) × (place_of (p ∷ ps) i ≡ k)
+    here : in_segment k p ≡ true → (i : ℕ) × (i < size_of (p ∷ ps)) × (place_of (p ∷ ps) i ≡ k)
     here a =
         let h = inside k p a in
         let l : k - p.start < p.length = omega (arith, h) in
@@ -354,40 +354,40 @@ covered-place (p ∷ ps) k e = ⊎_elim (λ a. here a) (λ b. there (covered-pla
 -- ---- segments glued
 
 -- bytes go where they went into the two lists
-pub scatter-glued : (l : List ℕ) (ps qs : List Segment) (src : List ℕ) → allSegments (liesIn (length l)) ps ≡ true → size_of ps ≤ length src
-    → scatterOf l (glued ps qs) src ≡ scatterOf l (ps ++ qs) src
-unfolding scatterOf glued seam size_of
-scatter-glued l [] qs src e h = refl
-scatter-glued l (p ∷ []) qs src e h = at-seam qs
+pub scatter_glued : (l : List ℕ) (ps qs : List Segment) (src : List ℕ) → all_segments (lies_in (length l)) ps ≡ true → size_of ps ≤ length src
+    → scatter_of l (glued ps qs) src ≡ scatter_of l (ps ++ qs) src
+unfolding scatter_of glued seam size_of
+scatter_glued l [] qs src e h = refl
+scatter_glued l (p ∷ []) qs src e h = at_seam qs
   where
-    at-seam : (qs : List Segment) → scatterOf l (seam p qs) src ≡ scatterOf l (p ∷ qs) src
-    at-seam [] = refl
-    at-seam (q ∷ qs) = ⊎_elim touching (λ a. rw a.is) (seam-cases p q qs)
+    at_seam : (qs : List Segment) → scatter_of l (seam p qs) src ≡ scatter_of l (p ∷ qs) src
+    at_seam [] = refl
+    at_seam (q ∷ qs) = ⊎_elim touching (λ a. rw a.is) (seam_cases p q qs)
       where
-        touching : Touching p q qs → scatterOf l (seam p (q ∷ qs)) src ≡ scatterOf l (p ∷ (q ∷ qs)) src
+        touching : Touching p q qs → scatter_of l (seam p (q ∷ qs)) src ≡ scatter_of l (p ∷ (q ∷ qs)) src
         touching t =
             let bs = take p.length src in
             let n : length bs ≡ p.length = length-take-le p.length src (omega arith) in
             let k : p.start + length bs ≡ q.start = omega (arith, t.ends) in
-            let a : p.start ≤ length l = omega (arith, (head-lies (length l) p [] e).ends) in
+            let a : p.start ≤ length l = omega (arith, (head_lies (length l) p [] e).ends) in
             let cs = take q.length (drop p.length src) in
             let m : List ℕ = put (put l p.start bs) q.start cs in
             let x : m ≡ put l p.start (take (p.length + q.length) src) =
             ap (λ (i : ℕ). put (put l p.start bs) i cs) (sym k)
-            ∙ put-behind l p.start bs cs a
+            ∙ put_behind l p.start bs cs a
             ∙ ap (put l p.start) (sym (take-add p.length q.length src)) in
-            rw t.is (ap (λ (y : List ℕ). scatterOf y qs (drop (p.length + q.length) src)) (sym x)
-            ∙ ap (scatterOf m qs) (sym (drop-drop q.length p.length src)))
-scatter-glued l (p ∷ (r ∷ ps)) qs src e h =
+            rw t.is (ap (λ (y : List ℕ). scatter_of y qs (drop (p.length + q.length) src)) (sym x)
+            ∙ ap (scatter_of m qs) (sym (drop-drop q.length p.length src)))
+scatter_glued l (p ∷ (r ∷ ps)) qs src e h =
     let bs = take p.length src in
-    scatter-glued (put l p.start bs) (r ∷ ps) qs (drop p.length src) (still l p (r ∷ ps) bs e (taken p src))
+    scatter_glued (put l p.start bs) (r ∷ ps) qs (drop p.length src) (still l p (r ∷ ps) bs e (taken p src))
     (simp length-drop (omega arith))
 
-pub fill-glued : (l : List ℕ) (ps qs : List Segment) (b : ℕ) → allSegments (liesIn (length l)) ps ≡ true
-    → fillOf l (glued ps qs) b ≡ fillOf l (ps ++ qs) b
-fill-glued l ps qs b e =
-    let n : size_of (glued ps qs) ≡ size_of (ps ++ qs) = glued-size qs ps ∙ sym (size-append ps qs) in
+pub fill_glued : (l : List ℕ) (ps qs : List Segment) (b : ℕ) → all_segments (lies_in (length l)) ps ≡ true
+    → fill_of l (glued ps qs) b ≡ fill_of l (ps ++ qs) b
+fill_glued l ps qs b e =
+    let n : size_of (glued ps qs) ≡ size_of (ps ++ qs) = glued_size qs ps ∙ sym (size_append ps qs) in
     let h : size_of ps ≤ length (replicate (size_of (ps ++ qs)) b) =
-    omega (arith, length-replicate (size_of (ps ++ qs)) b, size-append ps qs) in
-    fill_is l (glued ps qs) b ∙ ap (λ (k : ℕ). scatterOf l (glued ps qs) (replicate k b)) n
-    ∙ scatter-glued l ps qs (replicate (size_of (ps ++ qs)) b) e h ∙ sym (fill_is l (ps ++ qs) b)
+    omega (arith, length-replicate (size_of (ps ++ qs)) b, size_append ps qs) in
+    fill_is l (glued ps qs) b ∙ ap (λ (k : ℕ). scatter_of l (glued ps qs) (replicate k b)) n
+    ∙ scatter_glued l ps qs (replicate (size_of (ps ++ qs)) b) e h ∙ sym (fill_is l (ps ++ qs) b)

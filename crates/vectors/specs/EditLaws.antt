@@ -7,66 +7,66 @@ use Rattle.arithmetic.specs.declared.refusals.Outcome.TheVariants.{Done}
 use Rattle.vectors.specs.declared.vector.Segment.{Segment}
 use Rattle.vectors.specs.declared.vector.IoVector.{IoVector}
 use Rattle.vectors.specs.declared.vector.Changed.{Changed}
-use Rattle.vectors.specs.Vectors.{segmentsOf, liesIn, segmentsFit, isValid, glued, refusedVector, changedTo, pushOf, insertedAt}
-use Rattle.vectors.specs.Vectors.{insertOf, appendOf, head_of, tailOf, splitOf, splitTailOf}
-use Rattle.vectors.specs.SegmentLaws.{fit-true, valid, segments-of, vector-valid}
-use Rattle.vectors.specs.SplitLaws.{head-fits, tail-fits}
+use Rattle.vectors.specs.Vectors.{segments_of, lies_in, segments_fit, is_valid, glued, refused_vector, changed_to, push_of, inserted_at}
+use Rattle.vectors.specs.Vectors.{insert_of, append_of, head_of, tail_of, split_of, split_tail_of}
+use Rattle.vectors.specs.SegmentLaws.{fit_true, valid, segments_of_lem, vector_valid}
+use Rattle.vectors.specs.SplitLaws.{head_fits, tail_fits}
 
 -- the edit was carried out: the vector has the segments ps, and is valid
 pub record EditedTo (n : ℕ) (ps : List Segment) (c : Changed) : Type 0 where
   pub done : c.outcome ≡ Done
-  pub segments : segmentsOf c.vector ≡ ps
-  pub valid : isValid n c.vector ≡ true
+  pub segments : segments_of c.vector ≡ ps
+  pub valid : is_valid n c.vector ≡ true
 
-pub changed : (n : ℕ) (v : IoVector) (ps : List Segment) → EditedTo n ps (changedTo n v ps) ⊎ (changedTo n v ps ≡ refusedVector v)
-unfolding changedTo
-changed n v ps = go (isValid n v && segmentsFit n ps) refl
+pub changed : (n : ℕ) (v : IoVector) (ps : List Segment) → EditedTo n ps (changed_to n v ps) ⊎ (changed_to n v ps ≡ refused_vector v)
+unfolding changed_to
+changed n v ps = go (is_valid n v && segments_fit n ps) refl
   where
-    go : (t : Bool) → (isValid n v && segmentsFit n ps) ≡ t → EditedTo n ps (changedTo n v ps) ⊎ (changedTo n v ps ≡ refusedVector v)
+    go : (t : Bool) → (is_valid n v && segments_fit n ps) ≡ t → EditedTo n ps (changed_to n v ps) ⊎ (changed_to n v ps ≡ refused_vector v)
     go true e =
-        let f = vector-valid n ps (and_right (isValid n v) (segmentsFit n ps) e) in
-        inl (record { done = rw e; segments = rw e (segments-of ps); valid = rw e f })
+        let f = vector_valid n ps (and_right (is_valid n v) (segments_fit n ps) e) in
+        inl (record { done = rw e; segments = rw e (segments_of_lem ps); valid = rw e f })
     go false e = inr (rw e)
 
 module _ (n : ℕ) (v : IoVector) where
   -- a call that is carried out if t, and then gives the segments ps
-  when-asked : (t : Bool) (ps : List Segment) → EditedTo n ps (pick t (changedTo n v ps) (refusedVector v))
-      ⊎ (pick t (changedTo n v ps) (refusedVector v) ≡ refusedVector v)
-  when-asked true ps = changed n v ps
-  when-asked false ps = inr refl
+  when_asked : (t : Bool) (ps : List Segment) → EditedTo n ps (pick t (changed_to n v ps) (refused_vector v))
+      ⊎ (pick t (changed_to n v ps) (refused_vector v) ≡ refused_vector v)
+  when_asked true ps = changed n v ps
+  when_asked false ps = inr refl
 
-  pub pushed : (p : Segment) → EditedTo n (glued (segmentsOf v) (p ∷ [])) (pushOf n v p) ⊎ (pushOf n v p ≡ refusedVector v)
-  unfolding pushOf
-  pushed p = when-asked (liesIn n p) (glued (segmentsOf v) (p ∷ []))
+  pub pushed : (p : Segment) → EditedTo n (glued (segments_of v) (p ∷ [])) (push_of n v p) ⊎ (push_of n v p ≡ refused_vector v)
+  unfolding push_of
+  pushed p = when_asked (lies_in n p) (glued (segments_of v) (p ∷ []))
 
-  pub inserted : (i : ℕ) (p : Segment) → EditedTo n (insertedAt i (segmentsOf v) p) (insertOf n v i p)
-      ⊎ (insertOf n v i p ≡ refusedVector v)
-  unfolding insertOf
-  inserted i p = when-asked (leb i v.count && liesIn n p) (insertedAt i (segmentsOf v) p)
+  pub inserted : (i : ℕ) (p : Segment) → EditedTo n (inserted_at i (segments_of v) p) (insert_of n v i p)
+      ⊎ (insert_of n v i p ≡ refused_vector v)
+  unfolding insert_of
+  inserted i p = when_asked (leb i v.count && lies_in n p) (inserted_at i (segments_of v) p)
 
-  pub appended : (w : IoVector) → EditedTo n (glued (segmentsOf v) (segmentsOf w)) (appendOf n v w) ⊎ (appendOf n v w ≡ refusedVector v)
-  unfolding appendOf
-  appended w = when-asked (isValid n w) (glued (segmentsOf v) (segmentsOf w))
+  pub appended : (w : IoVector) → EditedTo n (glued (segments_of v) (segments_of w)) (append_of n v w) ⊎ (append_of n v w ≡ refused_vector v)
+  unfolding append_of
+  appended w = when_asked (is_valid n w) (glued (segments_of v) (segments_of w))
 
 -- the two parts of a valid vector are valid
-module _ (n : ℕ) (v : IoVector) (mid : ℕ) (e : isValid n v ≡ true) where
-  pub split-head : (segmentsOf (splitOf n v mid).head ≡ head_of (segmentsOf v) mid) × (isValid n (splitOf n v mid).head ≡ true)
-  unfolding splitOf
-  split-head = rw e (
-    segments-of (head_of (segmentsOf v) mid),
-    vector-valid n (head_of (segmentsOf v) mid)
-        (head-fits n (segmentsOf v) mid (fit-true n (segmentsOf v) (valid n v e).fit)),
+module _ (n : ℕ) (v : IoVector) (mid : ℕ) (e : is_valid n v ≡ true) where
+  pub split_head : (segments_of (split_of n v mid).head ≡ head_of (segments_of v) mid) × (is_valid n (split_of n v mid).head ≡ true)
+  unfolding split_of
+  split_head = rw e (
+    segments_of_lem (head_of (segments_of v) mid),
+    vector_valid n (head_of (segments_of v) mid)
+        (head_fits n (segments_of v) mid (fit_true n (segments_of v) (valid n v e).fit)),
   )
 
-  pub split-tail : (segmentsOf (splitOf n v mid).tail ≡ tailOf (segmentsOf v) mid) × (isValid n (splitOf n v mid).tail ≡ true)
-  unfolding splitOf
-  split-tail = rw e (
-    segments-of (tailOf (segmentsOf v) mid),
-    vector-valid n (tailOf (segmentsOf v) mid)
-        (tail-fits n (segmentsOf v) mid (fit-true n (segmentsOf v) (valid n v e).fit)),
+  pub split_tail : (segments_of (split_of n v mid).tail ≡ tail_of (segments_of v) mid) × (is_valid n (split_of n v mid).tail ≡ true)
+  unfolding split_of
+  split_tail = rw e (
+    segments_of_lem (tail_of (segments_of v) mid),
+    vector_valid n (tail_of (segments_of v) mid)
+        (tail_fits n (segments_of v) mid (fit_true n (segments_of v) (valid n v e).fit)),
   )
 
   -- a split for the tail alone gives the other's tail and number
-  pub tail-only : splitTailOf n v mid ≡ record { vector = (splitOf n v mid).tail; looked = (splitOf n v mid).looked; outcome = Done }
-  unfolding splitOf splitTailOf
-  tail-only = rw e
+  pub tail_only : split_tail_of n v mid ≡ record { vector = (split_of n v mid).tail; looked = (split_of n v mid).looked; outcome = Done }
+  unfolding split_of split_tail_of
+  tail_only = rw e

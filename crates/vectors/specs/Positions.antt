@@ -5,7 +5,7 @@ use Rattle.vectors.specs.declared.vector.Segment.{Segment}
 use Rattle.vectors.specs.declared.vector.IoVector.{IoVector}
 use Rattle.vectors.specs.declared.vector.SplitPosition.{SplitPosition}
 use Rattle.vectors.specs.declared.vector.Split.{Split}
-use Rattle.vectors.specs.Vectors.{segment, none, segmentsOf, size_of, isValid, lookedAt}
+use Rattle.vectors.specs.Vectors.{segment, none, segments_of, size_of, is_valid, looked_at}
 
 abbrev pub position : ℕ → ℕ → SplitPosition
 position i m = record { index = i; inside = m }
@@ -24,12 +24,12 @@ abbrev pub meeting : SplitPosition → ℕ → Split
 meeting c n = record { head = c; tail = c; looked = n }
 
 -- where a split at byte mid falls
-abbrev pub splitAt : List Segment → ℕ → Split
-splitAt ps mid = meeting (position_of ps mid) (lookedAt ps mid)
+abbrev pub split_at : List Segment → ℕ → Split
+split_at ps mid = meeting (position_of ps mid) (looked_at ps mid)
 
 -- the segments before a position
-unfoldable pub headAt : List Segment → SplitPosition → List Segment
-headAt ps c =
+unfoldable pub head_at : List Segment → SplitPosition → List Segment
+head_at ps c =
     pick (eqb c.inside 0) (take c.index ps) (take c.index ps ++ (segment (get_or ps c.index none).start c.inside ∷ []))
 
 -- the segments from a position on
@@ -41,12 +41,12 @@ tail_at ps c =
 -- a vector over data of some length
 pub record IsVector (v : IoVector) : Type 0 where
   pub over : ℕ
-  pub is : isValid over v ≡ true
+  pub is : is_valid over v ≡ true
 
 -- a position that is a split of the vector
 pub record Cut (v : IoVector) (c : SplitPosition) : Type 0 where
   pub few : v.count ≤ 16
-  pub small : size_of (segmentsOf v) ≤ 1048576
+  pub small : size_of (segments_of v) ≤ 1048576
   pub reach : c.index ≤ v.count
   pub part : (c.inside ≡ 0 → ⊥) → (c.index < v.count) × (c.inside < (get_or v.segments c.index none).length)
   pub ends : (c.inside ≡ 0 → ⊥) → (get_or v.segments c.index none).start + (get_or v.segments

@@ -5,20 +5,20 @@ use Rattle.arithmetic.specs.declared.refusals.Outcome.TheVariants.{Done}
 use Rattle.vectors.specs.declared.vector.Segment.{Segment}
 use Rattle.vectors.specs.declared.vector.IoVector.{IoVector}
 use Rattle.vectors.specs.declared.vector.Changed.{Changed}
-use Rattle.vectors.specs.Vectors.{segment, allSegments, touches, vectorOf, refusedVector}
+use Rattle.vectors.specs.Vectors.{segment, all_segments, touches, vector_of, refused_vector}
 
 -- p touches the first of the segments
-unfoldable pub touchesFirst : Segment → List Segment → Bool
-touchesFirst p [] = false
-touchesFirst p (q ∷ qs) = touches p q
+unfoldable pub touches_first : Segment → List Segment → Bool
+touches_first p [] = false
+touches_first p (q ∷ qs) = touches p q
 
-unfoldable pub notEmpty : Segment → Bool
-notEmpty p = ltb 0 p.length
+unfoldable pub not_empty : Segment → Bool
+not_empty p = ltb 0 p.length
 
 -- no two neighbours touch
-unfoldable pub noneTouch : List Segment → Bool
-noneTouch [] = true
-noneTouch (p ∷ ps) = not (touchesFirst p ps) && noneTouch ps
+unfoldable pub none_touch : List Segment → Bool
+none_touch [] = true
+none_touch (p ∷ ps) = not (touches_first p ps) && none_touch ps
 
 -- s, s + 1, .. : n positions
 unfoldable pub up_from : ℕ → ℕ → List ℕ
@@ -43,10 +43,10 @@ runs (x ∷ xs) = run_from x (runs xs)
 -- ps are the maximal runs of the positions xs: they have these positions, none is empty, and no two could be one
 pub record MaximalRuns (xs : List ℕ) (ps : List Segment) : Type 0 where
   pub same : positions ps ≡ xs
-  pub filled : allSegments notEmpty ps ≡ true
-  pub longest : noneTouch ps ≡ true
+  pub filled : all_segments not_empty ps ≡ true
+  pub longest : none_touch ps ≡ true
 
 -- v with the runs of the positions xs as its segments: 202 for more than 16 of them, or more than 1,048,576 positions
-unfoldable pub runsOrRefused : IoVector → List ℕ → Changed
-runsOrRefused v xs =
-    pick (leb (length (runs xs)) 16 && leb (length xs) 1048576) (record { vector = vectorOf (runs xs); outcome = Done }) (refusedVector v)
+unfoldable pub runs_or_refused : IoVector → List ℕ → Changed
+runs_or_refused v xs =
+    pick (leb (length (runs xs)) 16 && leb (length xs) 1048576) (record { vector = vector_of (runs xs); outcome = Done }) (refused_vector v)

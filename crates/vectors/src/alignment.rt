@@ -1,6 +1,6 @@
 // Whether a vector's segments lie as direct requests need them.
 ghost use Rattle.std.specs.Prelude.{◌≡◌};
-ghost use Rattle.vectors.specs.Vectors.{segmentsOf, allAligned, alignmentOf};
+ghost use Rattle.vectors.specs.Vectors.{segments_of, all_aligned, alignment_of};
 ghost use Rattle.vectors.specs.Aligning.{Addressed};
 
 use crate::vector::{Alignment, IoVector};
@@ -12,7 +12,7 @@ impl IoVector {
     // Whether direct requests can use the segments. Refused: 201 for unfit alignments, then 205 for data that ends past
     // 2^64 - 1, then 202 for no vector over the data.
     pub fn is_aligned(self, align: Alignments, data: Lent) -> Alignment
-        ensures { result ≡ alignmentOf align «data» self }
+        ensures { result ≡ alignment_of align «data» self }
     {
         if !align.is_fit() {
             return Alignment::Refused(Refusal::Unfit);
@@ -36,7 +36,7 @@ impl IoVector {
     // Whether every segment's address is a multiple of `mem` and its length of `len`, over data at `address`.
     fn has_aligned_segments(self, address: u64, mem: u64, len: u64) -> bool
         requires { Addressed self address mem len }
-        ensures { result ≡ allAligned address mem len (segmentsOf self) }
+        ensures { result ≡ all_aligned address mem len (segments_of self) }
     {
         let n = self.count;
         let mut i = 0usize;

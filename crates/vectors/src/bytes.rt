@@ -1,8 +1,8 @@
 // The bytes of a vector's segments, copied into a slice and back, and filled.
 ghost use Rattle.std.specs.Prelude.{◌≡◌, true, ◌++◌, ◌+◌, ◌≤◌, length, take, drop, replicate};
 ghost use Rattle.std.proofs.Math.Seq.{paste};
-ghost use Rattle.vectors.specs.Vectors.{segmentsOf, isValid, bytes_of, scatterOf, fillOf, copies, outcomeOf};
-ghost use Rattle.vectors.specs.Vectors.{copiedInto, copiedFrom, filledWith};
+ghost use Rattle.vectors.specs.Vectors.{segments_of, is_valid, bytes_of, scatter_of, fill_of, copies, outcome_of};
+ghost use Rattle.vectors.specs.Vectors.{copied_into, copied_from, filled_with};
 
 use crate::vector::IoVector;
 use arithmetic::offsets::lesser;
@@ -87,7 +87,7 @@ impl IoVector {
     // `slice` becomes the bytes of the segments, joined in order.
     fn gather(self, data: &[u8], slice: &mut [u8])
         requires { copies «data».now self (length slice.old) ≡ true }
-        ensures { slice.new ≡ bytes_of «data».now (segmentsOf self) }
+        ensures { slice.new ≡ bytes_of «data».now (segments_of self) }
     {
         let n = self.count;
         let mut filled = 0usize;
@@ -106,7 +106,7 @@ impl IoVector {
     // The bytes of `slice` go into the segments, each filled before the next.
     fn scatter(self, data: &mut [u8], slice: &[u8])
         requires { copies «data».old self (length slice.now) ≡ true }
-        ensures { «data».new ≡ scatterOf «data».old (segmentsOf self) slice.now }
+        ensures { «data».new ≡ scatter_of «data».old (segments_of self) slice.now }
     {
         let n = self.count;
         let mut taken = 0usize;
@@ -124,8 +124,8 @@ impl IoVector {
 
     // Every byte of the segments becomes `value`.
     fn fill_segments(self, data: &mut [u8], value: u8)
-        requires { isValid (length «data».old) self ≡ true }
-        ensures { «data».new ≡ fillOf «data».old (segmentsOf self) value }
+        requires { is_valid (length «data».old) self ≡ true }
+        ensures { «data».new ≡ fill_of «data».old (segments_of self) value }
     {
         let n = self.count;
         let mut i = 0usize;
@@ -140,8 +140,8 @@ impl IoVector {
 
     // `slice`, as long as the vector, becomes its bytes. Refused where it is of another length.
     pub fn copy_into_slice(self, data: &[u8], slice: &mut [u8]) -> Outcome
-        ensures outcome { result ≡ outcomeOf (copies «data».now self (length slice.old)) }
-        ensures bytes { slice.new ≡ copiedInto «data».now self slice.old }
+        ensures outcome { result ≡ outcome_of (copies «data».now self (length slice.old)) }
+        ensures bytes { slice.new ≡ copied_into «data».now self slice.old }
     {
         if !self.is_valid(data.len()) {
             return Outcome::Refused(Refusal::Segment);
@@ -156,8 +156,8 @@ impl IoVector {
     // The bytes of `slice`, as long as the vector, go into its segments in order: where these overlap, the later wins.
     // Refused where it is of another length.
     pub fn copy_from_slice(self, data: &mut [u8], slice: &[u8]) -> Outcome
-        ensures outcome { result ≡ outcomeOf (copies «data».old self (length slice.now)) }
-        ensures bytes { «data».new ≡ copiedFrom «data».old self slice.now }
+        ensures outcome { result ≡ outcome_of (copies «data».old self (length slice.now)) }
+        ensures bytes { «data».new ≡ copied_from «data».old self slice.now }
     {
         if !self.is_valid(data.len()) {
             return Outcome::Refused(Refusal::Segment);
@@ -171,8 +171,8 @@ impl IoVector {
 
     // Every byte of the segments becomes `value`.
     pub fn fill(self, data: &mut [u8], value: u8) -> Outcome
-        ensures outcome { result ≡ outcomeOf (isValid (length «data».old) self) }
-        ensures bytes { «data».new ≡ filledWith «data».old self value }
+        ensures outcome { result ≡ outcome_of (is_valid (length «data».old) self) }
+        ensures bytes { «data».new ≡ filled_with «data».old self value }
     {
         if !self.is_valid(data.len()) {
             return Outcome::Refused(Refusal::Segment);
@@ -183,8 +183,8 @@ impl IoVector {
 
     // A copy in a lent `buffer`, as long as the vector: there is no allocation. Refused where it is of another length.
     pub fn try_into_owned(self, data: &[u8], buffer: &mut [u8]) -> Outcome
-        ensures outcome { result ≡ outcomeOf (copies «data».now self (length buffer.old)) }
-        ensures bytes { buffer.new ≡ copiedInto «data».now self buffer.old }
+        ensures outcome { result ≡ outcome_of (copies «data».now self (length buffer.old)) }
+        ensures bytes { buffer.new ≡ copied_into «data».now self buffer.old }
     {
         self.copy_into_slice(data, buffer)
     }

@@ -1,6 +1,6 @@
 // Which segments share a byte: the test of refusal 203. Total for any value of the types.
 ghost use Rattle.std.specs.Prelude.{◌≡◌, ◌≤◌, length, drop};
-ghost use Rattle.vectors.specs.Vectors.{segmentsOf, shares, anySegment, overlapOf, selfOverlapOf};
+ghost use Rattle.vectors.specs.Vectors.{segments_of, shares, any_segment, overlap_of, self_overlap_of};
 
 use crate::vector::{IoVector, MAX_COUNT, Segment};
 
@@ -19,7 +19,7 @@ impl Segment {
 impl IoVector {
     // How many of the segments are in use: of a count past the array, all.
     fn used_count(self) -> usize
-        ensures { result ≡ length (segmentsOf self) }
+        ensures { result ≡ length (segments_of self) }
     {
         if self.count < MAX_COUNT {
             self.count
@@ -30,8 +30,8 @@ impl IoVector {
 
     // Whether `segment` shares a byte with one of the segments from `start` on.
     fn shares_from(self, start: usize, segment: Segment) -> bool
-        requires { start ≤ length (segmentsOf self) }
-        ensures { result ≡ anySegment (shares segment) (drop start (segmentsOf self)) }
+        requires { start ≤ length (segments_of self) }
+        ensures { result ≡ any_segment (shares segment) (drop start (segments_of self)) }
     {
         let n = self.used_count();
         let mut i = start;
@@ -47,7 +47,7 @@ impl IoVector {
 
     // Whether the vectors share a byte.
     pub fn overlaps(self, other: IoVector) -> bool
-        ensures { result ≡ overlapOf (segmentsOf self) (segmentsOf other) }
+        ensures { result ≡ overlap_of (segments_of self) (segments_of other) }
     {
         let n = self.used_count();
         let mut i = 0usize;
@@ -63,7 +63,7 @@ impl IoVector {
 
     // Whether two of the segments share a byte.
     pub fn overlaps_itself(self) -> bool
-        ensures { result ≡ selfOverlapOf (segmentsOf self) }
+        ensures { result ≡ self_overlap_of (segments_of self) }
     {
         let n = self.used_count();
         let mut i = 0usize;

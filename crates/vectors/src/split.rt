@@ -1,7 +1,7 @@
 // Splits of a vector at a byte.
 ghost use Rattle.std.specs.Prelude.{◌≡◌};
-ghost use Rattle.vectors.specs.Vectors.{vectorOf, segmentsOf, splitOf, splitTailOf};
-ghost use Rattle.vectors.specs.Positions.{position, meeting, splitAt, IsVector, headAt, tail_at, Cut};
+ghost use Rattle.vectors.specs.Vectors.{vector_of, segments_of, split_of, split_tail_of};
+ghost use Rattle.vectors.specs.Positions.{position, meeting, split_at, IsVector, head_at, tail_at, Cut};
 
 use crate::vector::{Halves, IoVector, Segment, Split, SplitPosition, Tail};
 use arithmetic::refusals::{Outcome, Refusal};
@@ -21,7 +21,7 @@ fn meet(index: usize, inside: usize, looked: usize) -> Split
 impl IoVector {
     // The first `mid` bytes, and the rest; and how many segments were looked at to find where.
     pub fn split_at(self, mid: u64, data_len: usize) -> Halves
-        ensures { result ≡ splitOf data_len self mid }
+        ensures { result ≡ split_of data_len self mid }
     {
         if !self.is_valid(data_len) {
             return Halves {
@@ -42,7 +42,7 @@ impl IoVector {
 
     // The bytes from `mid` on.
     pub fn split_tail_at(self, mid: u64, data_len: usize) -> Tail
-        ensures { result ≡ splitTailOf data_len self mid }
+        ensures { result ≡ split_tail_of data_len self mid }
     {
         if !self.is_valid(data_len) {
             return Tail {
@@ -63,7 +63,7 @@ impl IoVector {
     // half the total the walk goes from the last segment; tested by the difference, as twice `mid` may pass 2^64 - 1.
     fn do_split_at(self, mid: u64) -> Split
         requires { IsVector self }
-        ensures { result ≡ splitAt (segmentsOf self) mid }
+        ensures { result ≡ split_at (segments_of self) mid }
     {
         let n = self.count;
         if self.total <= mid {
@@ -103,7 +103,7 @@ impl IoVector {
     // The segments before the position: of the one it lies in, the first part.
     fn head_to(self, position: SplitPosition) -> IoVector
         requires { Cut self position }
-        ensures { result ≡ vectorOf (headAt (segmentsOf self) position) }
+        ensures { result ≡ vector_of (head_at (segments_of self) position) }
     {
         let index = position.index;
         let inside = position.inside;
@@ -121,7 +121,7 @@ impl IoVector {
     // The segments from the position on: of the one it lies in, the last part.
     fn tail_from(self, position: SplitPosition) -> IoVector
         requires { Cut self position }
-        ensures { result ≡ vectorOf (tail_at (segmentsOf self) position) }
+        ensures { result ≡ vector_of (tail_at (segments_of self) position) }
     {
         let index = position.index;
         let inside = position.inside;

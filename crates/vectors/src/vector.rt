@@ -1,8 +1,8 @@
 // An I/O vector: up to 16 segments of the lent data, by value.
 ghost use Rattle.std.specs.Prelude.{◌≡◌, [], ◌∷◌, ◌++◌, ◌≤◌, eqb, take, drop};
-ghost use Rattle.vectors.specs.Vectors.{vectorOf, segmentsOf, liesIn, isValid, touches, glued, refusedVector};
-ghost use Rattle.vectors.specs.Vectors.{pushOf, insertOf, appendOf};
-ghost use Rattle.vectors.specs.Joining.{Room, Joins, lastTouches, Lengthens, Gluing, GluesAll, gluedOf};
+ghost use Rattle.vectors.specs.Vectors.{vector_of, segments_of, lies_in, is_valid, touches, glued, refused_vector};
+ghost use Rattle.vectors.specs.Vectors.{push_of, insert_of, append_of};
+ghost use Rattle.vectors.specs.Joining.{Room, Joins, last_touches, Lengthens, Gluing, GluesAll, glued_of};
 
 use arithmetic::refusals::{Outcome, Refusal};
 
@@ -82,7 +82,7 @@ pub(crate) const MAX_TOTAL: u64 = 1048576;
 impl Segment {
     // Whether it is not empty, and inside data of that length.
     pub(crate) fn lies_in(self, data_len: usize) -> bool
-        ensures { result ≡ liesIn data_len self }
+        ensures { result ≡ lies_in data_len self }
     {
         if data_len < self.start {
             return false;
@@ -104,7 +104,7 @@ impl Segment {
 impl IoVector {
     // The vector of no segments.
     pub fn new() -> IoVector
-        ensures { result ≡ vectorOf [] }
+        ensures { result ≡ vector_of [] }
     {
         let none = Segment {
             start: 0,
@@ -139,7 +139,7 @@ impl IoVector {
 
     // Whether this is a vector over data of that length. The sum stays at most MAX_TOTAL.
     pub fn is_valid(self, data_len: usize) -> bool
-        ensures { result ≡ isValid data_len self }
+        ensures { result ≡ is_valid data_len self }
     {
         let n = self.count;
         if MAX_COUNT < n {
@@ -164,7 +164,7 @@ impl IoVector {
     // With one segment more at the end.
     pub(crate) fn add(mut self, segment: Segment) -> IoVector
         requires { Room self segment }
-        ensures { result ≡ vectorOf (segmentsOf self ++ (segment ∷ [])) }
+        ensures { result ≡ vector_of (segments_of self ++ (segment ∷ [])) }
     {
         let end = self.count;
         self.segments[end] = segment;
@@ -177,7 +177,7 @@ impl IoVector {
     // put in place, as `add` does it: by `add` the whole vector would be copied for each.
     pub(crate) fn join(self, other: IoVector, start: usize, n: usize) -> IoVector
         requires { Joins self other start n }
-        ensures { result ≡ vectorOf (segmentsOf self ++ take n (drop start (segmentsOf other))) }
+        ensures { result ≡ vector_of (segments_of self ++ take n (drop start (segments_of other))) }
     {
         let mut v = self;
         let mut i = 0usize;
@@ -195,7 +195,7 @@ impl IoVector {
     // Whether the last segment ends where `next` starts.
     fn last_touches(self, next: Segment) -> bool
         requires { self.count ≤ 16 }
-        ensures { result ≡ lastTouches (segmentsOf self) next }
+        ensures { result ≡ last_touches (segments_of self) next }
     {
         let n = self.count;
         if n == 0 {
@@ -208,7 +208,7 @@ impl IoVector {
     // With the last segment longer by `next`, which it touches.
     fn lengthen(mut self, next: Segment) -> IoVector
         requires { Lengthens self next }
-        ensures { result ≡ vectorOf (glued (segmentsOf self) (next ∷ [])) }
+        ensures { result ≡ vector_of (glued (segments_of self) (next ∷ [])) }
     {
         let end = self.count - 1;
         let last = self.segments[end];
@@ -223,7 +223,7 @@ impl IoVector {
     // With `segment` at the end, as part of the last segment where they touch. It does not fit where it is a 17th.
     fn glue(self, segment: Segment) -> Glued
         requires { Gluing self segment.length }
-        ensures { result ≡ gluedOf self (segment ∷ []) }
+        ensures { result ≡ glued_of self (segment ∷ []) }
     {
         if self.last_touches(segment) {
             return Glued {
@@ -246,7 +246,7 @@ impl IoVector {
     // With n segments of `other`, from `start` on, at the end: the first is glued. They do not fit where one is a 17th.
     fn glue_all(self, other: IoVector, start: usize, n: usize) -> Glued
         requires { GluesAll self other start n }
-        ensures { result ≡ gluedOf self (take n (drop start (segmentsOf other))) }
+        ensures { result ≡ glued_of self (take n (drop start (segments_of other))) }
     {
         if n == 0 {
             return Glued {
@@ -270,7 +270,7 @@ impl IoVector {
 
     // 202: the vector stays as it was.
     pub(crate) fn refuse(self) -> Changed
-        ensures { result ≡ refusedVector self }
+        ensures { result ≡ refused_vector self }
     {
         Changed {
             vector: self,
@@ -281,7 +281,7 @@ impl IoVector {
     // With `segment` at the end: where it starts where the last one ends, that one is longer by it. Refused where the
     // vector is none over the data, or would then be none, or the segment lies outside or is empty.
     pub fn push(self, segment: Segment, data_len: usize) -> Changed
-        ensures { result ≡ pushOf data_len self segment }
+        ensures { result ≡ push_of data_len self segment }
     {
         self.insert(self.count, segment, data_len)
     }
@@ -289,7 +289,7 @@ impl IoVector {
     // With `segment` before the one at `index`, which is at most the count; on either side joined where they touch.
     // Refused as push is.
     pub fn insert(self, index: usize, segment: Segment, data_len: usize) -> Changed
-        ensures { result ≡ insertOf data_len self index segment }
+        ensures { result ≡ insert_of data_len self index segment }
     {
         let n = self.count;
         let is_asked = (index <= n) & self.is_valid(data_len) & segment.lies_in(data_len);
@@ -317,7 +317,7 @@ impl IoVector {
     // With the segments of `other` at the end, the first of them as in push. Refused as push is, and where `other` is no
     // vector over the data.
     pub fn append(self, other: IoVector, data_len: usize) -> Changed
-        ensures { result ≡ appendOf data_len self other }
+        ensures { result ≡ append_of data_len self other }
     {
         let is_asked = other.is_valid(data_len) & self.is_valid(data_len);
         if !is_asked {

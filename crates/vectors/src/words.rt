@@ -1,10 +1,10 @@
 // A vector in 34 words (count, total, then start and length of each of the 16 segments), tested and copied where it lies.
 // Each function does what IoVector's of the same name does.
 ghost use Rattle.std.specs.Prelude.{◌≡◌, true, ◌≤◌, length, get_or, drop};
-ghost use Rattle.vectors.specs.Vectors.{none, segmentsOf, isValid, bytes_of, scatterOf, copies, outcomeOf, copiedInto, copiedFrom};
-ghost use Rattle.vectors.specs.Vectors.{shares, anySegment, overlapOf, selfOverlapOf, allAligned, liesAligned, alignmentOf};
+ghost use Rattle.vectors.specs.Vectors.{none, segments_of, is_valid, bytes_of, scatter_of, copies, outcome_of, copied_into, copied_from};
+ghost use Rattle.vectors.specs.Vectors.{shares, any_segment, overlap_of, self_overlap_of, all_aligned, lies_aligned, alignment_of};
 ghost use Rattle.vectors.specs.Aligning.{Addressed};
-ghost use Rattle.vectors.specs.Words.{vectorFrom, vectorWords};
+ghost use Rattle.vectors.specs.Words.{vector_from, vector_words};
 
 use crate::bytes::copy_bytes;
 use crate::vector::{Alignment, IoVector, MAX_COUNT, MAX_TOTAL, Segment};
@@ -26,21 +26,21 @@ fn size_of(x: u64) -> usize
 
 // How many segments are in use.
 pub fn buffer_count(words: &[u64; 34]) -> usize
-    ensures { result ≡ (vectorFrom words.now).count }
+    ensures { result ≡ (vector_from words.now).count }
 {
     size_of(words[0])
 }
 
 // How many bytes the segments hold.
 pub fn len(words: &[u64; 34]) -> u64
-    ensures { result ≡ (vectorFrom words.now).total }
+    ensures { result ≡ (vector_from words.now).total }
 {
     words[1]
 }
 
 // Segment i: past the 16 an empty one.
 pub fn segment_at(words: &[u64; 34], i: usize) -> Segment
-    ensures { result ≡ get_or (vectorFrom words.now).segments i none }
+    ensures { result ≡ get_or (vector_from words.now).segments i none }
 {
     if i < MAX_COUNT {
         let start = size_of(words[2 + 2 * i]);
@@ -55,7 +55,7 @@ pub fn segment_at(words: &[u64; 34], i: usize) -> Segment
 
 // The vector in the words.
 pub fn get_vector(words: &[u64; 34]) -> IoVector
-    ensures { result ≡ vectorFrom words.now }
+    ensures { result ≡ vector_from words.now }
 {
     let none = Segment {
         start: 0,
@@ -77,7 +77,7 @@ pub fn get_vector(words: &[u64; 34]) -> IoVector
 
 // Write a vector over all the words.
 pub fn put_vector(words: &mut [u64; 34], v: IoVector)
-    ensures { words.new ≡ vectorWords v }
+    ensures { words.new ≡ vector_words v }
 {
     put_words(words, v);
 }
@@ -85,7 +85,7 @@ pub fn put_vector(words: &mut [u64; 34], v: IoVector)
 // As a slice the words tell how many they are.
 fn put_words(words: &mut [u64], v: IoVector)
     requires { length words.old ≡ 34 }
-    ensures { words.new ≡ vectorWords v }
+    ensures { words.new ≡ vector_words v }
 {
     words[0] = size_word(v.count);
     words[1] = v.total;
@@ -100,7 +100,7 @@ fn put_words(words: &mut [u64], v: IoVector)
 
 // Whether this is a vector over data of that length.
 pub fn is_valid(words: &[u64; 34], data_len: usize) -> bool
-    ensures { result ≡ isValid data_len (vectorFrom words.now) }
+    ensures { result ≡ is_valid data_len (vector_from words.now) }
 {
     let n = buffer_count(words);
     if MAX_COUNT < n {
@@ -125,7 +125,7 @@ pub fn is_valid(words: &[u64; 34], data_len: usize) -> bool
 // Whether direct requests can use the segments. Refused: 201 for unfit alignments, then 205 for data that ends past 2^64 - 1,
 // then 202 for no vector over the data.
 pub fn is_aligned(words: &[u64; 34], align: Alignments, data: Lent) -> Alignment
-    ensures { result ≡ alignmentOf align «data» (vectorFrom words.now) }
+    ensures { result ≡ alignment_of align «data» (vector_from words.now) }
 {
     if !align.is_fit() {
         return Alignment::Refused(Refusal::Unfit);
@@ -148,8 +148,8 @@ pub fn is_aligned(words: &[u64; 34], align: Alignments, data: Lent) -> Alignment
 
 // Whether every segment's address is a multiple of `mem` and its length of `len`, over data at `address`.
 fn has_aligned_segments(words: &[u64; 34], address: u64, mem: u64, len: u64) -> bool
-    requires { Addressed (vectorFrom words.now) address mem len }
-    ensures { result ≡ allAligned address mem len (segmentsOf (vectorFrom words.now)) }
+    requires { Addressed (vector_from words.now) address mem len }
+    ensures { result ≡ all_aligned address mem len (segments_of (vector_from words.now)) }
 {
     let n = buffer_count(words);
     let mut i = 0usize;
@@ -168,7 +168,7 @@ fn has_aligned_segments(words: &[u64; 34], address: u64, mem: u64, len: u64) -> 
 
 // How many of the segments are in use: of a count past 16, all.
 fn used_count(words: &[u64; 34]) -> usize
-    ensures { result ≡ length (segmentsOf (vectorFrom words.now)) }
+    ensures { result ≡ length (segments_of (vector_from words.now)) }
 {
     let n = buffer_count(words);
     if n < MAX_COUNT { n } else { MAX_COUNT }
@@ -176,7 +176,7 @@ fn used_count(words: &[u64; 34]) -> usize
 
 // Whether each segment's address, over data at `address`, fits 64 bits and is a multiple of `mem`, and its length one of `len`.
 pub fn lies_aligned(words: &[u64; 34], address: u64, mem: u64, len: u64) -> bool
-    ensures { result ≡ liesAligned address mem len (segmentsOf (vectorFrom words.now)) }
+    ensures { result ≡ lies_aligned address mem len (segments_of (vector_from words.now)) }
 {
     let n = used_count(words);
     let mut i = 0usize;
@@ -198,8 +198,8 @@ pub fn lies_aligned(words: &[u64; 34], address: u64, mem: u64, len: u64) -> bool
 
 // Whether `segment` shares a byte with one of the segments from `start` on.
 fn shares_from(words: &[u64; 34], start: usize, segment: Segment) -> bool
-    requires { start ≤ length (segmentsOf (vectorFrom words.now)) }
-    ensures { result ≡ anySegment (shares segment) (drop start (segmentsOf (vectorFrom words.now))) }
+    requires { start ≤ length (segments_of (vector_from words.now)) }
+    ensures { result ≡ any_segment (shares segment) (drop start (segments_of (vector_from words.now))) }
 {
     let n = used_count(words);
     let mut i = start;
@@ -215,7 +215,7 @@ fn shares_from(words: &[u64; 34], start: usize, segment: Segment) -> bool
 
 // Whether the vectors share a byte.
 pub fn overlaps(v: &[u64; 34], w: &[u64; 34]) -> bool
-    ensures { result ≡ overlapOf (segmentsOf (vectorFrom v.now)) (segmentsOf (vectorFrom w.now)) }
+    ensures { result ≡ overlap_of (segments_of (vector_from v.now)) (segments_of (vector_from w.now)) }
 {
     let n = used_count(v);
     let mut i = 0usize;
@@ -231,7 +231,7 @@ pub fn overlaps(v: &[u64; 34], w: &[u64; 34]) -> bool
 
 // Whether two of the segments share a byte.
 pub fn overlaps_itself(v: &[u64; 34]) -> bool
-    ensures { result ≡ selfOverlapOf (segmentsOf (vectorFrom v.now)) }
+    ensures { result ≡ self_overlap_of (segments_of (vector_from v.now)) }
 {
     let n = used_count(v);
     let mut i = 0usize;
@@ -247,8 +247,8 @@ pub fn overlaps_itself(v: &[u64; 34]) -> bool
 
 // `slice` becomes the bytes of the segments, joined in order.
 fn gather(words: &[u64; 34], data: &[u8], slice: &mut [u8])
-    requires { copies «data».now (vectorFrom words.now) (length slice.old) ≡ true }
-    ensures { slice.new ≡ bytes_of «data».now (segmentsOf (vectorFrom words.now)) }
+    requires { copies «data».now (vector_from words.now) (length slice.old) ≡ true }
+    ensures { slice.new ≡ bytes_of «data».now (segments_of (vector_from words.now)) }
 {
     let n = buffer_count(words);
     let mut filled = 0usize;
@@ -266,9 +266,9 @@ fn gather(words: &[u64; 34], data: &[u8], slice: &mut [u8])
 
 // The bytes of `slice` go into the segments, each filled before the next.
 fn scatter(words: &[u64; 34], data: &mut [u8], slice: &[u8])
-    requires { copies «data».old (vectorFrom words.now) (length slice.now) ≡ true }
+    requires { copies «data».old (vector_from words.now) (length slice.now) ≡ true }
     ensures { «data».new
-        ≡ scatterOf «data».old (segmentsOf (vectorFrom words.now)) slice.now }
+        ≡ scatter_of «data».old (segments_of (vector_from words.now)) slice.now }
 {
     let n = buffer_count(words);
     let mut taken = 0usize;
@@ -287,9 +287,9 @@ fn scatter(words: &[u64; 34], data: &mut [u8], slice: &[u8])
 // `slice`, as long as the vector, becomes its bytes. Refused where it is of another length.
 pub fn copy_into_slice(words: &[u64; 34], data: &[u8], slice: &mut [u8]) -> Outcome
     ensures outcome { result
-        ≡ outcomeOf (copies «data».now (vectorFrom words.now) (length slice.old)) }
+        ≡ outcome_of (copies «data».now (vector_from words.now) (length slice.old)) }
     ensures bytes { slice.new
-        ≡ copiedInto «data».now (vectorFrom words.now) slice.old }
+        ≡ copied_into «data».now (vector_from words.now) slice.old }
 {
     if !is_valid(words, data.len()) {
         return Outcome::Refused(Refusal::Segment);
@@ -305,9 +305,9 @@ pub fn copy_into_slice(words: &[u64; 34], data: &[u8], slice: &mut [u8]) -> Outc
 // where it is of another length.
 pub fn copy_from_slice(words: &[u64; 34], data: &mut [u8], slice: &[u8]) -> Outcome
     ensures outcome { result
-        ≡ outcomeOf (copies «data».old (vectorFrom words.now) (length slice.now)) }
+        ≡ outcome_of (copies «data».old (vector_from words.now) (length slice.now)) }
     ensures bytes { «data».new
-        ≡ copiedFrom «data».old (vectorFrom words.now) slice.now }
+        ≡ copied_from «data».old (vector_from words.now) slice.now }
 {
     if !is_valid(words, data.len()) {
         return Outcome::Refused(Refusal::Segment);

@@ -1,10 +1,10 @@
 -- `dock_c::dock_words_begin_discard` meets its contract: what begin answers of what is asked, as a reply. Assumes nothing.
 use mathlib.Core.Path.{ap, ◌∙◌}
-use Rattle.dock.specs.Begin.{Begins, beginOf}
-use Rattle.dock.specs.Numbers.{begunPaper}
+use Rattle.dock.specs.Begin.{Begins, begin_of}
+use Rattle.dock.specs.Numbers.{begun_paper}
 use Rattle.dock.specs.declared.begin.Asked.{Asked}
-use Rattle.dock_words.specs.View.{dockOf}
-use Rattle.dock_c.specs.Replies.{replyOf}
+use Rattle.dock_words.specs.View.{dock_of}
+use Rattle.dock_c.specs.Replies.{reply_of}
 use borrow.Author.Rules.{rules}
 use Rattle.dock_c.proofs.dock_words_begin_discard.Statement.{statement}
 use Rattle.dock_c.proofs.dock_words_begin_discard.Tie as tie
@@ -22,7 +22,7 @@ same_length : tie.Need-same-length
 same_length c = search rules
 
 returns : tie.Need-returns
-returns c = let a = c.before.before.before.before.before.before.before.before.before.before.before.args in let w = c.before.before.before.begin.ensures.1 in let e = c.before.before.before.begin.ensures.0 ∙ ap (λ (q : Asked). beginOf (dockOf a.settings.now a.blockers.now a.states.now a.vectors.now) q a.«data».now a.scratch.now) c.before.before.before.before.before.before.before.before.discard.ensures in let o = ap (λ (z : Begins). z.answer) e in ((c.begun-reply.ensures ∙ ap (λ (z : Begins). replyOf (begunPaper z.answer)) e, ap (λ (z : Begins). z.dock) e, ap (λ (z : Begins). z.scratch) e), (rw (← o) w.0, rw (← o) w.1, rw (← o) w.2))
+returns c = let a = c.before.before.before.before.before.before.before.before.before.before.before.args in let w = c.before.before.before.begin.ensures.1 in let e = c.before.before.before.begin.ensures.0 ∙ ap (λ (q : Asked). begin_of (dock_of a.settings.now a.blockers.now a.states.now a.vectors.now) q a.«data».now a.scratch.now) c.before.before.before.before.before.before.before.before.discard.ensures in let o = ap (λ (z : Begins). z.answer) e in ((c.begun-reply.ensures ∙ ap (λ (z : Begins). reply_of (begun_paper z.answer)) e, ap (λ (z : Begins). z.dock) e, ap (λ (z : Begins). z.scratch) e), (rw (← o) w.0, rw (← o) w.1, rw (← o) w.2))
 
 pub dock-words-begin-discard-spec : {M : Type 1} → statement M
 dock-words-begin-discard-spec =

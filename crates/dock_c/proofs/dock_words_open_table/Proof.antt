@@ -1,6 +1,6 @@
 -- `dock_c::dock_words_open_table` meets its contract: the number of what opening by the row answers. Assumes nothing.
 use mathlib.Core.Path.{ap, ◌∙◌}
-use Rattle.arithmetic.specs.Refusals.{outcomeNumber}
+use Rattle.arithmetic.specs.Refusals.{outcome_number}
 use borrow.Author.Rules.{rules}
 use Rattle.dock_c.proofs.dock_words_open_table.Statement.{statement}
 use Rattle.dock_c.proofs.dock_words_open_table.Tie as tie
@@ -18,7 +18,7 @@ number-requires : tie.Need-number-requires
 number-requires c κs = search rules
 
 returns : tie.Need-returns
-returns c = rw (← c.before.before.before.before.before.before.row_of.ensures, ← c.before.before.before.before.before.before.before.buffers-of.ensures) (c.number.ensures ∙ ap outcomeNumber c.before.open_by.ensures.0, c.before.open_by.ensures.1)
+returns c = rw (← c.before.before.before.before.before.before.row_of.ensures, ← c.before.before.before.before.before.before.before.buffers-of.ensures) (c.number.ensures ∙ ap outcome_number c.before.open_by.ensures.0, c.before.open_by.ensures.1)
 
 pub dock-words-open-table-spec : {M : Type 1} → statement M
 dock-words-open-table-spec =

@@ -44,7 +44,7 @@ use denote.Triple.Walked.{says, Stays, stay_ref, stay_dropped, gave_slice, walk_
 use denote.Exit.{yes}
 use denote.Struct.Laws as LL
 use denote.Enum.Laws as EL
-use Rattle.dock.specs.Begin.{Begins, begins, beginOf}
+use Rattle.dock.specs.Begin.{Begins, begins, begin_of}
 use Rattle.dock.specs.declared.dock.Dock.{Dock}
 use Rattle.dock.specs.declared.begin.Beginning.{Beginning}
 use Rattle.dock.specs.declared.begin.Asked.{Asked}
@@ -163,7 +163,7 @@ module _ {M : Type 1} {𝓤 : Ura M} (𝓛 : Logic 𝓤) (at_mem : Memory → SP
 
   -- what the callee ensures of its result and of the slices' last lists
   abbrev E0 : (r : Beginning) (scratch' : List ℕ) → Type 0
-  E0 r scratch' = begins r scratch' ≡ beginOf h asked memory.now scratch.now
+  E0 r scratch' = begins r scratch' ≡ begin_of h asked memory.now scratch.now
 
   exits : (r : Beginning) (scratch' : List ℕ) → Is R.the_row r (vr r ∷ []) → E0 r scratch' → length scratch' ≡ length scratch.now
       → ent 𝓤 (⋆ 𝓛 (‵ (fobs γ ((D.the_row).coded.code r.dock)) ∷ ‵ (fbor κ (Body (mem D.the_row) b o γ)) ∷ ‵ (flft κ q) ∷ (‵ (flft κ₁ q₁) ⊛ ‵ (flft κ₂ q₂) ⊛ ‵ ftrue) ∷ ‵ (finally u8 scratch.name scratch') ∷ [])) (Post (va r))

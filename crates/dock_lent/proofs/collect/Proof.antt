@@ -45,7 +45,7 @@ use denote.Triple.Walked.{says, Stays, stay_ref, stay_dropped, walk_of, AllGo, G
 use denote.Exit.{yes}
 use denote.Struct.Laws as LL
 use denote.Enum.Laws as EL
-use Rattle.dock.specs.Tell.{collectOf}
+use Rattle.dock.specs.Tell.{collect_of}
 use Rattle.dock.specs.declared.dock.Dock.{Dock}
 use Rattle.dock.specs.declared.tell.Collects.{Collects}
 use Rattle.dock.specs.contracts.dock.Dock as D
@@ -152,7 +152,7 @@ module _ {M : Type 1} {𝓤 : Ura M} (𝓛 : Logic 𝓤) (at_mem : Memory → SP
 
   -- what the callee ensures of its result and of the slices' last lists
   abbrev E0 : (r : Collects) → Type 0
-  E0 r = r ≡ collectOf h slot (length memory.now) (length scratch.now)
+  E0 r = r ≡ collect_of h slot (length memory.now) (length scratch.now)
 
   exits : (r : Collects) → Is R.the_row r (vr r ∷ []) → E0 r
       → ent 𝓤 (⋆ 𝓛 (‵ (fobs γ ((D.the_row).coded.code r.dock)) ∷ ‵ (fbor κ (Body (mem D.the_row) b o γ)) ∷ ‵ (flft κ q) ∷ (‵ (flft κ₁ q₁) ⊛ ‵ (flft κ₂ q₂) ⊛ ‵ ftrue) ∷ [])) (Post (va r))

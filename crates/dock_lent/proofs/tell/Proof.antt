@@ -45,7 +45,7 @@ use denote.Triple.Walked.{says, Stays, stay_ref, stay_dropped, gave_slice, walk_
 use denote.Exit.{yes}
 use denote.Struct.Laws as LL
 use denote.Enum.Laws as EL
-use Rattle.dock.specs.Tell.{Told, tells, tellOf}
+use Rattle.dock.specs.Tell.{Told, tells, tell_of}
 use Rattle.dock.specs.declared.dock.Dock.{Dock}
 use Rattle.dock.specs.declared.tell.Telling.{Telling}
 use Rattle.dock.specs.contracts.dock.Dock as D
@@ -152,7 +152,7 @@ module _ {M : Type 1} {𝓤 : Ura M} (𝓛 : Logic 𝓤) (at_mem : Memory → SP
 
   -- what the callee ensures of its result and of the slices' last lists
   abbrev E0 : (r : Telling) (memory' : List ℕ) (scratch' : List ℕ) → Type 0
-  E0 r memory' scratch' = tells r memory' scratch' ≡ tellOf h slot code memory.now scratch.now
+  E0 r memory' scratch' = tells r memory' scratch' ≡ tell_of h slot code memory.now scratch.now
 
   exits : (r : Telling) (memory' : List ℕ) (scratch' : List ℕ) → Is R.the_row r (vr r ∷ []) → E0 r memory' scratch' → length memory' ≡ length memory.now → length scratch' ≡ length scratch.now
       → ent 𝓤 (⋆ 𝓛 (‵ (fobs γ ((D.the_row).coded.code r.dock)) ∷ ‵ (fbor κ (Body (mem D.the_row) b o γ)) ∷ ‵ (flft κ q) ∷ (‵ (flft κ₁ q₁) ⊛ ‵ (flft κ₂ q₂) ⊛ ‵ ftrue) ∷ ‵ (finally u8 memory.name memory') ∷ ‵ (finally u8 scratch.name scratch') ∷ [])) (Post (va r))

@@ -2,8 +2,8 @@
 use native.Mathlib.Omega.{arith}
 use mathlib.Core.Path.{sym, ap, ◌∙◌}
 use mathlib.Core.Logic.{inl, inr}
-use Rattle.records.specs.Records.{littleEndian}
-use Rattle.records.specs.RecordsLaws.{start_none, start-few, start-broken, start-record, two_from}
+use Rattle.records.specs.Records.{little_endian}
+use Rattle.records.specs.RecordsLaws.{start_none, start_few, start_broken, start_record, two_from}
 use borrow.Author.Rules.{rules}
 use Rattle.records.proofs.first_record.Statement.{statement}
 use Rattle.records.proofs.first_record.Tie as tie
@@ -12,7 +12,7 @@ returns : tie.Need-returns
 returns c = sym (start_none c.before.before.args.bytes.now (search rules))
 
 returns-2 : tie.Need-returns-2
-returns-2 c = sym (start-few c.before.before.before.args.bytes.now (search rules) (search rules))
+returns-2 c = sym (start_few c.before.before.before.args.bytes.now (search rules) (search rules))
 
 shared-slice-read-u16-of : tie.Need-shared-slice-read-u16-of
 shared-slice-read-u16-of c = search rules
@@ -25,16 +25,16 @@ u16-of-requires c κs = search rules
 
 returns-3 : tie.Need-returns-3
 returns-3 c = let bs = c.before.before.before.before.before.before.before.args.bytes.now in
-    let e = c.before.u16-of.ensures ∙ ap littleEndian (sym (two_from bs 0 (search rules))) in
-    sym (start-broken bs (search rules) (inr (omega (arith, e, c.if3.true))))
+    let e = c.before.u16-of.ensures ∙ ap little_endian (sym (two_from bs 0 (search rules))) in
+    sym (start_broken bs (search rules) (inr (omega (arith, e, c.if3.true))))
 
 sub-if4 : tie.Need-overflow-sub-if4
 sub-if4 c = search rules
 
 returns-4 : tie.Need-returns-4
 returns-4 c = let bs = c.before.before.before.before.before.before.before.before.args.bytes.now in
-    let e = c.before.before.u16-of.ensures ∙ ap littleEndian (sym (two_from bs 0 (search rules))) in
-    sym (start-broken bs (search rules) (inl (omega (arith, e, c.if4.true))))
+    let e = c.before.before.u16-of.ensures ∙ ap little_endian (sym (two_from bs 0 (search rules))) in
+    sym (start_broken bs (search rules) (inl (omega (arith, e, c.if4.true))))
 
 shared-slice-read-u16-of-3 : tie.Need-shared-slice-read-u16-of-3
 shared-slice-read-u16-of-3 c = search rules
@@ -47,9 +47,9 @@ u16-of-requires-2 c κs = search rules
 
 returns-5 : tie.Need-returns-5
 returns-5 c = let bs = c.before.before.before.before.before.before.before.before.before.before.before.args.bytes.now in
-    let e = c.before.before.before.before.before.u16-of.ensures ∙ ap littleEndian (sym (two_from bs 0 (search rules))) in
-    let k = c.u16-of2.ensures ∙ ap littleEndian (sym (two_from bs 2 (search rules))) in
-    rw (k, e) (sym (start-record bs (search rules) (omega (arith, e, c.before.before.before.if4.false)) (omega (arith, e, c.before.before.before.before.if3.false))))
+    let e = c.before.before.before.before.before.u16-of.ensures ∙ ap little_endian (sym (two_from bs 0 (search rules))) in
+    let k = c.u16-of2.ensures ∙ ap little_endian (sym (two_from bs 2 (search rules))) in
+    rw (k, e) (sym (start_record bs (search rules) (omega (arith, e, c.before.before.before.if4.false)) (omega (arith, e, c.before.before.before.before.if3.false))))
 
 pub first-record-spec : {M : Type 1} → statement M
 first-record-spec =

@@ -1,6 +1,6 @@
 -- `records::u16_of` meets its contract. Assumes nothing.
 use native.Mathlib.Omega.{arith}
-use Rattle.records.specs.Records.{littleEndian}
+use Rattle.records.specs.Records.{little_endian}
 use borrow.Author.Rules.{rules}
 use Rattle.records.proofs.u16_of.Statement.{statement}
 use Rattle.records.proofs.u16_of.Tie as tie
@@ -12,7 +12,7 @@ add-result : tie.Need-overflow-add-result
 add-result c = search rules
 
 returns : tie.Need-returns
-unfolding littleEndian
+unfolding little_endian
 returns c = omega arith
 
 pub u16-of-spec : {M : Type 1} → statement M

@@ -1,6 +1,6 @@
 -- `records::u32_of` meets its contract. Assumes nothing.
 use native.Mathlib.Omega.{arith}
-use Rattle.records.specs.Records.{littleEndian}
+use Rattle.records.specs.Records.{little_endian}
 use borrow.Author.Rules.{rules}
 use Rattle.records.proofs.u32_of.Statement.{statement}
 use Rattle.records.proofs.u32_of.Tie as tie
@@ -24,7 +24,7 @@ add-result-3 : tie.Need-overflow-add-result-3
 add-result-3 c = search rules
 
 returns : tie.Need-returns
-unfolding littleEndian
+unfolding little_endian
 returns c = omega arith
 
 pub u32-of-spec : {M : Type 1} → statement M

@@ -1,5 +1,5 @@
 -- `arithmetic::offsets::is_multiple` meets its contract: by definition. Assumes nothing.
-use Rattle.arithmetic.specs.Rounding.{isMultiple}
+use Rattle.arithmetic.specs.Rounding.{is_multiple}
 use borrow.Author.Rules.{rules}
 use Rattle.arithmetic.proofs.offsets.is_multiple.Statement.{statement}
 use Rattle.arithmetic.proofs.offsets.is_multiple.Tie as tie
@@ -8,7 +8,7 @@ remainder-requires : tie.Need-remainder-requires
 remainder-requires c κs = search rules
 
 returns : tie.Need-returns
-unfolding isMultiple
+unfolding is_multiple
 returns c = rw c.remainder.ensures
 
 pub is-multiple-spec : {M : Type 1} → statement M

@@ -1,7 +1,7 @@
 -- `arithmetic::offsets::round_down` meets its contract: a number less its remainder. Assumes nothing.
 use mathlib.Core.Path.{refl}
 use native.Mathlib.Nat.{mod-le}
-use Rattle.arithmetic.specs.Rounding.{roundDown}
+use Rattle.arithmetic.specs.Rounding.{round_down}
 use borrow.Author.Rules.{rules}
 use Rattle.arithmetic.proofs.offsets.round_down.Statement.{statement}
 use Rattle.arithmetic.proofs.offsets.round_down.Tie as tie
@@ -13,7 +13,7 @@ sub-result : tie.Need-overflow-sub-result
 sub-result c = rw c.remainder.ensures (mod-le _ _)
 
 returns : tie.Need-returns
-unfolding roundDown
+unfolding round_down
 returns c = rw c.remainder.ensures
 
 pub round-down-spec : {M : Type 1} → statement M

@@ -1,5 +1,5 @@
 -- `arithmetic::padding::is_direct` meets its contract: by definition. Assumes nothing.
-use Rattle.arithmetic.specs.Padding.{isDirect}
+use Rattle.arithmetic.specs.Padding.{is_direct}
 use borrow.Author.Rules.{rules}
 use Rattle.arithmetic.proofs.padding.is_direct.Statement.{statement}
 use Rattle.arithmetic.proofs.padding.is_direct.Tie as tie
@@ -11,7 +11,7 @@ is-multiple-requires-2 : tie.Need-is-multiple-requires-2
 is-multiple-requires-2 c κs = search rules
 
 returns : tie.Need-returns
-unfolding isDirect
+unfolding is_direct
 returns c = simp (c.before.is-multiple.ensures, c.is-multiple2.ensures)
 
 pub is-direct-spec : {M : Type 1} → statement M

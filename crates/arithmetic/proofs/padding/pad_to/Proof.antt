@@ -3,13 +3,13 @@ use borrow.Author.Rules.{rules}
 use mathlib.Core.Path.{◌≡◌, ◌∙◌}
 use Prim.Native.Nat.{ℕ, ◌-◌, ◌<◌, ◌≤◌}
 use native.Mathlib.Omega.{arith}
-use Rattle.arithmetic.specs.Rounding.{sum_of, upOf}
-use Rattle.arithmetic.specs.PaddingLaws.{start-le, head-below, end_ge, tail-below, rounded-ge}
-use Rattle.arithmetic.specs.Padding.{paddedStart}
-use Rattle.arithmetic.specs.Offsets.{bufferAt, in-buffer-at}
+use Rattle.arithmetic.specs.Rounding.{sum_of, up_of}
+use Rattle.arithmetic.specs.PaddingLaws.{start_le, head_below, end_ge, tail_below, rounded_ge}
+use Rattle.arithmetic.specs.Padding.{padded_start}
+use Rattle.arithmetic.specs.Offsets.{buffer_at, in_buffer_at}
 use Rattle.arithmetic.specs.declared.offsets.InBuffer.TheVariants.{At as BufferAt}
 use Rattle.arithmetic.specs.declared.offsets.Sum.TheVariants.{Fits}
-use Rattle.arithmetic.proofs.Padded.{over-end, over-rounded, over-length, over-padded, padded-all, end_is, rounded-is, padded-end-is}
+use Rattle.arithmetic.proofs.Padded.{over_end, over_rounded, over_length, over_padded, padded_all, end_is, rounded_is, padded_end_is}
 use Rattle.arithmetic.proofs.padding.pad_to.Statement.{statement}
 use Rattle.arithmetic.proofs.padding.pad_to.Tie as tie
 use Rattle.arithmetic.proofs.padding.pad_to.Reads as reads
@@ -43,7 +43,7 @@ args2 c = args1 (first c)
 abbrev rounded-of : tie.After-known-told2 → ℕ
 rounded-of c = c.before.rounded.given.0.0
 
-e2 : (c : tie.After-known-told2) → upOf (end_of (first c)) (args2 c).r ≡ Fits (rounded-of c)
+e2 : (c : tie.After-known-told2) → up_of (end_of (first c)) (args2 c).r ≡ Fits (rounded-of c)
 e2 c = cc
 
 abbrev second : tie.After-known-told3 → tie.After-round-down
@@ -55,7 +55,7 @@ args3 c = args2 (second c).before
 abbrev length-of : tie.After-known-told3 → ℕ
 length-of c = c.before.length.given.0.0
 
-e3 : (c : tie.After-known-told3) → upOf (rounded-of (second c).before - (second c).round-down.result) (args3 c).l ≡ Fits (length-of c)
+e3 : (c : tie.After-known-told3) → up_of (rounded-of (second c).before - (second c).round-down.result) (args3 c).l ≡ Fits (length-of c)
 e3 c = cc
 
 abbrev third : tie.After-known-told4 → tie.After-known-told3
@@ -73,11 +73,11 @@ e4 c = cc
 -- ---- where the numbers lie
 
 start-lies : (c : tie.After-round-down) → c.round-down.result ≤ (args2 c.before).at
-unfolding paddedStart
+unfolding padded_start
 start-lies c =
     let a = args2 c.before in
     let p = (first c.before).before.before.before.before.requires in
-    omega (arith, c.round-down.ensures, start-le a.r a.l a.at a.n p.0 p.1 p.3)
+    omega (arith, c.round-down.ensures, start_le a.r a.l a.at a.n p.0 p.1 p.3)
 
 record Lies (c : tie.After-known-told4) : Type 0 where
   head : (args4 c).at - (second (third c)).round-down.result < (args4 c).l
@@ -85,7 +85,7 @@ record Lies (c : tie.After-known-told4) : Type 0 where
   tail : padded-end-of c - end_of (first (second (third c)).before) < (args4 c).l
 
 lies : (c : tie.After-known-told4) → Lies c
-unfolding paddedStart
+unfolding padded_start
 lies c =
     let a = args4 c in
     let d = second (third c) in
@@ -93,11 +93,11 @@ lies c =
     let p = (first b).before.before.before.before.pre in
     let s = d.round-down.ensures in
     let ei = end_is a.r a.l a.at a.n (end_of (first b)) (e1 (first b)) in
-    let pi = padded-end-is a.r a.l a.at a.n (end_of (first b)) (rounded-of b) d.round-down.result (length-of (third c)) (e1 (first b)) (e2 b) d.round-down.ensures (e3 (third c)) (padded-end-of c) (e4 c) in
+    let pi = padded_end_is a.r a.l a.at a.n (end_of (first b)) (rounded-of b) d.round-down.result (length-of (third c)) (e1 (first b)) (e2 b) d.round-down.ensures (e3 (third c)) (padded-end-of c) (e4 c) in
     record {
-      head = omega (arith, s, head-below a.r a.l a.at a.n p.0 p.1 p.3, p.2);
+      head = omega (arith, s, head_below a.r a.l a.at a.n p.0 p.1 p.3, p.2);
       end = omega (arith, ei, pi, end_ge a.r a.l a.at a.n p.0 p.1 p.3);
-      tail = omega (arith, ei, pi, tail-below a.r a.l a.at a.n p.0 p.1 p.3);
+      tail = omega (arith, ei, pi, tail_below a.r a.l a.at a.n p.0 p.1 p.3);
     }
 
 add-requires : tie.Need-add-requires
@@ -110,7 +110,7 @@ enum_told : tie.Need-enum-told
 enum_told c = search rules
 
 returns : tie.Need-returns
-returns c = over-end _ _ _ _ (cc)
+returns c = over_end _ _ _ _ (cc)
 
 round-up-requires : tie.Need-round-up-requires
 round-up-requires c κs = search rules
@@ -124,13 +124,13 @@ enum-told-2 c = search rules
 returns-2 : tie.Need-returns-2
 returns-2 c =
     let b = c.before.before.before in
-    over-rounded _ _ _ _ (end_of b) (e1 b) (cc)
+    over_rounded _ _ _ _ (end_of b) (e1 b) (cc)
 
 round-down-requires : tie.Need-round-down-requires
 round-down-requires c κs = search rules
 
 sub-round-up : tie.Need-overflow-sub-round-up
-unfolding paddedStart
+unfolding padded_start
 sub-round-up c =
     let a = args2 c.before in
     let p = (first c.before).before.before.before.before.requires in
@@ -138,8 +138,8 @@ sub-round-up c =
       arith,
       start-lies c,
       c.round-down.ensures,
-      rounded-is a.r a.l a.at a.n (end_of (first c.before)) (rounded-of c.before) c.round-down.result (e1 (first c.before)) (e2 c.before) c.round-down.ensures,
-      rounded-ge a.r a.l a.at a.n p.0 p.1 p.3,
+      rounded_is a.r a.l a.at a.n (end_of (first c.before)) (rounded-of c.before) c.round-down.result (e1 (first c.before)) (e2 c.before) c.round-down.ensures,
+      rounded_ge a.r a.l a.at a.n p.0 p.1 p.3,
     )
 
 round-up-requires-2 : tie.Need-round-up-requires-2
@@ -154,7 +154,7 @@ enum-told-3 c = search rules
 returns-3 : tie.Need-returns-3
 returns-3 c =
     let b = c.before.before.before in
-    over-length _ _ _ _ (end_of (first b.before)) (rounded-of b.before) b.round-down.result (e1 (first b.before)) (e2 b.before) b.round-down.ensures (cc)
+    over_length _ _ _ _ (end_of (first b.before)) (rounded-of b.before) b.round-down.result (e1 (first b.before)) (e2 b.before) b.round-down.ensures (cc)
 
 add-requires-2 : tie.Need-add-requires-2
 add-requires-2 c κs = search rules
@@ -170,7 +170,7 @@ returns-4 c =
     let t = c.before.before.before in
     let d = second t in
     let b = d.before in
-    over-padded _ _ _ _ (end_of (first b)) (rounded-of b) d.round-down.result (length-of t) (e1 (first b)) (e2 b) d.round-down.ensures (e3 t) (cc)
+    over_padded _ _ _ _ (end_of (first b)) (rounded-of b) d.round-down.result (length-of t) (e1 (first b)) (e2 b) d.round-down.ensures (e3 t) (cc)
 
 in-buffer-requires : tie.Need-in-buffer-requires
 in-buffer-requires c κs = search rules
@@ -182,8 +182,8 @@ enum-told-5 : tie.Need-enum-told-5
 enum-told-5 c = search rules
 
 -- the asked offset lies behind the padded start, so in the buffer
-in-buffer-is : (c : tie.After-in-buffer) → c.in_Buffer.result ≡ BufferAt (bufferAt ((args4 c.before).at - (second (third c.before)).round-down.result))
-in-buffer-is c = c.in_Buffer.ensures ∙ in-buffer-at _ _ (start-lies (second (third c.before)))
+in-buffer-is : (c : tie.After-in-buffer) → c.in_Buffer.result ≡ BufferAt (buffer_at ((args4 c.before).at - (second (third c.before)).round-down.result))
+in-buffer-is c = c.in_Buffer.ensures ∙ in_buffer_at _ _ (start-lies (second (third c.before)))
 
 returns-5 : tie.Need-returns-5
 returns-5 c = let e = in-buffer-is c.before.before in let z : ◌≡◌ {A = ℕ} 0 1 = cc in absurd (omega arith)
@@ -208,8 +208,8 @@ returns-6 c =
     let d = second t in
     let b = d.before in
     let e = in-buffer-is i in
-    let g : c.before.before.before.head.given.0.0 ≡ bufferAt ((args4 q).at - d.round-down.result) = cc in
-    padded-all _ _ _ _ (end_of (first b)) (rounded-of b) d.round-down.result (length-of t) (e1 (first b)) (e2 b) d.round-down.ensures (e3 t)
+    let g : c.before.before.before.head.given.0.0 ≡ buffer_at ((args4 q).at - d.round-down.result) = cc in
+    padded_all _ _ _ _ (end_of (first b)) (rounded-of b) d.round-down.result (length-of t) (e1 (first b)) (e2 b) d.round-down.ensures (e3 t)
     (padded-end-of q) c.before.round-edge.result c.round-edge2.result _ (e4 q) g c.before.round-edge.ensures c.round-edge2.ensures
 
 pub pad-to-spec : {M : Type 1} → statement M

@@ -2,7 +2,7 @@
 use native.Mathlib.Omega.{arith}
 use native.Mathlib.Nat.{div-add-mod', mul-le-mul_left}
 use Prim.Native.Nat.{◌/◌, ◌≤◌}
-use Rattle.arithmetic.specs.PlannerLaws.{count-exact, count-more}
+use Rattle.arithmetic.specs.PlannerLaws.{count_exact, count_more}
 use borrow.Author.Rules.{rules}
 use Rattle.arithmetic.proofs.planner.chunk_count.Statement.{statement}
 use Rattle.arithmetic.proofs.planner.chunk_count.Tie as tie
@@ -20,10 +20,10 @@ add-result c =
     omega (arith, div-add-mod' a.n a.bounce, mul-le-mul_left (a.n / a.bounce) k)
 
 returns : tie.Need-returns
-returns c = count-exact c.before.args.bounce c.before.args.n c.before.requires c.if1.true
+returns c = count_exact c.before.args.bounce c.before.args.n c.before.requires c.if1.true
 
 returns-2 : tie.Need-returns-2
-returns-2 c = count-more c.before.args.bounce c.before.args.n c.before.requires (omega arith)
+returns-2 c = count_more c.before.args.bounce c.before.args.n c.before.requires (omega arith)
 
 pub chunk-count-spec : {M : Type 1} → statement M
 chunk-count-spec = tie.close (tie.spec div-full rem-if1 add-result returns returns-2)

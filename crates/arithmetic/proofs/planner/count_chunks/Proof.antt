@@ -1,7 +1,7 @@
 -- `arithmetic::planner::count_chunks` meets its contract: the count of a plan that is not refused. Assumes nothing.
 use mathlib.Core.Path.{◌≡◌, sym, ◌∙◌}
 use Rattle.arithmetic.specs.SettingsLaws.{accepted}
-use Rattle.arithmetic.specs.PlannerLaws.{plan-done}
+use Rattle.arithmetic.specs.PlannerLaws.{plan_done}
 use Rattle.arithmetic.specs.Planner.{count_of}
 use Rattle.arithmetic.specs.declared.refusals.Outcome.TheVariants.{Done, Refused}
 use borrow.Author.Rules.{rules}
@@ -24,7 +24,7 @@ enum_told c = search rules
 chunk-count-requires : tie.Need-chunk-count-requires
 chunk-count-requires c κs =
     let b = c.before.before in
-    let p = plan-done b.before.args.settings b.before.args.offset b.before.args.length (sym b.check.ensures ∙ done c) in
+    let p = plan_done b.before.args.settings b.before.args.offset b.before.args.length (sym b.check.ensures ∙ done c) in
     (accepted b.before.args.settings p.settings).positive
 
 returns : tie.Need-returns

@@ -1,8 +1,8 @@
 -- `arithmetic::planner::plan_chunk` meets its contract: a chunk of a plan that is not refused. Assumes nothing.
 use mathlib.Core.Path.{◌≡◌, sym, ◌∙◌}
 use Rattle.arithmetic.specs.SettingsLaws.{accepted}
-use Rattle.arithmetic.specs.PlannerLaws.{plan-done}
-use Rattle.arithmetic.specs.Planner.{plannedOf}
+use Rattle.arithmetic.specs.PlannerLaws.{plan_done}
+use Rattle.arithmetic.specs.Planner.{planned_of}
 use Rattle.arithmetic.specs.declared.refusals.Outcome.TheVariants.{Done, Refused}
 use borrow.Author.Rules.{rules}
 use Rattle.arithmetic.proofs.planner.plan_chunk.Statement.{statement}
@@ -24,18 +24,18 @@ enum_told c = search rules
 chunk-at-requires : tie.Need-chunk-at-requires
 chunk-at-requires c κs =
     let b = c.before.before in
-    let p = plan-done b.before.args.settings b.before.args.offset b.before.args.length (sym b.check.ensures ∙ done c) in
+    let p = plan_done b.before.args.settings b.before.args.offset b.before.args.length (sym b.check.ensures ∙ done c) in
     ((accepted b.before.args.settings p.settings).positive, p.end)
 
 returns : tie.Need-returns
-unfolding plannedOf
+unfolding planned_of
 returns c =
     let b = c.before.before.before in
     let e : b.check.result ≡ Refused c.before.r.given.0.0 = cc in
     simp (sym b.check.ensures ∙ e)
 
 returns-2 : tie.Need-returns-2
-unfolding plannedOf
+unfolding planned_of
 returns-2 c =
     let b = c.before.before.before in
     rw c.chunk-at.ensures (simp (sym b.check.ensures ∙ done c.before))

@@ -2,7 +2,7 @@
 use mathlib.Core.Path.{◌∙◌}
 use borrow.Author.Tests.{le-ltb}
 use native.Mathlib.Omega.{arith}
-use Rattle.arithmetic.specs.Settings.{profileOf, profiles}
+use Rattle.arithmetic.specs.Settings.{profile_of, profiles}
 use Rattle.arithmetic.proofs.settings.drive_profile.Statement.{statement}
 use Rattle.arithmetic.proofs.settings.drive_profile.Tie as tie
 
@@ -25,31 +25,31 @@ make-row-requires-6 : tie.Need-make-row-requires-6
 make-row-requires-6 c κs = tt
 
 returns : tie.Need-returns
-unfolding profileOf profiles
+unfolding profile_of profiles
 returns c = c.make-row.ensures ∙ rw c.before.match.keys1
 
 returns-2 : tie.Need-returns-2
-unfolding profileOf profiles
+unfolding profile_of profiles
 returns-2 c = c.make-row2.ensures ∙ rw c.before.match.keys2
 
 returns-3 : tie.Need-returns-3
-unfolding profileOf profiles
+unfolding profile_of profiles
 returns-3 c = c.make-row3.ensures ∙ rw c.before.match.keys3
 
 returns-4 : tie.Need-returns-4
-unfolding profileOf profiles
+unfolding profile_of profiles
 returns-4 c = c.make-row4.ensures ∙ rw c.before.match.keys4
 
 returns-5 : tie.Need-returns-5
-unfolding profileOf profiles
+unfolding profile_of profiles
 returns-5 c = c.make-row5.ensures ∙ rw c.before.match.keys5
 
 returns-6 : tie.Need-returns-6
-unfolding profileOf profiles
+unfolding profile_of profiles
 returns-6 c = c.make-row6.ensures ∙ rw c.before.match.keys6
 
 returns-7 : tie.Need-returns-7
-unfolding profileOf profiles
+unfolding profile_of profiles
 returns-7 c = simp (le-ltb c.before.args.index 6 (omega (arith, c.match.rest)))
 
 pub drive-profile-spec : {M : Type 1} → statement M

@@ -4,7 +4,7 @@ use native.Mathlib.Omega.{arith}
 use Prim.Native.Nat.{◌≤◌, ◌-◌}
 use mathlib.Core.Path.{◌≡◌}
 use lib.ListN.{length, length-map}
-use Rattle.arithmetic.specs.Loops.{Mapped, mapped-none, mapped-more, like-all}
+use Rattle.arithmetic.specs.Loops.{Mapped, mapped_none, mapped_more, like_all}
 use Rattle.blockers.specs.Blockers.{forgetting, nowhere}
 use Rattle.blockers.proofs.Slots.{eight}
 use Rattle.blockers.proofs.Blockers.forget.Statement.{statement}
@@ -20,7 +20,7 @@ whole : (s : tie.Start invariant-loop decreases-loop) → length s.args.t1.slots
 whole s = eight s.args.t1 _ s.well-formed.0
 
 loop-holds : tie.Need-loop-init invariant-loop decreases-loop
-loop-holds c = (search rules, mapped-none (forgetting c.args.slot) nowhere c.args.t1.slots)
+loop-holds c = (search rules, mapped_none (forgetting c.args.slot) nowhere c.args.t1.slots)
 
 mul-b : tie.Need-overflow-mul-b invariant-loop decreases-loop
 mul-b c = search rules
@@ -47,10 +47,10 @@ loop-again : tie.Need-loop-preserved invariant-loop decreases-loop
 loop-again c =
     let s = c.before.before.before.before in
     let l = c.before.before.before.loop in
-    (search rules, rw c.forget-slot.ensures (mapped-more (forgetting s.args.slot) nowhere s.args.t1.slots l.self.slots l.i (omega (arith, whole s)) l.invariant.1))
+    (search rules, rw c.forget-slot.ensures (mapped_more (forgetting s.args.slot) nowhere s.args.t1.slots l.self.slots l.i (omega (arith, whole s)) l.invariant.1))
 
 returns : tie.Need-returns invariant-loop decreases-loop
-returns c = like-all _ c.before.loop.self.slots c.before.loop.i (omega (arith, whole c.before.before, length-map c.before.before.args.t1.slots (forgetting c.before.before.args.slot))) c.before.loop.invariant.1.0
+returns c = like_all _ c.before.loop.self.slots c.before.loop.i (omega (arith, whole c.before.before, length-map c.before.before.args.t1.slots (forgetting c.before.before.args.slot))) c.before.loop.invariant.1.0
 
 pub forget-spec : {M : Type 1} → statement M
 forget-spec =

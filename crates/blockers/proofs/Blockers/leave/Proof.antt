@@ -1,7 +1,7 @@
 -- `blockers::Blockers::leave` meets its contract: each way out is one of the laws on which calls are carried out. Assumes nothing.
 use borrow.Author.Tests.{not-true, not-false}
 use mathlib.Core.Path.{sym, ◌∙◌}
-use Rattle.blockers.specs.Laws.{leave-done, leave-past, leave_none}
+use Rattle.blockers.specs.Laws.{leave_done, leave_past, leave_none}
 use borrow.Author.Rules.{rules}
 use Rattle.blockers.proofs.Blockers.leave.Statement.{statement}
 use Rattle.blockers.proofs.Blockers.leave.Tie as tie
@@ -10,7 +10,7 @@ refuse-requires : tie.Need-refuse-requires
 refuse-requires c κs = search rules
 
 returns : tie.Need-returns
-returns c = c.refuse.ensures ∙ sym (leave-past _ _ c.before.if1.true)
+returns c = c.refuse.ensures ∙ sym (leave_past _ _ c.before.if1.true)
 
 mul-there : tie.Need-overflow-mul-there
 mul-there c = search rules
@@ -41,7 +41,7 @@ element-set-from-rest c = search rules
 
 returns-3 : tie.Need-returns-3
 returns-3 c = let f = c.before.before.before in
-    rw (c.before.forget.ensures, c.make-vacant.ensures) (sym (leave-done _ _ f.before.before.if1.false (sym f.is-entered.ensures ∙ not-false _ c.before.before.if2.false)))
+    rw (c.before.forget.ensures, c.make-vacant.ensures) (sym (leave_done _ _ f.before.before.if1.false (sym f.is-entered.ensures ∙ not-false _ c.before.before.if2.false)))
 
 pub leave_spec : {M : Type 1} → statement M
 leave_spec =

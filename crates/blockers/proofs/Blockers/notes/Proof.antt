@@ -4,20 +4,20 @@ use native.Mathlib.Omega.{arith}
 use Prim.Native.Nat.{◌≤◌, ◌-◌}
 use mathlib.Core.Path.{◌≡◌, refl, sym, ◌∙◌}
 use lib.ListN.{length, length-map, get_or-map}
-use Rattle.arithmetic.specs.Loops.{Like, like-more, like-all}
-use Rattle.blockers.specs.Blockers.{notes, notesOf, nowhere}
+use Rattle.arithmetic.specs.Loops.{Like, like_more, like_all}
+use Rattle.blockers.specs.Blockers.{notes, notes_of, nowhere}
 use Rattle.blockers.proofs.Slots.{eight}
 use Rattle.blockers.proofs.Blockers.notes.Statement.{statement}
 use Rattle.blockers.proofs.Blockers.notes.Tie as tie
 
 abbrev invariant-loop : tie.invariant-loop
-invariant-loop kind range self noted₀ i₀ noted i = (i ≤ 8) × Like (notesOf kind range self) noted i
+invariant-loop kind range self noted₀ i₀ noted i = (i ≤ 8) × Like (notes_of kind range self) noted i
 
 abbrev decreases-loop : tie.decreases-loop
 decreases-loop kind range self noted₀ i₀ noted i = 8 - i
 
-whole : (s : tie.Start invariant-loop decreases-loop) → length (notesOf s.args.kind s.args.range s.args.t1) ≡ 8
-unfolding notesOf
+whole : (s : tie.Start invariant-loop decreases-loop) → length (notes_of s.args.kind s.args.range s.args.t1) ≡ 8
+unfolding notes_of
 whole s = length-map s.args.t1.slots (notes s.args.kind s.args.range) ∙ eight s.args.t1 _ s.well-formed.0
 
 loop-holds : tie.Need-loop-init invariant-loop decreases-loop
@@ -42,13 +42,13 @@ loop-less : tie.Need-loop-smaller invariant-loop decreases-loop
 loop-less c = search rules
 
 loop-again : tie.Need-loop-preserved invariant-loop decreases-loop
-unfolding notesOf
+unfolding notes_of
 loop-again c =
     let s = c.before.before.before.before in
-    (search rules, like-more _ _ c.before.before.before.loop.i _ _ _ refl (omega (arith, whole s)) c.before.before.before.loop.invariant.1 (c.is-noted.ensures ∙ sym (get_or-map (notes s.args.kind s.args.range) s.args.t1.slots _ nowhere)))
+    (search rules, like_more _ _ c.before.before.before.loop.i _ _ _ refl (omega (arith, whole s)) c.before.before.before.loop.invariant.1 (c.is-noted.ensures ∙ sym (get_or-map (notes s.args.kind s.args.range) s.args.t1.slots _ nowhere)))
 
 returns : tie.Need-returns invariant-loop decreases-loop
-returns c = like-all _ _ c.before.loop.i (omega (arith, whole c.before.before)) c.before.loop.invariant.1
+returns c = like_all _ _ c.before.loop.i (omega (arith, whole c.before.before)) c.before.loop.invariant.1
 
 pub notes-spec : {M : Type 1} → statement M
 notes-spec =

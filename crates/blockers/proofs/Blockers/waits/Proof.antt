@@ -6,14 +6,14 @@ use Prim.Native.Nat.{ℕ, ◌≤◌, ◌<◌, ◌-◌}
 use mathlib.Core.Path.{◌≡◌, sym, ap, ◌∙◌}
 use mathlib.Core.Bool.{Bool, false, ◌&&◌}
 use Rattle.arithmetic.specs.Loops.{any_here, any_none}
-use Rattle.blockers.specs.Blockers.{waitsOf, isEntered, blockerAt, hasNoted}
-use Rattle.blockers.specs.Laws.{past-free}
+use Rattle.blockers.specs.Blockers.{waits_of, is_entered, blocker_at, has_noted}
+use Rattle.blockers.specs.Laws.{past_free}
 use Rattle.blockers.proofs.Slots.{eight}
 use Rattle.blockers.proofs.Blockers.waits.Statement.{statement}
 use Rattle.blockers.proofs.Blockers.waits.Tie as tie
 
 abbrev invariant-loop : tie.invariant-loop
-invariant-loop slot self own i₀ i = (i ≤ 8) × ((k : ℕ) → k < i → (hasNoted self slot k && isEntered (blockerAt self k)) ≡ false)
+invariant-loop slot self own i₀ i = (i ≤ 8) × ((k : ℕ) → k < i → (has_noted self slot k && is_entered (blocker_at self k)) ≡ false)
 
 abbrev decreases-loop : tie.decreases-loop
 decreases-loop slot self own i₀ i = 8 - i
@@ -23,10 +23,10 @@ abbrev tested : tie.After-if22 invariant-loop decreases-loop → Bool → Bool
 tested c t =
     let l = c.before.before.before.before in
     let s = l.before.before.before in
-    hasNoted s.args.t1 s.args.slot l.loop.i && t
+    has_noted s.args.t1 s.args.slot l.loop.i && t
 
 returns : tie.Need-returns invariant-loop decreases-loop
-returns c = let s = c.before in sym (past-free s.args.t1 s.args.slot (eight s.args.t1 _ s.well-formed.0) c.if1.true)
+returns c = let s = c.before in sym (past_free s.args.t1 s.args.slot (eight s.args.t1 _ s.well-formed.0) c.if1.true)
 
 mul-own : tie.Need-overflow-mul-own invariant-loop decreases-loop
 mul-own c = search rules
@@ -50,7 +50,7 @@ element-copy-out-if2 : tie.Need-element-copy-out-if2 invariant-loop decreases-lo
 element-copy-out-if2 c = search rules
 
 returns-2 : tie.Need-returns-2 invariant-loop decreases-loop
-unfolding waitsOf
+unfolding waits_of
 returns-2 c = let l = c.before.before.before.before.before in sym (any_here 8 _ l.loop.i (search rules) (ap (tested c.before) (sym c.before.before.is-entered.ensures) ∙ c.if2.true))
 
 add-i : tie.Need-overflow-add-i invariant-loop decreases-loop
@@ -63,7 +63,7 @@ loop-again : tie.Need-loop-preserved invariant-loop decreases-loop
 loop-again c = (search rules, below_more _ _ c.before.before.before.before.before.loop.invariant.1 (ap (tested c.before) (sym c.before.before.is-entered.ensures) ∙ c.if2.false))
 
 returns-3 : tie.Need-returns-3 invariant-loop decreases-loop
-unfolding waitsOf
+unfolding waits_of
 returns-3 c = let l = c.before.loop in sym (any_none 8 _ (λ k h. l.invariant.1 k (omega arith)))
 
 pub waits-spec : {M : Type 1} → statement M

@@ -3,11 +3,11 @@ use mathlib.Core.Path.{sym, ap, subst, ◌∙◌}
 use native.Mathlib.Omega.{arith}
 use lib.ListN.{length}
 use Rattle.stages.specs.declared.plan.Plan.{Plan}
-use Rattle.dock.specs.Begin.{PlanInShare, admits, admitAt}
+use Rattle.dock.specs.Begin.{PlanInShare, admits, admit_at}
 use Rattle.dock.specs.declared.begin.Admission.{Admission}
-use Rattle.dock.proofs.Merging.{in-share}
+use Rattle.dock.proofs.Merging.{in_share}
 use Rattle.dock.proofs.SlotsOf.{share_in}
-use Rattle.dock.proofs.Steps.{admit-refused, admit-done}
+use Rattle.dock.proofs.Steps.{admit_refused, admit_done}
 use borrow.Author.Rules.{rules}
 use Rattle.dock.proofs.begin.admit.Statement.{statement}
 use Rattle.dock.proofs.begin.admit.Tie as tie
@@ -19,7 +19,7 @@ admit-none-requires : tie.Need-admit-none-requires
 admit-none-requires c κs = search rules
 
 returns : tie.Need-returns
-returns c = let a = c.before.before.before.before.before.args in ap (λ (z : Admission). admits z a.scratch.now) c.admit-none.ensures ∙ sym (ap (λ (q : Plan). admitAt a.b a.slot a.bounce a.v a.«data».now a.scratch.now q) c.before.enum_told.given.1)
+returns c = let a = c.before.before.before.before.before.args in ap (λ (z : Admission). admits z a.scratch.now) c.admit-none.ensures ∙ sym (ap (λ (q : Plan). admit_at a.b a.slot a.bounce a.v a.«data».now a.scratch.now q) c.before.enum_told.given.1)
 
 enum-known-plan : tie.Need-enum-known-plan
 enum-known-plan c = search rules
@@ -28,7 +28,7 @@ admit-none-requires-2 : tie.Need-admit-none-requires-2
 admit-none-requires-2 c κs = search rules
 
 returns-2 : tie.Need-returns-2
-returns-2 c = let a = c.before.before.before.before.before.before.args in ap (λ (z : Admission). admits z a.scratch.now) c.admit-none2.ensures ∙ sym (ap (λ (q : Plan). admitAt a.b a.slot a.bounce a.v a.«data».now a.scratch.now q) c.before.before.plan.given.1)
+returns-2 c = let a = c.before.before.before.before.before.before.args in ap (λ (z : Admission). admits z a.scratch.now) c.admit-none2.ensures ∙ sym (ap (λ (q : Plan). admit_at a.b a.slot a.bounce a.v a.«data».now a.scratch.now q) c.before.before.plan.given.1)
 
 enum-known-plan-2 : tie.Need-enum-known-plan-2
 enum-known-plan-2 c = search rules
@@ -37,7 +37,7 @@ mul-share : tie.Need-overflow-mul-share
 mul-share c = let s = c.before.before.before.before.before in let a = s.args in let k = subst (PlanInShare a.slot a.bounce (length a.scratch.now)) c.before.plan2.given.1 s.requires in omega (arith, share_in a.slot a.bounce k.0, k.2, s.well-formed)
 
 enter-requires : tie.Need-enter-requires
-enter-requires c κs = let s = c.before.before.before.before.before.before in let a = s.args in let k = subst (PlanInShare a.slot a.bounce (length a.scratch.now)) c.before.before.plan2.given.1 s.requires in in-share a.slot a.bounce _ (length a.scratch.now) k.0 k.1 k.2
+enter-requires c κs = let s = c.before.before.before.before.before.before in let a = s.args in let k = subst (PlanInShare a.slot a.bounce (length a.scratch.now)) c.before.before.plan2.given.1 s.requires in in_share a.slot a.bounce _ (length a.scratch.now) k.0 k.1 k.2
 
 enum-known-there : tie.Need-enum-known-there
 enum-known-there c = search rules
@@ -49,7 +49,7 @@ same_length : tie.Need-same-length
 same_length c = search rules
 
 returns-3 : tie.Need-returns-3
-returns-3 c = let a = c.before.before.before.before.before.before.before.before.before.before.before.before.before.args in admit-refused a.b a.slot a.bounce a.v a.«data».now a.scratch.now a.plan _ c.before.before.before.before.before.before.before.before.before.plan2.given.1 _ _ c.before.before.before.before.before.before.enter.ensures _ c.before.before.there.given.1 _ c.admit-none3.ensures
+returns-3 c = let a = c.before.before.before.before.before.before.before.before.before.before.before.before.before.args in admit_refused a.b a.slot a.bounce a.v a.«data».now a.scratch.now a.plan _ c.before.before.before.before.before.before.before.before.before.plan2.given.1 _ _ c.before.before.before.before.before.before.enter.ensures _ c.before.before.there.given.1 _ c.admit-none3.ensures
 
 enum-told-2 : tie.Need-enum-told-2
 enum-told-2 c = search rules
@@ -58,7 +58,7 @@ same-length-2 : tie.Need-same-length-2
 same-length-2 c = search rules
 
 returns-4 : tie.Need-returns-4
-returns-4 c = let a = c.before.before.before.before.before.before.before.before.before.before.before.before.args in admit-done a.b a.slot a.bounce a.v a.«data».now a.scratch.now a.plan _ c.before.before.before.before.before.before.before.before.plan2.given.1 _ _ c.before.before.before.before.before.enter.ensures c.before.enum-told2.given.1
+returns-4 c = let a = c.before.before.before.before.before.before.before.before.before.before.before.before.args in admit_done a.b a.slot a.bounce a.v a.«data».now a.scratch.now a.plan _ c.before.before.before.before.before.before.before.before.plan2.given.1 _ _ c.before.before.before.before.before.enter.ensures c.before.enum-told2.given.1
 
 pub admit-spec : {M : Type 1} → statement M
 admit-spec =

@@ -15,40 +15,40 @@ use Rattle.arithmetic.specs.declared.refusals.Outcome.TheVariants.{Done}
 use Rattle.stages.specs.declared.state.State.{State}
 use Rattle.stages.specs.declared.plan.Plan.{Plan}
 use Rattle.stages.specs.declared.plan.Plan.TheVariants.{Done as NothingToDo, Started, Refused}
-use Rattle.dock.specs.Begin.{allowedBy, decidedOf}
+use Rattle.dock.specs.Begin.{allowed_by, decided_of}
 use borrow.Author.Rules.{rules}
 use Rattle.dock.proofs.begin.decide.Statement.{statement}
 use Rattle.dock.proofs.begin.decide.Tie as tie
 
 module _ (lent : Outcome) (valid : Bool) (plan : Plan) (met : Bool) (free : ℕ) (l : lent ≡ Done) where
-  invalid : valid ≡ false → Refused Segment ≡ decidedOf lent valid plan met free
+  invalid : valid ≡ false → Refused Segment ≡ decided_of lent valid plan met free
   invalid t = simp (l, t)
 
   -- a plan that is not started stays
-  unstarted : valid ≡ true → OneOf (0 ∷ 2 ∷ []) (tag_of (declared enum) plan) → plan ≡ decidedOf lent valid plan met free
+  unstarted : valid ≡ true → OneOf (0 ∷ 2 ∷ []) (tag_of (declared enum) plan) → plan ≡ decided_of lent valid plan met free
   unstarted t k = go plan k ∙ simp (l, t)
     where
-      go : (q : Plan) → OneOf (0 ∷ 2 ∷ []) (tag_of (declared enum) q) → q ≡ allowedBy q met free
+      go : (q : Plan) → OneOf (0 ∷ 2 ∷ []) (tag_of (declared enum) q) → q ≡ allowed_by q met free
       go NothingToDo k = refl
       go (Refused r) k = refl
       go (Started x) k = absurd (⊎_elim (λ e. omega arith) (λ e. omega arith) k)
 
   module _ (t : valid ≡ true) (x : State) (p : plan ≡ Started x) where
-    overlaps : met ≡ true → Refused Overlap ≡ decidedOf lent valid plan met free
+    overlaps : met ≡ true → Refused Overlap ≡ decided_of lent valid plan met free
     overlaps m = simp (l, t, p, m)
 
     module _ (m : met ≡ false) where
-      full : 8 ≤ free → Refused Full ≡ decidedOf lent valid plan met free
+      full : 8 ≤ free → Refused Full ≡ decided_of lent valid plan met free
       full h = simp (l, t, p, m, le-ltb free 8 h)
 
-      starts : free < 8 → Started x ≡ decidedOf lent valid plan met free
+      starts : free < 8 → Started x ≡ decided_of lent valid plan met free
       starts h = simp (l, t, p, m, lt-ltb free 8 h)
 
 enum-known-lent : tie.Need-enum-known-lent
 enum-known-lent c = search rules
 
 returns : tie.Need-returns
-returns c = let a = c.before.before.before.args in sym (ap (λ (o : Outcome). decidedOf o a.valid a.plan a.met a.free) c.before.lent.given.1)
+returns c = let a = c.before.before.before.args in sym (ap (λ (o : Outcome). decided_of o a.valid a.plan a.met a.free) c.before.lent.given.1)
 
 enum_told : tie.Need-enum-told
 enum_told c = search rules

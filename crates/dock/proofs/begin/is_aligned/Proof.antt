@@ -9,13 +9,13 @@ use denote.Enum.Declared.{declared, tag_of}
 use Rattle.vectors.specs.declared.vector.Alignment.{Alignment}
 use Rattle.vectors.specs.declared.vector.Alignment.TheVariants.{Aligned, Unaligned, Refused as NotAsked}
 use Rattle.vectors.specs.contracts.vector.Alignment.{enum}
-use Rattle.dock.specs.Begin.{isAligned}
+use Rattle.dock.specs.Begin.{is_aligned}
 use borrow.Author.Rules.{rules}
 use Rattle.dock.proofs.begin.is_aligned.Statement.{statement}
 use Rattle.dock.proofs.begin.is_aligned.Tie as tie
 
 -- an answer that is not `Aligned`
-not_aligned : (x : Alignment) → OneOf (1 ∷ 2 ∷ []) (tag_of (declared enum) x) → false ≡ isAligned x
+not_aligned : (x : Alignment) → OneOf (1 ∷ 2 ∷ []) (tag_of (declared enum) x) → false ≡ is_aligned x
 not_aligned Aligned k = absurd (⊎_elim (λ e. omega arith) (λ e. omega arith) k)
 not_aligned Unaligned k = refl
 not_aligned (NotAsked r) k = refl
@@ -27,7 +27,7 @@ enum_told : tie.Need-enum-told
 enum_told c = search rules
 
 returns : tie.Need-returns
-returns c = not_aligned c.before.is-aligned.result c.match.keys2 ∙ ap isAligned c.before.is-aligned.ensures
+returns c = not_aligned c.before.is-aligned.result c.match.keys2 ∙ ap is_aligned c.before.is-aligned.ensures
 
 returns-2 : tie.Need-returns-2
 returns-2 c = simp (sym c.before.before.is-aligned.ensures ∙ c.enum_told.given.1)

@@ -1,7 +1,7 @@
 -- `dock::begin::plan_asked` meets its contract: each kind of job by its plan. Assumes nothing.
 use mathlib.Core.Path.{sym, ap, ◌∙◌}
 use mathlib.Core.Bool.{Bool}
-use Rattle.stages.specs.Stages.{readPlan, writePlan}
+use Rattle.stages.specs.Stages.{read_plan, write_plan}
 use Rattle.stages.specs.declared.state.Job.{Job}
 use Rattle.dock.specs.Begin.{plan_of}
 use borrow.Author.Rules.{rules}
@@ -42,10 +42,10 @@ plan-discard-requires : tie.Need-plan-discard-requires
 plan-discard-requires c κs = search rules
 
 returns : tie.Need-returns
-returns c = let a = c.before.before.before.before.before.before.args in c.plan-read.ensures ∙ ap (λ (t : Bool). readPlan a.settings a.asked.offset a.asked.vector.total t) c.before.before.before.is-aligned.ensures ∙ sym (ap (λ (j : Job). plan_of j a.settings a.buffers a.asked.offset a.asked.length a.asked.vector) c.before.enum_told.given.1)
+returns c = let a = c.before.before.before.before.before.before.args in c.plan-read.ensures ∙ ap (λ (t : Bool). read_plan a.settings a.asked.offset a.asked.vector.total t) c.before.before.before.is-aligned.ensures ∙ sym (ap (λ (j : Job). plan_of j a.settings a.buffers a.asked.offset a.asked.length a.asked.vector) c.before.enum_told.given.1)
 
 returns-2 : tie.Need-returns-2
-returns-2 c = let a = c.before.before.before.before.before.before.args in c.plan-write.ensures ∙ ap (λ (t : Bool). writePlan a.settings a.asked.offset a.asked.vector.total t) c.before.before.before.is-aligned.ensures ∙ sym (ap (λ (j : Job). plan_of j a.settings a.buffers a.asked.offset a.asked.length a.asked.vector) c.before.enum-told2.given.1)
+returns-2 c = let a = c.before.before.before.before.before.before.args in c.plan-write.ensures ∙ ap (λ (t : Bool). write_plan a.settings a.asked.offset a.asked.vector.total t) c.before.before.before.is-aligned.ensures ∙ sym (ap (λ (j : Job). plan_of j a.settings a.buffers a.asked.offset a.asked.length a.asked.vector) c.before.enum-told2.given.1)
 
 returns-3 : tie.Need-returns-3
 returns-3 c = let a = c.before.before.before.before.before.before.args in c.plan-zeroes.ensures ∙ sym (ap (λ (j : Job). plan_of j a.settings a.buffers a.asked.offset a.asked.length a.asked.vector) c.before.enum-told3.given.1)

@@ -1,6 +1,6 @@
 -- `dock::bytes::copy_out` meets its contract: what `copy_from_slice` ensures of that part of the scratch. Assumes nothing.
 use mathlib.Core.Path.{sym, ◌∙◌}
-use Rattle.dock.proofs.Merging.{copied-out}
+use Rattle.dock.proofs.Merging.{copied_out_lem}
 use borrow.Author.Rules.{rules}
 use Rattle.dock.proofs.bytes.copy_out.Statement.{statement}
 use Rattle.dock.proofs.bytes.copy_out.Tie as tie
@@ -32,7 +32,7 @@ same_length c = search rules
 returns : tie.Need-returns
 returns c =
     let a = c.before.before.before.before.before.before.before.before.before.args in
-    copied-out a.start a.n a.v a.«data».now a.scratch.now c.before.before.before.before.before.before.before.before.before.requires _ _ c.before.before.before.before.copy-from-slice.ensures.0 c.before.before.before.before.copy-from-slice.ensures.1
+    copied_out_lem a.start a.n a.v a.«data».now a.scratch.now c.before.before.before.before.before.before.before.before.before.requires _ _ c.before.before.before.before.copy-from-slice.ensures.0 c.before.before.before.before.copy-from-slice.ensures.1
 
 same-length-2 : tie.Need-same-length-2
 same-length-2 c = search rules
@@ -40,7 +40,7 @@ same-length-2 c = search rules
 returns-2 : tie.Need-returns-2
 returns-2 c =
     let a = c.before.before.before.before.before.before.before.before.before.args in
-    copied-out a.start a.n a.v a.«data».now a.scratch.now c.before.before.before.before.before.before.before.before.before.requires _ _ (sym c.enum_told.given.1 ∙ c.before.before.before.before.copy-from-slice.ensures.0) c.before.before.before.before.copy-from-slice.ensures.1
+    copied_out_lem a.start a.n a.v a.«data».now a.scratch.now c.before.before.before.before.before.before.before.before.before.requires _ _ (sym c.enum_told.given.1 ∙ c.before.before.before.before.copy-from-slice.ensures.0) c.before.before.before.before.copy-from-slice.ensures.1
 
 pub copy-out-spec : {M : Type 1} → statement M
 copy-out-spec =

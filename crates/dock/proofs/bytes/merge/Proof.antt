@@ -1,6 +1,6 @@
 -- `dock::bytes::merge` meets its contract: the vector for a write, zeroes for any other job, and the scratch around that part stays. Assumes nothing.
 use mathlib.Core.Path.{sym, ◌∙◌}
-use Rattle.dock.proofs.Merging.{merged-write, merged-zeroes}
+use Rattle.dock.proofs.Merging.{merged_write, merged_zeroes}
 use borrow.Author.Rules.{rules}
 use Rattle.dock.proofs.bytes.merge.Statement.{statement}
 use Rattle.dock.proofs.bytes.merge.Tie as tie
@@ -35,7 +35,7 @@ same_length c = search rules
 returns : tie.Need-returns
 returns c =
     let a = c.before.before.before.before.before.before.before.before.before.before.args in
-    merged-write a.start a.n a.job a.v a.«data».now a.scratch.now c.before.before.before.before.before.before.before.before.before.before.requires (sym c.before.before.before.before.before.before.before.is-write-job.ensures ∙ c.before.before.before.before.before.before.if1.true) _ _ c.before.before.before.before.copy-into-slice.ensures.0 c.before.before.before.before.copy-into-slice.ensures.1
+    merged_write a.start a.n a.job a.v a.«data».now a.scratch.now c.before.before.before.before.before.before.before.before.before.before.requires (sym c.before.before.before.before.before.before.before.is-write-job.ensures ∙ c.before.before.before.before.before.before.if1.true) _ _ c.before.before.before.before.copy-into-slice.ensures.0 c.before.before.before.before.copy-into-slice.ensures.1
 
 same-length-2 : tie.Need-same-length-2
 same-length-2 c = search rules
@@ -43,7 +43,7 @@ same-length-2 c = search rules
 returns-2 : tie.Need-returns-2
 returns-2 c =
     let a = c.before.before.before.before.before.before.before.before.before.before.args in
-    merged-write a.start a.n a.job a.v a.«data».now a.scratch.now c.before.before.before.before.before.before.before.before.before.before.requires (sym c.before.before.before.before.before.before.before.is-write-job.ensures ∙ c.before.before.before.before.before.before.if1.true) _ _ (sym c.enum_told.given.1 ∙ c.before.before.before.before.copy-into-slice.ensures.0) c.before.before.before.before.copy-into-slice.ensures.1
+    merged_write a.start a.n a.job a.v a.«data».now a.scratch.now c.before.before.before.before.before.before.before.before.before.before.requires (sym c.before.before.before.before.before.before.before.is-write-job.ensures ∙ c.before.before.before.before.before.before.if1.true) _ _ (sym c.enum_told.given.1 ∙ c.before.before.before.before.copy-into-slice.ensures.0) c.before.before.before.before.copy-into-slice.ensures.1
 
 sub-fill-bytes : tie.Need-overflow-sub-fill-bytes
 sub-fill-bytes c = search rules
@@ -63,7 +63,7 @@ same-length-3 c = search rules
 returns-3 : tie.Need-returns-3
 returns-3 c =
     let a = c.before.before.before.before.before.before.before.before.args in
-    merged-zeroes a.start a.n a.job a.v a.«data».now a.scratch.now c.before.before.before.before.before.before.before.before.requires (sym c.before.before.before.before.before.is-write-job.ensures ∙ c.before.before.before.before.if1.false) _ c.before.before.fill-bytes.ensures
+    merged_zeroes a.start a.n a.job a.v a.«data».now a.scratch.now c.before.before.before.before.before.before.before.before.requires (sym c.before.before.before.before.before.is-write-job.ensures ∙ c.before.before.before.before.if1.false) _ c.before.before.fill-bytes.ensures
 
 pub merge-spec : {M : Type 1} → statement M
 merge-spec =

@@ -6,7 +6,7 @@ use Prim.Native.Nat.{◌≤◌, ◌-◌}
 use mathlib.Core.Path.{◌≡◌, sym, ◌∙◌}
 use lib.ListN.{length}
 use Rattle.arithmetic.specs.Loops.{array_long}
-use Rattle.dock.specs.SlotLaws.{NoneFree, lowest-here, lowest-none}
+use Rattle.dock.specs.SlotLaws.{NoneFree, lowest_here, lowest_none}
 use Rattle.dock.proofs.dock.first_free.Statement.{statement}
 use Rattle.dock.proofs.dock.first_free.Tie as tie
 
@@ -33,7 +33,7 @@ is-free-requires c κs = tt
 returns : tie.Need-returns invariant-loop decreases-loop
 returns c =
     let l = c.before.before.before.before in
-    lowest-here l.before.args.t1 l.loop.i l.loop.invariant.2 (search rules) (sym c.before.is_free.ensures ∙ c.if1.true)
+    lowest_here l.before.args.t1 l.loop.i l.loop.invariant.2 (search rules) (sym c.before.is_free.ensures ∙ c.if1.true)
 
 add-i : tie.Need-overflow-add-i invariant-loop decreases-loop
 add-i c = search rules
@@ -50,7 +50,7 @@ returns-2 : tie.Need-returns-2 invariant-loop decreases-loop
 returns-2 c =
     let l = c.before in
     let e : length l.before.args.t1 ≡ l.loop.i = omega (arith, l.loop.invariant.1) in
-    sym e ∙ lowest-none l.before.args.t1 (rw e l.loop.invariant.2)
+    sym e ∙ lowest_none l.before.args.t1 (rw e l.loop.invariant.2)
 
 pub first-free-spec : {M : Type 1} → statement M
 first-free-spec =

@@ -2,19 +2,19 @@
 use borrow.Author.Tests.{not-true, not-false}
 use mathlib.Core.Path.{◌≡◌, sym, ◌∙◌}
 use mathlib.Core.Bool.{Bool, true, false, ◌||◌}
-use Rattle.dock.specs.Dock.{meetsOf, isReadJob}
+use Rattle.dock.specs.Dock.{meets_of, is_read_job}
 use Rattle.dock.proofs.dock.meets.Statement.{statement}
 use Rattle.dock.proofs.dock.meets.Tie as tie
 
 -- past the first test, whether one of the two reads
-reads-is : (c : tie.After-is-read-job2) (t : Bool) → (c.before.is-read-job.result || c.is-read-job2.result) ≡ t → (isReadJob c.before.before.before.before.args.j || isReadJob c.before.before.before.before.args.x.job) ≡ t
+reads-is : (c : tie.After-is-read-job2) (t : Bool) → (c.before.is-read-job.result || c.is-read-job2.result) ≡ t → (is_read_job c.before.before.before.before.args.j || is_read_job c.before.before.before.before.args.x.job) ≡ t
 reads-is c t e = rw (← c.before.is-read-job.ensures, ← c.is-read-job2.ensures) e
 
 is-free-requires : tie.Need-is-free-requires
 is-free-requires c κs = tt
 
 returns : tie.Need-returns
-unfolding meetsOf
+unfolding meets_of
 returns c = simp (sym c.before.is_free.ensures ∙ c.if1.true)
 
 is-read-job-requires : tie.Need-is-read-job-requires
@@ -24,7 +24,7 @@ is-read-job-requires-2 : tie.Need-is-read-job-requires-2
 is-read-job-requires-2 c κs = tt
 
 returns-2 : tie.Need-returns-2
-unfolding meetsOf
+unfolding meets_of
 returns-2 c =
     let f = c.before.before.before in
     simp (sym f.before.is_free.ensures ∙ f.if1.false, reads-is c.before false (not-true (c.before.before.is-read-job.result || c.before.is-read-job2.result) c.if2.true))
@@ -33,7 +33,7 @@ overlaps-requires : tie.Need-overlaps-requires
 overlaps-requires c κs = tt
 
 returns-3 : tie.Need-returns-3
-unfolding meetsOf
+unfolding meets_of
 returns-3 c =
     let d = c.before in
     let f = d.before.before.before in

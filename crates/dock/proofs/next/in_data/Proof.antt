@@ -6,16 +6,16 @@ use mathlib.Core.Path.{◌≡◌, sym, ◌∙◌}
 use mathlib.Core.Bool.{true}
 use lib.Dec.{leb}
 use Rattle.arithmetic.specs.SettingsLaws.{and_left}
-use Rattle.vectors.specs.Vectors.{isValid}
+use Rattle.vectors.specs.Vectors.{is_valid}
 use Rattle.dock.proofs.next.in_data.Statement.{statement}
 use Rattle.dock.proofs.next.in_data.Tie as tie
 
 -- past the first test the vector is valid, and so has at most 16 segments
-valid-is : (c : tie.Else1) → isValid c.before.before.args.data-len c.before.before.args.t3 ≡ true
+valid-is : (c : tie.Else1) → is_valid c.before.before.args.data-len c.before.before.args.t3 ≡ true
 valid-is c = sym c.before.is-valid.ensures ∙ not-false _ c.if1.false
 
 few : (c : tie.Else1) → c.before.before.args.t3.count ≤ 16
-unfolding isValid
+unfolding is_valid
 few c = leb-true c.before.before.args.t3.count 16 (and_left (leb c.before.before.args.t3.count 16) _ (valid-is c))
 
 is-valid-requires : tie.Need-is-valid-requires

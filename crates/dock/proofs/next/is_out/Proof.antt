@@ -1,7 +1,7 @@
 -- `dock::next::is_out` meets its contract: neither free nor ended, and not waiting. Assumes nothing.
 use mathlib.Core.Path.{sym, ap, ◌∙◌}
 use mathlib.Core.Bool.{not}
-use Rattle.dock.specs.Dock.{isOutBy}
+use Rattle.dock.specs.Dock.{is_out_by}
 use Rattle.dock.proofs.next.is_out.Statement.{statement}
 use Rattle.dock.proofs.next.is_out.Tie as tie
 
@@ -9,14 +9,14 @@ is-free-requires : tie.Need-is-free-requires
 is-free-requires c κs = tt
 
 returns : tie.Need-returns
-unfolding isOutBy
+unfolding is_out_by
 returns c = simp (sym c.before.is_free.ensures ∙ c.if1.true)
 
 has-ended-requires : tie.Need-has-ended-requires
 has-ended-requires c κs = tt
 
 returns-2 : tie.Need-returns-2
-unfolding isOutBy
+unfolding is_out_by
 returns-2 c =
     let f = c.before.before in
     simp (sym f.before.is_free.ensures ∙ f.if1.false, sym c.before.has_ended.ensures ∙ c.if2.true)
@@ -25,7 +25,7 @@ waits-requires : tie.Need-waits-requires
 waits-requires c κs = tt
 
 returns-3 : tie.Need-returns-3
-unfolding isOutBy
+unfolding is_out_by
 returns-3 c =
     let d = c.before in
     let f = d.before.before in

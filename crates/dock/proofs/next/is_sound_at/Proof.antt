@@ -1,5 +1,5 @@
 -- `dock::next::is_sound_at` meets its contract: the three tests are the definition's. Assumes nothing.
-use Rattle.dock.specs.Next.{isSoundAt}
+use Rattle.dock.specs.Next.{is_sound_at}
 use borrow.Author.Rules.{rules}
 use Rattle.dock.proofs.next.is_sound_at.Statement.{statement}
 use Rattle.dock.proofs.next.is_sound_at.Tie as tie
@@ -8,7 +8,7 @@ is-sound-in-requires : tie.Need-is-sound-in-requires
 is-sound-in-requires c κs = search rules
 
 returns : tie.Need-returns
-unfolding isSoundAt
+unfolding is_sound_at
 returns c = rw c.before.is-sound-in.ensures
 
 pub is-sound-at-spec : {M : Type 1} → statement M

@@ -3,9 +3,9 @@ use mathlib.Core.Path.{ap, ◌∙◌}
 use mathlib.Core.Bool.{Bool, ◌&&◌}
 use lib.Dec.{leb}
 use Prim.Native.Nat.{◌/◌}
-use Rattle.stages.specs.Stages.{isSound}
-use Rattle.dock.specs.Next.{isSoundIn}
-use Rattle.dock.proofs.SlotsOf.{share-room}
+use Rattle.stages.specs.Stages.{is_sound}
+use Rattle.dock.specs.Next.{is_sound_in}
+use Rattle.dock.proofs.SlotsOf.{share_room}
 use Rattle.dock.proofs.next.is_sound_in.Statement.{statement}
 use Rattle.dock.proofs.next.is_sound_in.Tie as tie
 
@@ -13,10 +13,10 @@ is-sound-requires : tie.Need-is-sound-requires
 is-sound-requires c κs = tt
 
 returns : tie.Need-returns
-unfolding isSoundIn
+unfolding is_sound_in
 returns c =
     let a = c.before.before.before.before.args in
-    ap (λ (t : Bool). t && leb a.settings.bounce (a.buffers.scratch.length / 8)) c.before.before.is-sound.ensures ∙ ap (λ (t : Bool). isSound a.settings.bounce a.x && t) (share-room a.settings.bounce a.buffers.scratch.length)
+    ap (λ (t : Bool). t && leb a.settings.bounce (a.buffers.scratch.length / 8)) c.before.before.is-sound.ensures ∙ ap (λ (t : Bool). is_sound a.settings.bounce a.x && t) (share_room a.settings.bounce a.buffers.scratch.length)
 
 pub is-sound-in-spec : {M : Type 1} → statement M
 is-sound-in-spec = tie.close (tie.spec is-sound-requires returns)

@@ -7,16 +7,16 @@ use Rattle.vectors.specs.declared.vector.IoVector.{IoVector}
 use Rattle.stages.specs.declared.state.Phase.{Phase}
 use Rattle.stages.specs.declared.state.State.{State}
 use Rattle.stages.specs.Stages.{size_of}
-use Rattle.dock.specs.Next.{pieceBy, inScratch}
+use Rattle.dock.specs.Next.{piece_by, in_scratch}
 use Rattle.dock.specs.declared.next.Piece.{Piece}
-use Rattle.dock.proofs.SlotsOf.{second-in}
+use Rattle.dock.proofs.SlotsOf.{second_in}
 use borrow.Author.Rules.{rules}
 use Rattle.dock.proofs.next.piece_of.Statement.{statement}
 use Rattle.dock.proofs.next.piece_of.Tie as tie
 
 -- a state in the phase ph
-in-case : (ph : Phase) (share i m : ℕ) (x : State) (v : IoVector) {q : Piece} → x.phase ≡ ph → q ≡ pieceBy ph share i m x v → q ≡ pieceBy x.phase share i m x v
-in-case ph share i m x v e h = h ∙ sym (ap (λ (p : Phase). pieceBy p share i m x v) e)
+in-case : (ph : Phase) (share i m : ℕ) (x : State) (v : IoVector) {q : Piece} → x.phase ≡ ph → q ≡ piece_by ph share i m x v → q ≡ piece_by x.phase share i m x v
+in-case ph share i m x v e h = h ∙ sym (ap (λ (p : Phase). piece_by p share i m x v) e)
 
 enum_told : tie.Need-enum-told
 enum_told c = search rules
@@ -57,7 +57,7 @@ second-at-requires c κs = tt
 add-in-scratch : tie.Need-overflow-add-in-scratch
 add-in-scratch c =
     let s = c.before.before.before.before in
-    let l = second-in s.args.bounce s.args.x c.before.enum-told6.given.1 s.requires.0 in
+    let l = second_in s.args.bounce s.args.x c.before.enum-told6.given.1 s.requires.0 in
     omega (arith, ap (λ (b : BufferOffset). b.0) c.second_at.ensures)
 
 size-requires-3 : tie.Need-size-requires-3
@@ -105,22 +105,22 @@ returns-3 c =
 returns-4 : tie.Need-returns-4
 returns-4 c =
     let a = c.before.before.before.before.before.args in
-    in-case _ a.share a.i a.data-len a.x a.v c.before.before.enum-told4.given.1 (c.in-scratch.ensures ∙ ap (λ (n : ℕ). inScratch a.i a.share n) c.before.size.ensures)
+    in-case _ a.share a.i a.data-len a.x a.v c.before.before.enum-told4.given.1 (c.in-scratch.ensures ∙ ap (λ (n : ℕ). in_scratch a.i a.share n) c.before.size.ensures)
 
 returns-5 : tie.Need-returns-5
 returns-5 c =
     let a = c.before.before.before.before.before.args in
-    in-case _ a.share a.i a.data-len a.x a.v c.before.before.enum-told5.given.1 (c.in-scratch2.ensures ∙ ap (λ (n : ℕ). inScratch a.i a.share n) c.before.size2.ensures)
+    in-case _ a.share a.i a.data-len a.x a.v c.before.before.enum-told5.given.1 (c.in-scratch2.ensures ∙ ap (λ (n : ℕ). in_scratch a.i a.share n) c.before.size2.ensures)
 
 returns-6 : tie.Need-returns-6
 returns-6 c =
     let a = c.before.before.before.before.before.before.args in
-    in-case _ a.share a.i a.data-len a.x a.v c.before.before.before.enum-told6.given.1 (c.in-scratch3.ensures ∙ ap (λ (n : ℕ). inScratch a.i (a.share + c.before.before.second_at.result.0) n) c.before.size3.ensures ∙ ap (λ (b : BufferOffset). inScratch a.i (a.share + b.0) (size_of a.x.stage.second)) c.before.before.second_at.ensures)
+    in-case _ a.share a.i a.data-len a.x a.v c.before.before.before.enum-told6.given.1 (c.in-scratch3.ensures ∙ ap (λ (n : ℕ). in_scratch a.i (a.share + c.before.before.second_at.result.0) n) c.before.size3.ensures ∙ ap (λ (b : BufferOffset). in_scratch a.i (a.share + b.0) (size_of a.x.stage.second)) c.before.before.second_at.ensures)
 
 returns-7 : tie.Need-returns-7
 returns-7 c =
     let a = c.before.before.before.before.before.args in
-    in-case _ a.share a.i a.data-len a.x a.v c.before.before.enum-told7.given.1 (c.in-scratch4.ensures ∙ ap (λ (n : ℕ). inScratch a.i a.share n) c.before.size4.ensures)
+    in-case _ a.share a.i a.data-len a.x a.v c.before.before.enum-told7.given.1 (c.in-scratch4.ensures ∙ ap (λ (n : ℕ). in_scratch a.i a.share n) c.before.size4.ensures)
 
 returns-8 : tie.Need-returns-8
 returns-8 c =

@@ -1,5 +1,5 @@
 -- `dock::tell::enters` meets its contract: the blocker leaves, then the job enters its next stage. Assumes nothing.
-use Rattle.dock.proofs.Steps.{enters-blocked, enters-done}
+use Rattle.dock.proofs.Steps.{enters_blocked, enters_done}
 use borrow.Author.Rules.{rules}
 use Rattle.dock.proofs.tell.enters.Statement.{statement}
 use Rattle.dock.proofs.tell.enters.Tie as tie
@@ -14,7 +14,7 @@ refuse-step-requires : tie.Need-refuse-step-requires
 refuse-step-requires c κs = search rules
 
 returns : tie.Need-returns
-returns c = let a = c.before.before.before.before.before.before.before.args in enters-blocked a.b a.slot a.share a.x a.y a.v a.«data».now a.scratch.now _ c.before.before.before.before.leave-blocker.ensures _ c.before.before.gone.given.1 _ c.refuse-step.ensures
+returns c = let a = c.before.before.before.before.before.before.before.args in enters_blocked a.b a.slot a.share a.x a.y a.v a.«data».now a.scratch.now _ c.before.before.before.before.leave-blocker.ensures _ c.before.before.gone.given.1 _ c.refuse-step.ensures
 
 enum_told : tie.Need-enum-told
 enum_told c = search rules
@@ -26,7 +26,7 @@ same_length : tie.Need-same-length
 same_length c = search rules
 
 returns-2 : tie.Need-returns-2
-returns-2 c = let a = c.before.before.before.before.before.before.before.before.before.before.args in enters-done a.b a.slot a.share a.x a.y a.v a.«data».now a.scratch.now _ c.before.before.before.before.before.before.before.leave-blocker.ensures c.before.before.before.before.before.enum_told.given.1 _ _ c.before.before.before.enter.ensures
+returns-2 c = let a = c.before.before.before.before.before.before.before.before.before.before.args in enters_done a.b a.slot a.share a.x a.y a.v a.«data».now a.scratch.now _ c.before.before.before.before.before.before.before.leave-blocker.ensures c.before.before.before.before.before.enum_told.given.1 _ _ c.before.before.before.enter.ensures
 
 pub enters-spec : {M : Type 1} → statement M
 enters-spec =

@@ -2,8 +2,8 @@
 use mathlib.Core.Path.{sym, ap, ◌∙◌}
 use Prim.Native.Nat.{ℕ}
 use borrow.Author.Tests.{ne_eqb, lt-ltb, le-ltb}
-use Rattle.stages.specs.Stages.{toldOf}
-use Rattle.dock.specs.Tell.{answeredOf}
+use Rattle.stages.specs.Stages.{told_of}
+use Rattle.dock.specs.Tell.{answered_of}
 use Rattle.dock.specs.declared.tell.Answered.TheVariants.{Leads}
 use borrow.Author.Rules.{rules}
 use Rattle.dock.proofs.tell.interpret_code.Statement.{statement}
@@ -19,19 +19,19 @@ ends-requires : tie.Need-ends-requires
 ends-requires c κs = search rules
 
 returns : tie.Need-returns
-unfolding answeredOf toldOf
-returns c = let a = c.before.before.args in ap Leads c.done.ensures ∙ sym (ap (λ (k : ℕ). answeredOf a.settings a.x k) c.before.match.keys1)
+unfolding answered_of told_of
+returns c = let a = c.before.before.args in ap Leads c.done.ensures ∙ sym (ap (λ (k : ℕ). answered_of a.settings a.x k) c.before.match.keys1)
 
 returns-2 : tie.Need-returns-2
-unfolding answeredOf toldOf
-returns-2 c = let a = c.before.before.args in ap Leads c.unsupported.ensures ∙ sym (ap (λ (k : ℕ). answeredOf a.settings a.x k) c.before.match.keys2)
+unfolding answered_of told_of
+returns-2 c = let a = c.before.before.args in ap Leads c.unsupported.ensures ∙ sym (ap (λ (k : ℕ). answered_of a.settings a.x k) c.before.match.keys2)
 
 returns-3 : tie.Need-returns-3
-unfolding answeredOf toldOf
+unfolding answered_of told_of
 returns-3 c = let a = c.before.before.before.args in simp (ne_eqb a.code 0 c.before.before.match.rest.0.1, ne_eqb a.code 1 c.before.before.match.rest.1, lt-ltb a.code 200 c.before.if1.true) (ap Leads c.ends.ensures)
 
 returns-4 : tie.Need-returns-4
-unfolding answeredOf
+unfolding answered_of
 returns-4 c = simp (le-ltb c.before.before.args.code 200 c.if1.false)
 
 pub interpret-code-spec : {M : Type 1} → statement M

@@ -1,6 +1,6 @@
 -- `dock::tell::take_step` meets its contract: each step is its case of the definition. Assumes nothing.
 use mathlib.Core.Path.{sym, ap, ◌∙◌}
-use Rattle.dock.specs.Tell.{steppedAt}
+use Rattle.dock.specs.Tell.{stepped_at}
 use borrow.Author.Rules.{rules}
 use Rattle.dock.proofs.tell.take_step.Statement.{statement}
 use Rattle.dock.proofs.tell.take_step.Tie as tie
@@ -30,7 +30,7 @@ same-length-2 : tie.Need-same-length-2
 same-length-2 c = search rules
 
 returns : tie.Need-returns
-returns c = let a = c.before.before.before.before.before.before.before.before.before.before.args in c.before.before.stays.ensures ∙ sym (ap (λ q. steppedAt a.b a.slot a.share a.x a.code a.v a.«data».now a.scratch.now q) c.before.before.before.before.before.before.step.given.1)
+returns c = let a = c.before.before.before.before.before.before.before.before.before.before.args in c.before.before.stays.ensures ∙ sym (ap (λ q. stepped_at a.b a.slot a.share a.x a.code a.v a.«data».now a.scratch.now q) c.before.before.before.before.before.before.step.given.1)
 
 same-length-3 : tie.Need-same-length-3
 same-length-3 c = search rules
@@ -39,7 +39,7 @@ same-length-4 : tie.Need-same-length-4
 same-length-4 c = search rules
 
 returns-2 : tie.Need-returns-2
-returns-2 c = let a = c.before.before.before.before.before.before.before.before.before.before.args in c.before.before.ends.ensures ∙ sym (ap (λ q. steppedAt a.b a.slot a.share a.x a.code a.v a.«data».now a.scratch.now q) c.before.before.before.before.before.before.step2.given.1)
+returns-2 c = let a = c.before.before.before.before.before.before.before.before.before.before.args in c.before.before.ends.ensures ∙ sym (ap (λ q. stepped_at a.b a.slot a.share a.x a.code a.v a.«data».now a.scratch.now q) c.before.before.before.before.before.before.step2.given.1)
 
 same-length-5 : tie.Need-same-length-5
 same-length-5 c = search rules
@@ -48,7 +48,7 @@ same-length-6 : tie.Need-same-length-6
 same-length-6 c = search rules
 
 returns-3 : tie.Need-returns-3
-returns-3 c = let a = c.before.before.before.before.before.before.before.before.before.before.args in c.before.before.enters.ensures ∙ sym (ap (λ q. steppedAt a.b a.slot a.share a.x a.code a.v a.«data».now a.scratch.now q) c.before.before.before.before.before.before.step3.given.1)
+returns-3 c = let a = c.before.before.before.before.before.before.before.before.before.before.args in c.before.before.enters.ensures ∙ sym (ap (λ q. stepped_at a.b a.slot a.share a.x a.code a.v a.«data».now a.scratch.now q) c.before.before.before.before.before.before.step3.given.1)
 
 pub take-step-spec : {M : Type 1} → statement M
 take-step-spec =

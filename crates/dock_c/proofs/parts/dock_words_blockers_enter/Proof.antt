@@ -1,10 +1,10 @@
 -- `dock_c::parts::dock_words_blockers_enter` meets its contract: what entering gives. Assumes nothing.
 use mathlib.Core.Path.{ap, ◌∙◌}
 use Rattle.arithmetic.specs.Offsets.{range_of}
-use Rattle.arithmetic.specs.Refusals.{outcomeNumber}
+use Rattle.arithmetic.specs.Refusals.{outcome_number}
 use Rattle.blockers.specs.Blockers.{entered_of}
 use Rattle.blockers.specs.declared.Kind.{Kind}
-use Rattle.dock_words.specs.View.{blockersOf}
+use Rattle.dock_words.specs.View.{blockers_of}
 use borrow.Author.Rules.{rules}
 use Rattle.dock_c.proofs.parts.dock_words_blockers_enter.Statement.{statement}
 use Rattle.dock_c.proofs.parts.dock_words_blockers_enter.Tie as tie
@@ -19,7 +19,7 @@ number-requires : tie.Need-number-requires
 number-requires c κs = search rules
 
 returns : tie.Need-returns
-returns c = let a = c.before.before.before.before.args in let q = c.before.before.before.strength.ensures in let e = c.before.enter.ensures in (c.number.ensures ∙ ap outcomeNumber e.0 ∙ ap (λ (k : Kind). outcomeNumber (entered_of k a.slot (range_of a.start a.end) (blockersOf a.blockers.now)).outcome) q, e.1 ∙ ap (λ (k : Kind). (entered_of k a.slot (range_of a.start a.end) (blockersOf a.blockers.now)).blockers) q, rw (← q, ← e.0) e.2)
+returns c = let a = c.before.before.before.before.args in let q = c.before.before.before.strength.ensures in let e = c.before.enter.ensures in (c.number.ensures ∙ ap outcome_number e.0 ∙ ap (λ (k : Kind). outcome_number (entered_of k a.slot (range_of a.start a.end) (blockers_of a.blockers.now)).outcome) q, e.1 ∙ ap (λ (k : Kind). (entered_of k a.slot (range_of a.start a.end) (blockers_of a.blockers.now)).blockers) q, rw (← q, ← e.0) e.2)
 
 pub dock-words-blockers-enter-spec : {M : Type 1} → statement M
 dock-words-blockers-enter-spec =

@@ -1,10 +1,10 @@
 -- `dock_c::parts::dock_words_vector_append` meets its contract: what the call on the two vectors gives, written back. Assumes nothing.
 use mathlib.Core.Path.{ap, ◌∙◌}
-use Rattle.arithmetic.specs.Refusals.{outcomeNumber}
+use Rattle.arithmetic.specs.Refusals.{outcome_number}
 use Rattle.vectors.specs.declared.vector.IoVector.{IoVector}
 use Rattle.vectors.specs.declared.vector.Changed.{Changed}
-use Rattle.vectors.specs.Vectors.{appendOf}
-use Rattle.vectors.specs.Words.{vectorFrom, vectorWords}
+use Rattle.vectors.specs.Vectors.{append_of}
+use Rattle.vectors.specs.Words.{vector_from, vector_words}
 use borrow.Author.Rules.{rules}
 use Rattle.dock_c.proofs.parts.dock_words_vector_append.Statement.{statement}
 use Rattle.dock_c.proofs.parts.dock_words_vector_append.Tie as tie
@@ -25,7 +25,7 @@ number-requires : tie.Need-number-requires
 number-requires c κs = search rules
 
 returns : tie.Need-returns
-returns c = let a = c.before.before.before.before.before.before.before.args in let e = c.before.before.before.append.ensures ∙ ap (λ (v : IoVector). appendOf a.data-len v c.before.before.before.before.vector-of2.result) c.before.before.before.before.before.vector-of.ensures ∙ ap (λ (w : IoVector). appendOf a.data-len (vectorFrom a.vector.now) w) c.before.before.before.before.vector-of2.ensures in (c.number.ensures ∙ ap (λ (z : Changed). outcomeNumber z.outcome) e, c.before.put-vector-of.ensures ∙ ap (λ (z : Changed). vectorWords z.vector) e)
+returns c = let a = c.before.before.before.before.before.before.before.args in let e = c.before.before.before.append.ensures ∙ ap (λ (v : IoVector). append_of a.data-len v c.before.before.before.before.vector-of2.result) c.before.before.before.before.before.vector-of.ensures ∙ ap (λ (w : IoVector). append_of a.data-len (vector_from a.vector.now) w) c.before.before.before.before.vector-of2.ensures in (c.number.ensures ∙ ap (λ (z : Changed). outcome_number z.outcome) e, c.before.put-vector-of.ensures ∙ ap (λ (z : Changed). vector_words z.vector) e)
 
 pub dock-words-vector-append-spec : {M : Type 1} → statement M
 dock-words-vector-append-spec =

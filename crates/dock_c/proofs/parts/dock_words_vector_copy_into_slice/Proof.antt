@@ -1,6 +1,6 @@
 -- `dock_c::parts::dock_words_vector_copy_into_slice` meets its contract: that of the call on the vector. Assumes nothing.
 use mathlib.Core.Path.{ap, ◌∙◌}
-use Rattle.arithmetic.specs.Refusals.{outcomeNumber}
+use Rattle.arithmetic.specs.Refusals.{outcome_number}
 use borrow.Author.Rules.{rules}
 use Rattle.dock_c.proofs.parts.dock_words_vector_copy_into_slice.Statement.{statement}
 use Rattle.dock_c.proofs.parts.dock_words_vector_copy_into_slice.Tie as tie
@@ -18,7 +18,7 @@ same_length : tie.Need-same-length
 same_length c = search rules
 
 returns : tie.Need-returns
-returns c = rw (← c.before.before.before.before.before.vector-of.ensures) (c.number.ensures ∙ ap outcomeNumber c.before.before.before.copy-into-slice.ensures.0, c.before.before.before.copy-into-slice.ensures.1)
+returns c = rw (← c.before.before.before.before.before.vector-of.ensures) (c.number.ensures ∙ ap outcome_number c.before.before.before.copy-into-slice.ensures.0, c.before.before.before.copy-into-slice.ensures.1)
 
 pub dock-words-vector-copy-into-slice-spec : {M : Type 1} → statement M
 dock-words-vector-copy-into-slice-spec =

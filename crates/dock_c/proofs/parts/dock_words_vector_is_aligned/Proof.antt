@@ -2,8 +2,8 @@
 use mathlib.Core.Path.{ap, ◌∙◌}
 use Rattle.vectors.specs.declared.vector.IoVector.{IoVector}
 use Rattle.vectors.specs.declared.vector.Alignment.{Alignment}
-use Rattle.vectors.specs.Vectors.{alignmentOf}
-use Rattle.dock_c.specs.Replies.{replyOf, alignmentPaper}
+use Rattle.vectors.specs.Vectors.{alignment_of}
+use Rattle.dock_c.specs.Replies.{reply_of, alignment_paper}
 use borrow.Author.Rules.{rules}
 use Rattle.dock_c.proofs.parts.dock_words_vector_is_aligned.Statement.{statement}
 use Rattle.dock_c.proofs.parts.dock_words_vector_is_aligned.Tie as tie
@@ -18,7 +18,7 @@ alignment-reply-requires : tie.Need-alignment-reply-requires
 alignment-reply-requires c κs = search rules
 
 returns : tie.Need-returns
-returns c = let a = c.before.before.before.args in c.alignment-reply.ensures ∙ ap (λ (z : Alignment). replyOf (alignmentPaper z)) (c.before.is-aligned.ensures ∙ ap (λ (v : IoVector). alignmentOf (record { mem = a.mem; req = a.req; zero = a.zero; discard = a.discard }) (record { address = a.address; length = a.length }) v) c.before.before.vector-of.ensures)
+returns c = let a = c.before.before.before.args in c.alignment-reply.ensures ∙ ap (λ (z : Alignment). reply_of (alignment_paper z)) (c.before.is-aligned.ensures ∙ ap (λ (v : IoVector). alignment_of (record { mem = a.mem; req = a.req; zero = a.zero; discard = a.discard }) (record { address = a.address; length = a.length }) v) c.before.before.vector-of.ensures)
 
 pub dock-words-vector-is-aligned-spec : {M : Type 1} → statement M
 dock-words-vector-is-aligned-spec =

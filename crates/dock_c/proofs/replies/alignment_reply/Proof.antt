@@ -1,7 +1,7 @@
 -- `dock_c::replies::alignment_reply` meets its contract: each arm is its case of the definition. Assumes nothing.
 use mathlib.Core.Path.{sym, ap, ◌∙◌}
 use Rattle.vectors.specs.declared.vector.Alignment.{Alignment}
-use Rattle.dock_c.specs.Replies.{replyOf, numbers, alignmentPaper}
+use Rattle.dock_c.specs.Replies.{reply_of, numbers, alignment_paper}
 use borrow.Author.Rules.{rules}
 use Rattle.dock_c.proofs.replies.alignment_reply.Statement.{statement}
 use Rattle.dock_c.proofs.replies.alignment_reply.Tie as tie
@@ -31,13 +31,13 @@ reply-number-requires : tie.Need-reply-number-requires
 reply-number-requires c κs = search rules
 
 returns : tie.Need-returns
-returns c = c.reply-values.ensures ∙ sym (ap (λ (z : Alignment). replyOf (alignmentPaper z)) c.before.enum_told.given.1)
+returns c = c.reply-values.ensures ∙ sym (ap (λ (z : Alignment). reply_of (alignment_paper z)) c.before.enum_told.given.1)
 
 returns-2 : tie.Need-returns-2
-returns-2 c = c.reply-values2.ensures ∙ sym (ap (λ (z : Alignment). replyOf (alignmentPaper z)) c.before.enum-told2.given.1)
+returns-2 c = c.reply-values2.ensures ∙ sym (ap (λ (z : Alignment). reply_of (alignment_paper z)) c.before.enum-told2.given.1)
 
 returns-3 : tie.Need-returns-3
-returns-3 c = c.reply-number.ensures ∙ ap numbers c.before.number.ensures ∙ sym (ap (λ (z : Alignment). replyOf (alignmentPaper z)) c.before.before.before.a.given.1)
+returns-3 c = c.reply-number.ensures ∙ ap numbers c.before.number.ensures ∙ sym (ap (λ (z : Alignment). reply_of (alignment_paper z)) c.before.before.before.a.given.1)
 
 pub alignment-reply-spec : {M : Type 1} → statement M
 alignment-reply-spec =

@@ -1,7 +1,7 @@
 -- `dock_c::replies::count_reply` meets its contract: each arm is its case of the definition. Assumes nothing.
 use mathlib.Core.Path.{sym, ap, ◌∙◌}
-use Rattle.dock_c.specs.Replies.{replyOf, numbers}
-use Rattle.dock_c.specs.Replies.{countPaper}
+use Rattle.dock_c.specs.Replies.{reply_of, numbers}
+use Rattle.dock_c.specs.Replies.{count_paper}
 use Rattle.arithmetic.specs.declared.planner.Count.{Count}
 use borrow.Author.Rules.{rules}
 use Rattle.dock_c.proofs.replies.count_reply.Statement.{statement}
@@ -26,10 +26,10 @@ reply-number-requires : tie.Need-reply-number-requires
 reply-number-requires c κs = search rules
 
 returns : tie.Need-returns
-returns c = c.reply-values.ensures ∙ sym (ap (λ (z : Count). replyOf (countPaper z)) c.before.before.k.given.1)
+returns c = c.reply-values.ensures ∙ sym (ap (λ (z : Count). reply_of (count_paper z)) c.before.before.k.given.1)
 
 returns-2 : tie.Need-returns-2
-returns-2 c = c.reply-number.ensures ∙ ap numbers c.before.number.ensures ∙ sym (ap (λ (z : Count). replyOf (countPaper z)) c.before.before.before.k2.given.1)
+returns-2 c = c.reply-number.ensures ∙ ap numbers c.before.number.ensures ∙ sym (ap (λ (z : Count). reply_of (count_paper z)) c.before.before.before.k2.given.1)
 
 pub count-reply-spec : {M : Type 1} → statement M
 count-reply-spec =

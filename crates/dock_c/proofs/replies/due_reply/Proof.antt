@@ -1,7 +1,7 @@
 -- `dock_c::replies::due_reply` meets its contract: each arm is its case of the definition. Assumes nothing.
 use mathlib.Core.Path.{sym, ap, ◌∙◌}
-use Rattle.dock_c.specs.Replies.{replyOf, numbers}
-use Rattle.dock.specs.Numbers.{duePaper}
+use Rattle.dock_c.specs.Replies.{reply_of, numbers}
+use Rattle.dock.specs.Numbers.{due_paper}
 use Rattle.dock.specs.declared.next.Due.{Due}
 use borrow.Author.Rules.{rules}
 use Rattle.dock_c.proofs.replies.due_reply.Statement.{statement}
@@ -41,16 +41,16 @@ reply-number-requires-2 : tie.Need-reply-number-requires-2
 reply-number-requires-2 c κs = search rules
 
 returns : tie.Need-returns
-returns c = c.reply-values.ensures ∙ sym (ap (λ (z : Due). replyOf (duePaper z)) c.before.enum_told.given.1)
+returns c = c.reply-values.ensures ∙ sym (ap (λ (z : Due). reply_of (due_paper z)) c.before.enum_told.given.1)
 
 returns-2 : tie.Need-returns-2
-returns-2 c = c.request-reply.ensures ∙ sym (ap (λ (z : Due). replyOf (duePaper z)) c.before.before.d.given.1)
+returns-2 c = c.request-reply.ensures ∙ sym (ap (λ (z : Due). reply_of (due_paper z)) c.before.before.d.given.1)
 
 returns-3 : tie.Need-returns-3
-returns-3 c = c.reply-number.ensures ∙ sym (ap (λ (z : Due). replyOf (duePaper z)) c.before.before.d2.given.1)
+returns-3 c = c.reply-number.ensures ∙ sym (ap (λ (z : Due). reply_of (due_paper z)) c.before.before.d2.given.1)
 
 returns-4 : tie.Need-returns-4
-returns-4 c = c.reply-number2.ensures ∙ ap numbers c.before.number.ensures ∙ sym (ap (λ (z : Due). replyOf (duePaper z)) c.before.before.before.d3.given.1)
+returns-4 c = c.reply-number2.ensures ∙ ap numbers c.before.number.ensures ∙ sym (ap (λ (z : Due). reply_of (due_paper z)) c.before.before.before.d3.given.1)
 
 pub due-reply-spec : {M : Type 1} → statement M
 due-reply-spec =

@@ -1,7 +1,7 @@
 -- `dock_c::replies::profile_reply` meets its contract: each arm is its case of the definition. Assumes nothing.
 use mathlib.Core.Path.{sym, ap, ◌∙◌}
 use Rattle.arithmetic.specs.declared.settings.Profile.{Profile}
-use Rattle.dock_c.specs.Replies.{replyOf, numbers, profilePaper}
+use Rattle.dock_c.specs.Replies.{reply_of, numbers, profile_paper}
 use borrow.Author.Rules.{rules}
 use Rattle.dock_c.proofs.replies.profile_reply.Statement.{statement}
 use Rattle.dock_c.proofs.replies.profile_reply.Tie as tie
@@ -25,10 +25,10 @@ reply-number-requires : tie.Need-reply-number-requires
 reply-number-requires c κs = search rules
 
 returns : tie.Need-returns
-returns c = c.reply-values.ensures ∙ sym (ap (λ (z : Profile). replyOf (profilePaper z)) c.before.before.p.given.1)
+returns c = c.reply-values.ensures ∙ sym (ap (λ (z : Profile). reply_of (profile_paper z)) c.before.before.p.given.1)
 
 returns-2 : tie.Need-returns-2
-returns-2 c = c.reply-number.ensures ∙ ap numbers c.before.number.ensures ∙ sym (ap (λ (z : Profile). replyOf (profilePaper z)) c.before.before.before.p2.given.1)
+returns-2 c = c.reply-number.ensures ∙ ap numbers c.before.number.ensures ∙ sym (ap (λ (z : Profile). reply_of (profile_paper z)) c.before.before.before.p2.given.1)
 
 pub profile-reply-spec : {M : Type 1} → statement M
 profile-reply-spec =

@@ -1,8 +1,8 @@
 -- `dock_shown::shown::complete` meets its contract: what tell gives, shown where it is done. Assumes nothing.
 use mathlib.Core.Path.{ap}
 use Rattle.dock.specs.Tell.{Told}
-use Rattle.dock_shown.specs.ShownLaws.{completed-refused, completed, complete-words, complete-done}
-use Rattle.dock_words.specs.View.{dockOf}
+use Rattle.dock_shown.specs.ShownLaws.{completed_refused, completed, complete_words, complete_done}
+use Rattle.dock_words.specs.View.{dock_of}
 use borrow.Author.Rules.{rules}
 use Rattle.dock_shown.proofs.shown.complete.Statement.{statement}
 use Rattle.dock_shown.proofs.shown.complete.Tie as tie
@@ -26,10 +26,10 @@ returns : tie.Need-returns
 returns c =
     let a = c.before.before.before.before.before.before.before.before.before.before.before.before.before.before.before.before.before.args in
     let e = c.before.before.before.before.before.before.before.before.before.tell.ensures.0 in (
-      completed-refused (dockOf a.settings.now a.blockers.now a.states.now a.vectors.now) a.slot a.code a.«data».now a.scratch.now _ e _ c.before.before.before.outcome.given.1 _ c.put-refusal.ensures,
+      completed_refused (dock_of a.settings.now a.blockers.now a.states.now a.vectors.now) a.slot a.code a.«data».now a.scratch.now _ e _ c.before.before.before.outcome.given.1 _ c.put-refusal.ensures,
       (
         (ap (λ (z : Told). z.memory) e, ap (λ (z : Told). z.scratch) e),
-        complete-words (dockOf a.settings.now a.blockers.now a.states.now a.vectors.now) a.slot a.code a.«data».now a.scratch.now _ e _ _ _ _ _ c.before.before.before.before.before.before.before.before.before.tell.ensures.1,
+        complete_words (dock_of a.settings.now a.blockers.now a.states.now a.vectors.now) a.slot a.code a.«data».now a.scratch.now _ e _ _ _ _ _ c.before.before.before.before.before.before.before.before.before.tell.ensures.1,
       ),
     )
 
@@ -50,10 +50,10 @@ returns-2 c =
     let a = c.before.before.before.before.before.before.before.before.before.before.before.before.before.before.before.before.before.before.before.args in
     let e = c.before.before.before.before.before.before.before.before.before.before.before.tell.ensures.0 in
     let o = c.before.before.before.before.before.enum_told.given.1 in (
-      completed (dockOf a.settings.now a.blockers.now a.states.now a.vectors.now) a.slot a.code a.«data».now a.scratch.now _ e o _ _ c.show.ensures.0,
+      completed (dock_of a.settings.now a.blockers.now a.states.now a.vectors.now) a.slot a.code a.«data».now a.scratch.now _ e o _ _ c.show.ensures.0,
       (
         (ap (λ (z : Told). z.memory) e, ap (λ (z : Told). z.scratch) e),
-        complete-done (dockOf a.settings.now a.blockers.now a.states.now a.vectors.now) a.slot a.code a.«data».now a.scratch.now _ e o _ _ _ _ _ _,
+        complete_done (dock_of a.settings.now a.blockers.now a.states.now a.vectors.now) a.slot a.code a.«data».now a.scratch.now _ e o _ _ _ _ _ _,
       ),
     )
 

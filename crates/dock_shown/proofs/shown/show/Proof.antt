@@ -1,9 +1,9 @@
 -- `dock_shown::shown::show` meets its contract: each arm is its case of what next says. Assumes nothing.
 use mathlib.Core.Path.{refl, sym, ap, ◌∙◌}
 use Prim.Native.Nat.{ℕ}
-use Rattle.dock_shown.specs.Shown.{shortWords}
-use Rattle.dock_shown.specs.ShownLaws.{shown-kept, shown-asked, shown-taken}
-use Rattle.dock_words.specs.View.{dockOf}
+use Rattle.dock_shown.specs.Shown.{short_words}
+use Rattle.dock_shown.specs.ShownLaws.{shown_kept, shown_asked, shown_taken}
+use Rattle.dock_words.specs.View.{dock_of}
 use borrow.Author.Rules.{rules}
 use Rattle.dock_shown.proofs.shown.show.Statement.{statement}
 use Rattle.dock_shown.proofs.shown.show.Tie as tie
@@ -48,16 +48,16 @@ put-request-requires : tie.Need-put-request-requires
 put-request-requires c κs = search rules
 
 returns : tie.Need-returns
-returns c = let a = c.before.before.before.before.before.before.before.before.args in shown-kept (dockOf a.settings.now a.blockers.now a.states.now a.vectors.now) a.slot a.data-len a.scratch-len _ (sym c.before.before.before.before.before.next.ensures ∙ c.before.before.before.due.given.1) refl _ c.put-refusal.ensures _ _
+returns c = let a = c.before.before.before.before.before.before.before.before.args in shown_kept (dock_of a.settings.now a.blockers.now a.states.now a.vectors.now) a.slot a.data-len a.scratch-len _ (sym c.before.before.before.before.before.next.ensures ∙ c.before.before.before.due.given.1) refl _ c.put-refusal.ensures _ _
 
 returns-2 : tie.Need-returns-2
-returns-2 c = let a = c.before.before.before.before.before.before.before.before.args in shown-kept (dockOf a.settings.now a.blockers.now a.states.now a.vectors.now) a.slot a.data-len a.scratch-len _ (sym c.before.before.before.before.before.next.ensures ∙ c.before.before.before.enum_told.given.1) refl _ (c.put-short.ensures ∙ ap (λ (k : ℕ). shortWords 2 k) c.before.size_word.ensures) _ _
+returns-2 c = let a = c.before.before.before.before.before.before.before.before.args in shown_kept (dock_of a.settings.now a.blockers.now a.states.now a.vectors.now) a.slot a.data-len a.scratch-len _ (sym c.before.before.before.before.before.next.ensures ∙ c.before.before.before.enum_told.given.1) refl _ (c.put-short.ensures ∙ ap (λ (k : ℕ). short_words 2 k) c.before.size_word.ensures) _ _
 
 returns-3 : tie.Need-returns-3
-returns-3 c = let a = c.before.before.before.before.before.before.before.before.before.before.before.before.args in shown-taken (dockOf a.settings.now a.blockers.now a.states.now a.vectors.now) a.slot a.data-len a.scratch-len _ (sym c.before.before.before.before.before.before.before.before.before.next.ensures ∙ c.before.before.before.before.before.before.before.due2.given.1) _ (c.put-short2.ensures ∙ ap (λ (k : ℕ). shortWords 1 k) c.before.byte_word.ensures) _ c.before.before.before.collect.ensures.0.1 _ _ _ _
+returns-3 c = let a = c.before.before.before.before.before.before.before.before.before.before.before.before.args in shown_taken (dock_of a.settings.now a.blockers.now a.states.now a.vectors.now) a.slot a.data-len a.scratch-len _ (sym c.before.before.before.before.before.before.before.before.before.next.ensures ∙ c.before.before.before.before.before.before.before.due2.given.1) _ (c.put-short2.ensures ∙ ap (λ (k : ℕ). short_words 1 k) c.before.byte_word.ensures) _ c.before.before.before.collect.ensures.0.1 _ _ _ _
 
 returns-4 : tie.Need-returns-4
-returns-4 c = let a = c.before.before.before.before.before.before.before.before.before.before.before.args in shown-asked (dockOf a.settings.now a.blockers.now a.states.now a.vectors.now) a.slot a.data-len a.scratch-len _ (sym c.before.before.before.before.before.before.before.before.next.ensures ∙ c.before.before.before.before.before.before.due3.given.1) _ c.before.before.piece.ensures _ c.put-request.ensures _ _
+returns-4 c = let a = c.before.before.before.before.before.before.before.before.before.before.before.args in shown_asked (dock_of a.settings.now a.blockers.now a.states.now a.vectors.now) a.slot a.data-len a.scratch-len _ (sym c.before.before.before.before.before.before.before.before.next.ensures ∙ c.before.before.before.before.before.before.due3.given.1) _ c.before.before.piece.ensures _ c.put-request.ensures _ _
 
 pub show-spec : {M : Type 1} → statement M
 show-spec =

@@ -1,7 +1,7 @@
 -- `dock_shown::shown::show_begun` meets its contract: each arm is its case of the begin's answer. Assumes nothing.
 use mathlib.Core.Path.{refl}
-use Rattle.dock_shown.specs.ShownLaws.{begun_kept, begun-shown}
-use Rattle.dock_words.specs.View.{dockOf}
+use Rattle.dock_shown.specs.ShownLaws.{begun_kept, begun_shown}
+use Rattle.dock_words.specs.View.{dock_of}
 use borrow.Author.Rules.{rules}
 use Rattle.dock_shown.proofs.shown.show_begun.Statement.{statement}
 use Rattle.dock_shown.proofs.shown.show_begun.Tie as tie
@@ -25,13 +25,13 @@ show-requires : tie.Need-show-requires
 show-requires c κs = search rules
 
 returns : tie.Need-returns
-returns c = let a = c.before.before.before.before.args in begun_kept a.begun _ c.before.before.enum_told.given.1 (dockOf a.settings.now a.blockers.now a.states.now a.vectors.now) a.data-len a.scratch-len _ c.put-short.ensures refl _ _
+returns c = let a = c.before.before.before.before.args in begun_kept a.begun _ c.before.before.enum_told.given.1 (dock_of a.settings.now a.blockers.now a.states.now a.vectors.now) a.data-len a.scratch-len _ c.put-short.ensures refl _ _
 
 returns-2 : tie.Need-returns-2
-returns-2 c = let a = c.before.before.before.before.before.args in begun_kept a.begun _ c.before.before.before.begun.given.1 (dockOf a.settings.now a.blockers.now a.states.now a.vectors.now) a.data-len a.scratch-len _ c.put-refusal.ensures refl _ _
+returns-2 c = let a = c.before.before.before.before.before.args in begun_kept a.begun _ c.before.before.before.begun.given.1 (dock_of a.settings.now a.blockers.now a.states.now a.vectors.now) a.data-len a.scratch-len _ c.put-refusal.ensures refl _ _
 
 returns-3 : tie.Need-returns-3
-returns-3 c = let a = c.before.before.before.before.before.before.before.args in begun-shown a.begun _ c.before.before.before.before.before.begun2.given.1 (dockOf a.settings.now a.blockers.now a.states.now a.vectors.now) a.data-len a.scratch-len _ c.show.ensures.0.0 refl _ c.show.ensures.0.1 _ _ _ _
+returns-3 c = let a = c.before.before.before.before.before.before.before.args in begun_shown a.begun _ c.before.before.before.before.before.begun2.given.1 (dock_of a.settings.now a.blockers.now a.states.now a.vectors.now) a.data-len a.scratch-len _ c.show.ensures.0.0 refl _ c.show.ensures.0.1 _ _ _ _
 
 pub show-begun-spec : {M : Type 1} → statement M
 show-begun-spec =

@@ -1,8 +1,8 @@
 -- `dock_words::blocker_steps::leave_blocker` meets its contract: none for a job without, else it leaves. Assumes nothing.
 use mathlib.Core.Path.{refl, sym, ◌∙◌}
 use borrow.Author.Tests.{not-true, not-false}
-use Rattle.dock.specs.Tell.{blockersWithout}
-use Rattle.dock_words.specs.CallWordsLaws.{same-words}
+use Rattle.dock.specs.Tell.{blockers_without}
+use Rattle.dock_words.specs.CallWordsLaws.{same_words}
 use borrow.Author.Rules.{rules}
 use Rattle.dock_words.proofs.blocker_steps.leave_blocker.Statement.{statement}
 use Rattle.dock_words.proofs.blocker_steps.leave_blocker.Tie as tie
@@ -11,8 +11,8 @@ is-blocking-requires : tie.Need-is-blocking-requires
 is-blocking-requires c κs = search rules
 
 returns : tie.Need-returns
-unfolding blockersWithout
-returns c = simp (sym c.before.is-blocking.ensures ∙ not-true _ c.if1.true) (refl, refl, same-words _ _)
+unfolding blockers_without
+returns c = simp (sym c.before.is-blocking.ensures ∙ not-true _ c.if1.true) (refl, refl, same_words _ _)
 
 leave-requires : tie.Need-leave-requires
 leave-requires c κs = search rules
@@ -21,7 +21,7 @@ same_length : tie.Need-same-length
 same_length c = search rules
 
 returns-2 : tie.Need-returns-2
-unfolding blockersWithout
+unfolding blockers_without
 returns-2 c = simp (sym c.before.before.before.before.before.is-blocking.ensures ∙ not-false _ c.before.before.before.before.if1.false) c.before.before.leave.ensures
 
 pub leave-blocker-spec : {M : Type 1} → statement M

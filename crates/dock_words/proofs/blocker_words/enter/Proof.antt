@@ -1,17 +1,17 @@
 -- `dock_words::blocker_words::enter` meets its contract: each way out is one of the laws on which calls are carried out. Assumes nothing.
 use mathlib.Core.Path.{refl, sym, ap, ◌∙◌}
 use Rattle.blockers.specs.Blockers.{present}
-use Rattle.blockers.specs.Laws.{enter-done, enter-past, enter-taken}
+use Rattle.blockers.specs.Laws.{enter_done, enter_past, enter_taken}
 use Rattle.arithmetic.specs.Rows.{part_length}
-use Rattle.dock_words.specs.View.{blockersOf}
-use Rattle.dock_words.specs.Laws.{kind-word, blocker-part}
-use Rattle.dock_words.specs.CallWordsLaws.{same-words, done-words}
+use Rattle.dock_words.specs.View.{blockers_of}
+use Rattle.dock_words.specs.Laws.{kind_word, blocker_part}
+use Rattle.dock_words.specs.CallWordsLaws.{same_words, done_words}
 use borrow.Author.Rules.{rules}
 use Rattle.dock_words.proofs.blocker_words.enter.Statement.{statement}
 use Rattle.dock_words.proofs.blocker_words.enter.Tie as tie
 
 returns : tie.Need-returns
-returns c = let a = c.before.before.args in rw (enter-past a.kind a.slot a.range (blockersOf a.all.now) c.if1.true) (refl, refl, same-words _ _)
+returns c = let a = c.before.before.args in rw (enter_past a.kind a.slot a.range (blockers_of a.all.now) c.if1.true) (refl, refl, same_words _ _)
 
 mul-a : tie.Need-overflow-mul-a
 mul-a c = search rules
@@ -28,8 +28,8 @@ is-entered-requires c κs = search rules
 returns-2 : tie.Need-returns-2
 returns-2 c = let a = c.before.before.before.before.before.args in
     let w = a.all.now in
-    let e = ap present (kind-word w a.slot c.before.before.before.if1.false) ∙ sym c.before.is-entered.ensures ∙ c.if2.true in
-    rw (enter-taken a.kind a.slot a.range (blockersOf w) e) (refl, refl, same-words _ _)
+    let e = ap present (kind_word w a.slot c.before.before.before.if1.false) ∙ sym c.before.is-entered.ensures ∙ c.if2.true in
+    rw (enter_taken a.kind a.slot a.range (blockers_of w) e) (refl, refl, same_words _ _)
 
 notes-requires : tie.Need-notes-requires
 notes-requires c κs = search rules
@@ -59,9 +59,9 @@ returns-3 : tie.Need-returns-3
 returns-3 c = let a = c.before.before.before.before.before.before.before.before.before.before.before.args in
     let w = a.all.now in
     let h = c.before.before.before.before.before.before.before.before.before.if1.false in
-    let e = ap present (kind-word w a.slot h) ∙ sym c.before.before.before.before.before.before.before.is-entered.ensures ∙ c.before.before.before.before.before.before.if2.false in
+    let e = ap present (kind_word w a.slot h) ∙ sym c.before.before.before.before.before.before.before.is-entered.ensures ∙ c.before.before.before.before.before.before.if2.false in
     let n = c.before.all.given.0 ∙ part_length 11 a.slot w (search rules) in
-    rw (enter-done a.kind a.slot a.range (blockersOf w) h e) (refl, blocker-part w a.slot (record { kind = a.kind; range = a.range; noted = c.before.before.before.before.notes.result }) c.before.before.put-blocker.new.0 h c.before.before.before.before.before.before.before.before.before.before.before.requires n c.before.before.put-blocker.ensures ∙ rw c.before.before.before.before.notes.ensures, done-words _ _ _ refl)
+    rw (enter_done a.kind a.slot a.range (blockers_of w) h e) (refl, blocker_part w a.slot (record { kind = a.kind; range = a.range; noted = c.before.before.before.before.notes.result }) c.before.before.put-blocker.new.0 h c.before.before.before.before.before.before.before.before.before.before.before.requires n c.before.before.put-blocker.ensures ∙ rw c.before.before.before.before.notes.ensures, done_words _ _ _ refl)
 
 pub enter_spec : {M : Type 1} → statement M
 enter_spec =

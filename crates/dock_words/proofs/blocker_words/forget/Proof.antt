@@ -5,12 +5,12 @@ use Prim.Native.Nat.{ℕ, ◌+◌, ◌*◌, ◌≤◌, ◌<◌, ◌-◌}
 use mathlib.Core.Path.{◌≡◌, sym, ap, ◌∙◌}
 use mathlib.Core.List.{List, map}
 use lib.ListN.{length, set, length-map, length-set}
-use Rattle.blockers.specs.Blockers.{blockerAt, nowhere, forgetting}
+use Rattle.blockers.specs.Blockers.{blocker_at, nowhere, forgetting}
 use Rattle.blockers.specs.declared.Blockers.{Blockers}
-use Rattle.arithmetic.specs.Rows.{rows-length}
-use Rattle.dock_words.specs.View.{blockerOf, blockersOf}
-use Rattle.dock_words.specs.Laws.{note-cleared}
-use Rattle.arithmetic.specs.Loops.{Mapped, mapped-none, mapped-more, like-all}
+use Rattle.arithmetic.specs.Rows.{rows_length}
+use Rattle.dock_words.specs.View.{blocker_of, blockers_of}
+use Rattle.dock_words.specs.Laws.{note_cleared}
+use Rattle.arithmetic.specs.Loops.{Mapped, mapped_none, mapped_more, like_all}
 use Rattle.dock_words.proofs.blocker_words.forget.Statement.{statement}
 use Rattle.dock_words.proofs.blocker_words.forget.Tie as tie
 
@@ -18,21 +18,21 @@ use Rattle.dock_words.proofs.blocker_words.forget.Tie as tie
 record Forgot (p : ℕ) (w₀ w : List ℕ) (i : ℕ) : Type 0 where
   pub turns : i ≤ 8
   pub words : length w ≡ 88
-  pub done : Mapped (forgetting p) nowhere (blockersOf w₀).slots (blockersOf w).slots i
+  pub done : Mapped (forgetting p) nowhere (blockers_of w₀).slots (blockers_of w).slots i
 
-eight : (p : ℕ) (w : List ℕ) → length (map (forgetting p) (blockersOf w).slots) ≡ 8
-eight p w = length-map (blockersOf w).slots (forgetting p) ∙ rows-length blockerOf 11 8 w
+eight : (p : ℕ) (w : List ℕ) → length (map (forgetting p) (blockers_of w).slots) ≡ 8
+eight p w = length-map (blockers_of w).slots (forgetting p) ∙ rows_length blocker_of 11 8 w
 
 none_yet : (p : ℕ) (w : List ℕ) → length w ≡ 88 → Forgot p w w 0
-none_yet p w l = record { turns = omega arith; words = l; done = mapped-none (forgetting p) nowhere (blockersOf w).slots }
+none_yet p w l = record { turns = omega arith; words = l; done = mapped_none (forgetting p) nowhere (blockers_of w).slots }
 
 one_more : (p : ℕ) (w₀ w : List ℕ) (i : ℕ) → p < 8 → i < 8 → Forgot p w₀ w i → Forgot p w₀ (set w (i * 11 + 3 + p) 0) (i + 1)
 one_more p w₀ w i h g f =
-    let e : blockersOf (set w (i * 11 + 3 + p) 0) ≡ record { slots = set (blockersOf w).slots i (forgetting p (blockerAt (blockersOf w) i)) } = note-cleared w i p g h f.words in
+    let e : blockers_of (set w (i * 11 + 3 + p) 0) ≡ record { slots = set (blockers_of w).slots i (forgetting p (blocker_at (blockers_of w) i)) } = note_cleared w i p g h f.words in
     record {
       turns = omega arith;
       words = length-set w (i * 11 + 3 + p) 0 ∙ f.words;
-      done = rw (ap (λ (x : Blockers). x.slots) e) (mapped-more (forgetting p) nowhere (blockersOf w₀).slots (blockersOf w).slots i (rw (rows-length blockerOf 11 8 w₀) g) f.done);
+      done = rw (ap (λ (x : Blockers). x.slots) e) (mapped_more (forgetting p) nowhere (blockers_of w₀).slots (blockers_of w).slots i (rw (rows_length blocker_of 11 8 w₀) g) f.done);
     }
 
 abbrev invariant-loop : tie.invariant-loop
@@ -72,7 +72,7 @@ same_length : tie.Need-same-length invariant-loop decreases-loop
 same_length c = c.before.loop.invariant.words ∙ sym c.before.before.requires.0
 
 returns : tie.Need-returns invariant-loop decreases-loop
-returns c = like-all _ _ c.before.loop.i (rw (eight c.before.before.args.slot c.before.before.args.all.now) c.loop-test.false) c.before.loop.invariant.done.0
+returns c = like_all _ _ c.before.loop.i (rw (eight c.before.before.args.slot c.before.before.args.all.now) c.loop-test.false) c.before.loop.invariant.done.0
 
 pub forget-spec : {M : Type 1} → statement M
 forget-spec =

@@ -1,6 +1,6 @@
 -- `dock_words::blocker_words::is_noted` meets its contract: by what the two tests that it calls ensure. Assumes nothing.
 use Rattle.blockers.specs.Blockers.{notes}
-use Rattle.dock_words.specs.View.{blockerOf}
+use Rattle.dock_words.specs.View.{blocker_of}
 use borrow.Author.Rules.{rules}
 use Rattle.dock_words.proofs.blocker_words.is_noted.Statement.{statement}
 use Rattle.dock_words.proofs.blocker_words.is_noted.Tie as tie
@@ -21,7 +21,7 @@ range-overlaps-requires : tie.Need-range-overlaps-requires
 range-overlaps-requires c κs = search rules
 
 returns : tie.Need-returns
-unfolding notes blockerOf
+unfolding notes blocker_of
 returns c = rw (c.before.conflicts.ensures, c.range-overlaps.ensures, c.before.before.get-range.ensures, c.before.before.before.kind-of.ensures)
 
 pub is-noted-spec : {M : Type 1} → statement M

@@ -2,17 +2,17 @@
 use borrow.Author.Tests.{not-true, not-false}
 use mathlib.Core.Path.{refl, sym, ap, ◌∙◌}
 use Rattle.blockers.specs.Blockers.{present}
-use Rattle.blockers.specs.Laws.{leave-done, leave-past, leave_none}
+use Rattle.blockers.specs.Laws.{leave_done, leave_past, leave_none}
 use Rattle.arithmetic.specs.Rows.{part_length}
-use Rattle.dock_words.specs.View.{blockersOf}
-use Rattle.dock_words.specs.Laws.{kind-word, blocker-part}
-use Rattle.dock_words.specs.CallWordsLaws.{same-words, done-words}
+use Rattle.dock_words.specs.View.{blockers_of}
+use Rattle.dock_words.specs.Laws.{kind_word, blocker_part}
+use Rattle.dock_words.specs.CallWordsLaws.{same_words, done_words}
 use borrow.Author.Rules.{rules}
 use Rattle.dock_words.proofs.blocker_words.leave.Statement.{statement}
 use Rattle.dock_words.proofs.blocker_words.leave.Tie as tie
 
 returns : tie.Need-returns
-returns c = let a = c.before.before.args in rw (leave-past a.slot (blockersOf a.all.now) c.if1.true) (refl, refl, same-words _ _)
+returns c = let a = c.before.before.args in rw (leave_past a.slot (blockers_of a.all.now) c.if1.true) (refl, refl, same_words _ _)
 
 mul-a : tie.Need-overflow-mul-a
 mul-a c = search rules
@@ -29,8 +29,8 @@ is-entered-requires c κs = search rules
 returns-2 : tie.Need-returns-2
 returns-2 c = let a = c.before.before.before.before.before.args in
     let w = a.all.now in
-    let e = ap present (kind-word w a.slot c.before.before.before.if1.false) ∙ sym c.before.is-entered.ensures ∙ not-true _ c.if2.true in
-    rw (leave_none a.slot (blockersOf w) e) (refl, refl, same-words _ _)
+    let e = ap present (kind_word w a.slot c.before.before.before.if1.false) ∙ sym c.before.is-entered.ensures ∙ not-true _ c.if2.true in
+    rw (leave_none a.slot (blockers_of w) e) (refl, refl, same_words _ _)
 
 forget-requires : tie.Need-forget-requires
 forget-requires c κs = search rules
@@ -64,10 +64,10 @@ returns-3 c = let a = c.before.before.before.before.before.before.before.before.
     let w = a.all.now in
     let f = c.before.before.before.before.before.before.before.forget.new.0 in
     let h = c.before.before.before.before.before.before.before.before.before.before.before.before.if1.false in
-    let e = ap present (kind-word w a.slot h) ∙ sym c.before.before.before.before.before.before.before.before.before.before.is-entered.ensures ∙ not-false _ c.before.before.before.before.before.before.before.before.before.if2.false in
+    let e = ap present (kind_word w a.slot h) ∙ sym c.before.before.before.before.before.before.before.before.before.before.is-entered.ensures ∙ not-false _ c.before.before.before.before.before.before.before.before.before.if2.false in
     let l = c.before.before.before.before.before.before.all.given ∙ c.before.before.before.before.before.before.before.before.before.before.before.before.before.before.requires in
     let n = c.before.all2.given.0 ∙ part_length 11 a.slot f (search rules) in
-    rw (leave-done a.slot (blockersOf w) h e) (refl, blocker-part f a.slot c.before.before.before.make-vacant.result c.before.before.put-blocker.new.0 h l n c.before.before.put-blocker.ensures ∙ rw (c.before.before.before.before.before.before.before.forget.ensures, c.before.before.before.make-vacant.ensures), done-words _ _ _ refl)
+    rw (leave_done a.slot (blockers_of w) h e) (refl, blocker_part f a.slot c.before.before.before.make-vacant.result c.before.before.put-blocker.new.0 h l n c.before.before.put-blocker.ensures ∙ rw (c.before.before.before.before.before.before.before.forget.ensures, c.before.before.before.make-vacant.ensures), done_words _ _ _ refl)
 
 pub leave_spec : {M : Type 1} → statement M
 leave_spec =

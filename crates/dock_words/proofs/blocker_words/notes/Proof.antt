@@ -5,21 +5,21 @@ use mathlib.Core.Path.{◌≡◌, refl, sym, ap, ◌∙◌}
 use mathlib.Core.List.{List}
 use lib.ListN.{length, length-map}
 use Rattle.arithmetic.specs.declared.offsets.Range.{Range}
-use Rattle.blockers.specs.Blockers.{notes, notesOf}
+use Rattle.blockers.specs.Blockers.{notes, notes_of}
 use Rattle.blockers.specs.declared.Kind.{Kind}
-use Rattle.arithmetic.specs.Rows.{rows-length, row-part, part_length}
-use Rattle.dock_words.specs.View.{blockerOf, blockersOf}
-use Rattle.dock_words.specs.Laws.{note-at}
-use Rattle.arithmetic.specs.Loops.{Like, like-more, like-all}
+use Rattle.arithmetic.specs.Rows.{rows_length, row_part, part_length}
+use Rattle.dock_words.specs.View.{blocker_of, blockers_of}
+use Rattle.dock_words.specs.Laws.{note_at}
+use Rattle.arithmetic.specs.Loops.{Like, like_more, like_all}
 use Rattle.dock_words.proofs.blocker_words.notes.Statement.{statement}
 use Rattle.dock_words.proofs.blocker_words.notes.Tie as tie
 
-eight : (k : Kind) (r : Range) (w : List ℕ) → length (notesOf k r (blockersOf w)) ≡ 8
-unfolding notesOf
-eight k r w = length-map (blockersOf w).slots (notes k r) ∙ rows-length blockerOf 11 8 w
+eight : (k : Kind) (r : Range) (w : List ℕ) → length (notes_of k r (blockers_of w)) ≡ 8
+unfolding notes_of
+eight k r w = length-map (blockers_of w).slots (notes k r) ∙ rows_length blocker_of 11 8 w
 
 abbrev invariant-loop : tie.invariant-loop
-invariant-loop all kind range noted₀ i₀ noted i = (i ≤ 8) × (Like (notesOf kind range (blockersOf all)) noted i)
+invariant-loop all kind range noted₀ i₀ noted i = (i ≤ 8) × (Like (notes_of kind range (blockers_of all)) noted i)
 
 abbrev decreases-loop : tie.decreases-loop
 decreases-loop all kind range noted₀ i₀ noted i = 8 - i
@@ -62,10 +62,10 @@ loop-again c = let l = c.before.before.before in
     let a = c.before.before.before.before.before.args in
     let w = a.all.now in
     let i = l.loop.i in
-    (search rules, like-more _ _ i _ _ _ refl (rw (eight a.kind a.range w) (search rules)) l.loop.invariant.1 (c.is-noted.ensures ∙ ap (λ (r : List ℕ). notes a.kind a.range (blockerOf r)) (row-part 11 i w) ∙ note-at a.kind a.range w i (search rules)))
+    (search rules, like_more _ _ i _ _ _ refl (rw (eight a.kind a.range w) (search rules)) l.loop.invariant.1 (c.is-noted.ensures ∙ ap (λ (r : List ℕ). notes a.kind a.range (blocker_of r)) (row_part 11 i w) ∙ note_at a.kind a.range w i (search rules)))
 
 returns : tie.Need-returns invariant-loop decreases-loop
-returns c = let a = c.before.before.before.args in like-all _ _ c.before.loop.i (rw (eight a.kind a.range a.all.now) (search rules)) c.before.loop.invariant.1
+returns c = let a = c.before.before.before.args in like_all _ _ c.before.loop.i (rw (eight a.kind a.range a.all.now) (search rules)) c.before.loop.invariant.1
 
 pub notes-spec : {M : Type 1} → statement M
 notes-spec =

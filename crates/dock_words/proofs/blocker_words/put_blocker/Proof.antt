@@ -5,15 +5,15 @@ use Prim.Native.Nat.{◌+◌, ◌≤◌, ◌-◌}
 use mathlib.Core.Path.{◌≡◌, sym, ◌∙◌}
 use mathlib.Core.List.{[], ◌∷◌, map}
 use lib.ListN.{length, length-set}
-use Rattle.dock_words.specs.View.{kindTag, flagWord, blockerWords}
-use Rattle.dock_words.specs.Laws.{blocker-width, blocker-note}
-use Rattle.arithmetic.specs.Loops.{Like, like-more, like-all}
-use Rattle.dock_words.proofs.Stored.{like-first}
+use Rattle.dock_words.specs.View.{kind_tag, flag_word, blocker_words}
+use Rattle.dock_words.specs.Laws.{blocker_width, blocker_note}
+use Rattle.arithmetic.specs.Loops.{Like, like_more, like_all}
+use Rattle.dock_words.proofs.Stored.{like_first}
 use Rattle.dock_words.proofs.blocker_words.put_blocker.Statement.{statement}
 use Rattle.dock_words.proofs.blocker_words.put_blocker.Tie as tie
 
 abbrev invariant-loop : tie.invariant-loop
-invariant-loop row₀ b i₀ row i = (i ≤ 8) × (length (blockerWords b) ≡ 11) × (Like (blockerWords b) row (3 + i))
+invariant-loop row₀ b i₀ row i = (i ≤ 8) × (length (blocker_words b) ≡ 11) × (Like (blocker_words b) row (3 + i))
 
 abbrev decreases-loop : tie.decreases-loop
 decreases-loop row₀ b i₀ row i = 8 - i
@@ -31,8 +31,8 @@ loop-holds : tie.Need-loop-init invariant-loop decreases-loop
 loop-holds c = let s = c.before.before.before.before.before.before.before in
     let b = s.args.t2 in
     let n : length b.noted ≡ 8 = search rules in
-    let w = blocker-width b n in
-    (search rules, w, rw (c.before.before.put-range.ensures, c.before.before.before.before.kind-tag.ensures) (like-first s.args.row.now (kindTag b.kind ∷ b.range.start.0 ∷ b.range.end.0 ∷ []) (map flagWord b.noted) (omega (arith, s.requires))))
+    let w = blocker_width b n in
+    (search rules, w, rw (c.before.before.put-range.ensures, c.before.before.before.before.kind-tag.ensures) (like_first s.args.row.now (kind_tag b.kind ∷ b.range.start.0 ∷ b.range.end.0 ∷ []) (map flag_word b.noted) (omega (arith, s.requires))))
 
 element-copy-out-n : tie.Need-element-copy-out-n invariant-loop decreases-loop
 element-copy-out-n c = search rules
@@ -59,13 +59,13 @@ loop-again : tie.Need-loop-preserved invariant-loop decreases-loop
 loop-again c = let l = c.before.before.before in
     let b = c.before.before.before.before.before.before.before.before.before.before.before.args.t2 in
     let i = l.loop.i in
-    (search rules, l.loop.invariant.1, like-more (blockerWords b) l.loop.row (3 + i) (3 + (i + 1)) c.flag_word.result 0 (omega arith) (search rules) l.loop.invariant.2 (c.flag_word.ensures ∙ blocker-note b i))
+    (search rules, l.loop.invariant.1, like_more (blocker_words b) l.loop.row (3 + i) (3 + (i + 1)) c.flag_word.result 0 (omega arith) (search rules) l.loop.invariant.2 (c.flag_word.ensures ∙ blocker_note b i))
 
 same_length : tie.Need-same-length invariant-loop decreases-loop
 same_length c = c.before.loop.invariant.2.0 ∙ c.before.loop.invariant.1 ∙ sym c.before.before.before.before.before.before.before.before.before.requires
 
 returns : tie.Need-returns invariant-loop decreases-loop
-returns c = like-all (blockerWords c.before.before.before.before.before.before.before.before.before.args.t2) c.before.loop.row (3 + c.before.loop.i) (omega arith) c.before.loop.invariant.2
+returns c = like_all (blocker_words c.before.before.before.before.before.before.before.before.before.args.t2) c.before.loop.row (3 + c.before.loop.i) (omega arith) c.before.loop.invariant.2
 
 pub put-blocker-spec : {M : Type 1} → statement M
 put-blocker-spec =

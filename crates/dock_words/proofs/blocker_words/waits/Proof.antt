@@ -8,21 +8,21 @@ use mathlib.Core.Bool.{Bool, false, ◌&&◌}
 use mathlib.Core.List.{List}
 use lib.ListN.{get_or}
 use Rattle.arithmetic.specs.Loops.{any_here, any_none}
-use Rattle.blockers.specs.Blockers.{waitsOf, present, isEntered, blockerAt, hasNoted}
-use Rattle.blockers.specs.Laws.{past-free}
-use Rattle.arithmetic.specs.Rows.{rows-length}
-use Rattle.dock_words.specs.View.{flagOf, kind_of, blockerOf, blockersOf}
-use Rattle.dock_words.specs.Laws.{kind-word, note-word}
+use Rattle.blockers.specs.Blockers.{waits_of, present, is_entered, blocker_at, has_noted}
+use Rattle.blockers.specs.Laws.{past_free}
+use Rattle.arithmetic.specs.Rows.{rows_length}
+use Rattle.dock_words.specs.View.{flag_of, kind_of, blocker_of, blockers_of}
+use Rattle.dock_words.specs.Laws.{kind_word, note_word}
 use Rattle.dock_words.proofs.blocker_words.waits.Statement.{statement}
 use Rattle.dock_words.proofs.blocker_words.waits.Tie as tie
 
 -- p waits for q
 abbrev waits_for : List ℕ → ℕ → ℕ → Bool
-waits_for w p q = hasNoted (blockersOf w) p q && isEntered (blockerAt (blockersOf w) q)
+waits_for w p q = has_noted (blockers_of w) p q && is_entered (blocker_at (blockers_of w) q)
 
 -- the loop's test, t being whether the other slot is entered
-tested : (w : List ℕ) (p q : ℕ) (t r : Bool) → p < 8 → q < 8 → t ≡ present (kind_of (get_or w (q * 11) 0)) → (flagOf (get_or w (p * 11 + 3 + q) 0) && t) ≡ r → waits_for w p q ≡ r
-tested w p q t r h g e f = rw (note-word w p q h g, kind-word w q g, ← e) f
+tested : (w : List ℕ) (p q : ℕ) (t r : Bool) → p < 8 → q < 8 → t ≡ present (kind_of (get_or w (q * 11) 0)) → (flag_of (get_or w (p * 11 + 3 + q) 0) && t) ≡ r → waits_for w p q ≡ r
+tested w p q t r h g e f = rw (note_word w p q h g, kind_word w q g, ← e) f
 
 abbrev invariant-loop : tie.invariant-loop
 invariant-loop all slot own i₀ i = (i ≤ 8) × ((k : ℕ) → k < i → waits_for all slot k ≡ false)
@@ -31,7 +31,7 @@ abbrev decreases-loop : tie.decreases-loop
 decreases-loop all slot own i₀ i = 8 - i
 
 returns : tie.Need-returns invariant-loop decreases-loop
-returns c = let a = c.before.before.args in sym (past-free (blockersOf a.all.now) a.slot (rows-length blockerOf 11 8 a.all.now) c.if1.true)
+returns c = let a = c.before.before.args in sym (past_free (blockers_of a.all.now) a.slot (rows_length blocker_of 11 8 a.all.now) c.if1.true)
 
 mul-own : tie.Need-overflow-mul-own invariant-loop decreases-loop
 mul-own c = search rules
@@ -64,7 +64,7 @@ shared-slice-read-if2 : tie.Need-shared-slice-read-if2 invariant-loop decreases-
 shared-slice-read-if2 c = search rules
 
 returns-2 : tie.Need-returns-2 invariant-loop decreases-loop
-unfolding waitsOf
+unfolding waits_of
 returns-2 c = let i = c.before.before.before.before.before.loop.i in let a = c.before.before.before.before.before.before.before.before.args in
     sym (any_here 8 (waits_for a.all.now a.slot) i (search rules) (tested a.all.now a.slot i c.before.before.is-entered.result _ c.before.before.before.before.before.before.if1.false c.before.before.before.before.loop-test.true c.before.before.is-entered.ensures c.if2.true))
 
@@ -79,7 +79,7 @@ loop-again c = let i = c.before.before.before.before.before.loop.i in let a = c.
     (search rules, below_more _ _ c.before.before.before.before.before.loop.invariant.1 (tested a.all.now a.slot i c.before.before.is-entered.result _ c.before.before.before.before.before.before.if1.false c.before.before.before.before.loop-test.true c.before.before.is-entered.ensures c.if2.false))
 
 returns-3 : tie.Need-returns-3 invariant-loop decreases-loop
-unfolding waitsOf
+unfolding waits_of
 returns-3 c = let a = c.before.before.before.before.args in sym (any_none 8 (waits_for a.all.now a.slot) (λ k h. c.before.loop.invariant.1 k (omega arith)))
 
 pub waits-spec : {M : Type 1} → statement M

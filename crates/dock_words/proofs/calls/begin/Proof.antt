@@ -1,6 +1,6 @@
 -- `dock_words::calls::begin` meets its contract: each step by its definition, then what is admitted is begun. Assumes nothing.
-use Rattle.dock.specs.SlotLaws.{decided-sound}
-use Rattle.dock_words.proofs.Begun.{begin-there}
+use Rattle.dock.specs.SlotLaws.{decided_sound}
+use Rattle.dock_words.proofs.Begun.{begin_there}
 use borrow.Author.Rules.{rules}
 use Rattle.dock_words.proofs.calls.begin.Statement.{statement}
 use Rattle.dock_words.proofs.calls.begin.Tie as tie
@@ -33,7 +33,7 @@ decide-requires : tie.Need-decide-requires
 decide-requires c κs = search rules
 
 admit-requires : tie.Need-admit-requires
-admit-requires c κs = let k = c.before.before.before.before.before.before.before.before.before.before.before.before.before.before.before.before.before.before.before.before.before.before in let a = k.args in (k.requires.1, k.requires.2, k.requires.3, decided-sound a.asked.job _ _ a.asked.offset a.asked.length a.asked.vector _ _ _ c.before.before.before.before.before.before.before.before.before.check-lent.ensures _ _ c.before.before.before.before.before.before.plan-asked.ensures _ _ _ c.before.before.before.before.decide.ensures)
+admit-requires c κs = let k = c.before.before.before.before.before.before.before.before.before.before.before.before.before.before.before.before.before.before.before.before.before.before in let a = k.args in (k.requires.1, k.requires.2, k.requires.3, decided_sound a.asked.job _ _ a.asked.offset a.asked.length a.asked.vector _ _ _ c.before.before.before.before.before.before.before.before.before.check-lent.ensures _ _ c.before.before.before.before.before.before.plan-asked.ensures _ _ _ c.before.before.before.before.decide.ensures)
 
 same_length : tie.Need-same-length
 same_length c = search rules
@@ -48,7 +48,7 @@ same-length-4 : tie.Need-same-length-4
 same-length-4 c = search rules
 
 returns : tie.Need-returns
-returns c = let k = c.before.before.before.before.before.before.before.before.before.before.before.before.before in ((let a = k.before.before.before.before.before.before.before.before.before.before.before.before.before.before.before.before.before.before.args in begin-there a.settings.now a.blockers.now a.states.now a.vectors.now a.asked a.«data».now a.scratch.now _ k.before.before.before.before.before.before.before.before.before.before.before.get-settings.ensures _ k.before.before.before.before.before.before.before.before.before.before.get-buffers.ensures _ k.before.before.before.before.before.before.before.before.before.select-vector.ensures _ k.before.before.before.before.before.before.overlaps.ensures _ k.before.before.before.before.before.check-lent.ensures _ k.before.before.before.first-free.ensures _ k.before.before.plan-asked.ensures _ k.before.is-valid.ensures _ k.decide.ensures _ _ _ _ _ c.before.before.before.before.before.before.before.before.admit.ensures.0), c.before.before.before.before.before.before.before.before.admit.ensures.1)
+returns c = let k = c.before.before.before.before.before.before.before.before.before.before.before.before.before in ((let a = k.before.before.before.before.before.before.before.before.before.before.before.before.before.before.before.before.before.before.args in begin_there a.settings.now a.blockers.now a.states.now a.vectors.now a.asked a.«data».now a.scratch.now _ k.before.before.before.before.before.before.before.before.before.before.before.get-settings.ensures _ k.before.before.before.before.before.before.before.before.before.before.get-buffers.ensures _ k.before.before.before.before.before.before.before.before.before.select-vector.ensures _ k.before.before.before.before.before.before.overlaps.ensures _ k.before.before.before.before.before.check-lent.ensures _ k.before.before.before.first-free.ensures _ k.before.before.plan-asked.ensures _ k.before.is-valid.ensures _ k.decide.ensures _ _ _ _ _ c.before.before.before.before.before.before.before.before.admit.ensures.0), c.before.before.before.before.before.before.before.before.admit.ensures.1)
 
 pub begin-spec : {M : Type 1} → statement M
 begin-spec =

@@ -6,36 +6,36 @@ use mathlib.Core.List.{[]}
 use Prim.Native.Nat.{ℕ, ◌<◌, ◌≤◌}
 use lib.ListN.{set}
 use Rattle.arithmetic.specs.declared.refusals.Refusal.TheVariants.{Buffer, Slot}
-use Rattle.vectors.specs.Vectors.{vectorOf}
-use Rattle.stages.specs.Stages.{hasEnded}
+use Rattle.vectors.specs.Vectors.{vector_of}
+use Rattle.stages.specs.Stages.{has_ended}
 use Rattle.stages.specs.declared.state.State.{State}
-use Rattle.dock.specs.Dock.{lentFits, stateAt, vacant}
-use Rattle.dock.specs.Tell.{collectOf}
+use Rattle.dock.specs.Dock.{lent_fits, state_at, vacant}
+use Rattle.dock.specs.Tell.{collect_of}
 use Rattle.dock.specs.declared.tell.Collected.TheVariants.{Final, Refused}
 use Rattle.dock.specs.declared.dock.Dock.{Dock}
-use Rattle.dock_words.specs.View.{dockOf}
-use Rattle.dock_words.specs.CallWordsLaws.{same-words, done-words}
+use Rattle.dock_words.specs.View.{dock_of}
+use Rattle.dock_words.specs.CallWordsLaws.{same_words, done_words}
 use borrow.Author.Rules.{rules}
 use Rattle.dock_words.proofs.calls.collect.Statement.{statement}
 use Rattle.dock_words.proofs.calls.collect.Tie as tie
 
 -- what a collect answers: 205, 208 for a slot past the eight and for a job that has not ended, else the answer
 module _ (d : Dock) (p m n : ℕ) where
-  unlent : lentFits d.buffers m n ≡ false → (Refused Buffer ≡ (collectOf d p m n).answer) × (d ≡ (collectOf d p m n).dock)
-  unfolding collectOf
+  unlent : lent_fits d.buffers m n ≡ false → (Refused Buffer ≡ (collect_of d p m n).answer) × (d ≡ (collect_of d p m n).dock)
+  unfolding collect_of
   unlent f = simp f (refl, refl)
 
-  module _ (f : lentFits d.buffers m n ≡ true) where
-    no_slot : 8 ≤ p → (Refused Slot ≡ (collectOf d p m n).answer) × (d ≡ (collectOf d p m n).dock)
-    unfolding collectOf
+  module _ (f : lent_fits d.buffers m n ≡ true) where
+    no_slot : 8 ≤ p → (Refused Slot ≡ (collect_of d p m n).answer) × (d ≡ (collect_of d p m n).dock)
+    unfolding collect_of
     no_slot h = simp (f, le-ltb p 8 h) (refl, refl)
 
-    not-ended : p < 8 → hasEnded (stateAt d p).phase ≡ false → (Refused Slot ≡ (collectOf d p m n).answer) × (d ≡ (collectOf d p m n).dock)
-    unfolding collectOf
+    not-ended : p < 8 → has_ended (state_at d p).phase ≡ false → (Refused Slot ≡ (collect_of d p m n).answer) × (d ≡ (collect_of d p m n).dock)
+    unfolding collect_of
     not-ended h e = simp (f, lt-ltb p 8 h, e) (refl, refl)
 
-    collected : (c : Dock) → p < 8 → hasEnded (stateAt d p).phase ≡ true → c ≡ record { settings = d.settings; buffers = d.buffers; blockers = d.blockers; states = set d.states p vacant; vectors = set d.vectors p (vectorOf []) } → (Final (stateAt d p).answer ≡ (collectOf d p m n).answer) × (c ≡ (collectOf d p m n).dock)
-    unfolding collectOf
+    collected : (c : Dock) → p < 8 → has_ended (state_at d p).phase ≡ true → c ≡ record { settings = d.settings; buffers = d.buffers; blockers = d.blockers; states = set d.states p vacant; vectors = set d.vectors p (vector_of []) } → (Final (state_at d p).answer ≡ (collect_of d p m n).answer) × (c ≡ (collect_of d p m n).dock)
+    unfolding collect_of
     collected c h e i = simp (f, lt-ltb p 8 h, e) (refl, i)
 
 get-buffers-requires : tie.Need-get-buffers-requires
@@ -45,10 +45,10 @@ lent-fits-requires : tie.Need-lent-fits-requires
 lent-fits-requires c κs = search rules
 
 returns : tie.Need-returns
-returns c = ((let a = c.before.before.before.before.before.before.before.args in unlent (dockOf a.settings.now a.blockers.now a.states.now a.vectors.now) a.slot a.data-len a.scratch-len (rw (← c.before.before.get-buffers.ensures) (sym c.before.lent-fits.ensures ∙ not-true _ c.if1.true))), (same-words _ _, same-words _ _))
+returns c = ((let a = c.before.before.before.before.before.before.before.args in unlent (dock_of a.settings.now a.blockers.now a.states.now a.vectors.now) a.slot a.data-len a.scratch-len (rw (← c.before.before.get-buffers.ensures) (sym c.before.lent-fits.ensures ∙ not-true _ c.if1.true))), (same_words _ _, same_words _ _))
 
 returns-2 : tie.Need-returns-2
-returns-2 c = ((let a = c.before.before.before.before.before.before.before.before.args in no_slot (dockOf a.settings.now a.blockers.now a.states.now a.vectors.now) a.slot a.data-len a.scratch-len (rw (← c.before.before.before.get-buffers.ensures) (sym c.before.before.lent-fits.ensures ∙ not-false _ c.before.if1.false)) c.if2.true), (same-words _ _, same-words _ _))
+returns-2 c = ((let a = c.before.before.before.before.before.before.before.before.args in no_slot (dock_of a.settings.now a.blockers.now a.states.now a.vectors.now) a.slot a.data-len a.scratch-len (rw (← c.before.before.before.get-buffers.ensures) (sym c.before.before.lent-fits.ensures ∙ not-false _ c.before.if1.false)) c.if2.true), (same_words _ _, same_words _ _))
 
 state-at-requires : tie.Need-state-at-requires
 state-at-requires c κs = search rules
@@ -60,7 +60,7 @@ same_length : tie.Need-same-length
 same_length c = search rules
 
 returns-3 : tie.Need-returns-3
-returns-3 c = let k = c.before.before.before.before in ((let a = k.before.before.before.before.before.before.before.before.args in not-ended (dockOf a.settings.now a.blockers.now a.states.now a.vectors.now) a.slot a.data-len a.scratch-len (rw (← k.before.before.before.get-buffers.ensures) (sym k.before.before.lent-fits.ensures ∙ not-false _ k.before.if1.false)) k.if2.false (rw (← c.before.before.state-at.ensures) (sym c.before.has_ended.ensures ∙ not-true _ c.if3.true))), (same-words _ _, same-words _ _))
+returns-3 c = let k = c.before.before.before.before in ((let a = k.before.before.before.before.before.before.before.before.args in not-ended (dock_of a.settings.now a.blockers.now a.states.now a.vectors.now) a.slot a.data-len a.scratch-len (rw (← k.before.before.before.get-buffers.ensures) (sym k.before.before.lent-fits.ensures ∙ not-false _ k.before.if1.false)) k.if2.false (rw (← c.before.before.state-at.ensures) (sym c.before.has_ended.ensures ∙ not-true _ c.if3.true))), (same_words _ _, same_words _ _))
 
 make-vacant-requires : tie.Need-make-vacant-requires
 make-vacant-requires c κs = search rules
@@ -81,7 +81,7 @@ same-length-3 : tie.Need-same-length-3
 same-length-3 c = search rules
 
 returns-4 : tie.Need-returns-4
-returns-4 c = let k = c.before.before.before.before.before.before.before in ((let a = k.before.before.before.before.before.before.before.before.before.before.before.before.before.before.before.args in let x = k.before.before.before.before.before.state-at in let r = collected (dockOf a.settings.now a.blockers.now a.states.now a.vectors.now) a.slot a.data-len a.scratch-len (rw (← k.before.before.before.before.before.before.before.before.before.before.get-buffers.ensures) (sym k.before.before.before.before.before.before.before.before.before.lent-fits.ensures ∙ not-false _ k.before.before.before.before.before.before.before.before.if1.false)) (dockOf a.settings.now a.blockers.now k.put-state-at.new.0 c.before.before.put-vector-at.new.0) k.before.before.before.before.before.before.before.if2.false (rw (← x.ensures) (sym k.before.before.before.before.has_ended.ensures ∙ not-false _ k.before.before.before.if3.false)) (rw (k.put-state-at.ensures, c.before.before.put-vector-at.ensures, k.before.make-vacant.ensures, c.before.before.before.new.ensures)) in (ap (λ (y : State). Final y.answer) x.ensures ∙ r.0, r.1)), (done-words _ _ _ refl, done-words _ _ _ refl))
+returns-4 c = let k = c.before.before.before.before.before.before.before in ((let a = k.before.before.before.before.before.before.before.before.before.before.before.before.before.before.before.args in let x = k.before.before.before.before.before.state-at in let r = collected (dock_of a.settings.now a.blockers.now a.states.now a.vectors.now) a.slot a.data-len a.scratch-len (rw (← k.before.before.before.before.before.before.before.before.before.before.get-buffers.ensures) (sym k.before.before.before.before.before.before.before.before.before.lent-fits.ensures ∙ not-false _ k.before.before.before.before.before.before.before.before.if1.false)) (dock_of a.settings.now a.blockers.now k.put-state-at.new.0 c.before.before.put-vector-at.new.0) k.before.before.before.before.before.before.before.if2.false (rw (← x.ensures) (sym k.before.before.before.before.has_ended.ensures ∙ not-false _ k.before.before.before.if3.false)) (rw (k.put-state-at.ensures, c.before.before.put-vector-at.ensures, k.before.make-vacant.ensures, c.before.before.before.new.ensures)) in (ap (λ (y : State). Final y.answer) x.ensures ∙ r.0, r.1)), (done_words _ _ _ refl, done_words _ _ _ refl))
 
 pub collect-spec : {M : Type 1} → statement M
 collect-spec =

@@ -1,6 +1,6 @@
 -- `dock_words::calls::open_by` meets its contract: each profile is its case of the definition. Assumes nothing.
 use mathlib.Core.Path.{refl}
-use Rattle.dock_words.specs.CallWordsLaws.{not_opened, same-words}
+use Rattle.dock_words.specs.CallWordsLaws.{not_opened, same_words}
 use borrow.Author.Rules.{rules}
 use Rattle.dock_words.proofs.calls.open_by.Statement.{statement}
 use Rattle.dock_words.proofs.calls.open_by.Tie as tie
@@ -30,7 +30,7 @@ returns : tie.Need-returns
 returns c = let k = c.before.before.before.before.before.before.before.before in simp k.before.before.before.before.before.before.profile.given.1 k.«open».ensures
 
 returns-2 : tie.Need-returns-2
-returns-2 c = simp c.before.profile2.given.1 (refl, (not_opened _ _ _ refl, same-words _ _, (same-words _ _, same-words _ _, same-words _ _)))
+returns-2 c = simp c.before.profile2.given.1 (refl, (not_opened _ _ _ refl, same_words _ _, (same_words _ _, same_words _ _, same_words _ _)))
 
 pub open-by-spec : {M : Type 1} → statement M
 open-by-spec =

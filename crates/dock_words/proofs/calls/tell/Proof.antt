@@ -1,8 +1,8 @@
 -- `dock_words::calls::tell` meets its contract: 205, 208, then what the code does to the slot. Assumes nothing.
 use mathlib.Core.Path.{sym, ◌∙◌}
 use borrow.Author.Tests.{not-true, not-false}
-use Rattle.dock_words.proofs.Told.{tell-not-lent, tell-no-slot, tell-there}
-use Rattle.dock_words.specs.CallWordsLaws.{same-words}
+use Rattle.dock_words.proofs.Told.{tell_not_lent, tell_no_slot, tell_there}
+use Rattle.dock_words.specs.CallWordsLaws.{same_words}
 use borrow.Author.Rules.{rules}
 use Rattle.dock_words.proofs.calls.tell.Statement.{statement}
 use Rattle.dock_words.proofs.calls.tell.Tie as tie
@@ -14,10 +14,10 @@ lent-fits-requires : tie.Need-lent-fits-requires
 lent-fits-requires c κs = search rules
 
 returns : tie.Need-returns
-returns c = ((let a = c.before.before.before.before.before.before.before.before.before.args in tell-not-lent a.settings.now a.blockers.now a.states.now a.vectors.now a.slot a.code a.«data».now a.scratch.now (rw (← c.before.before.get-buffers.ensures) (sym c.before.lent-fits.ensures ∙ not-true _ c.if1.true))), (same-words _ _, same-words _ _))
+returns c = ((let a = c.before.before.before.before.before.before.before.before.before.args in tell_not_lent a.settings.now a.blockers.now a.states.now a.vectors.now a.slot a.code a.«data».now a.scratch.now (rw (← c.before.before.get-buffers.ensures) (sym c.before.lent-fits.ensures ∙ not-true _ c.if1.true))), (same_words _ _, same_words _ _))
 
 returns-2 : tie.Need-returns-2
-returns-2 c = ((let a = c.before.before.before.before.before.before.before.before.before.before.args in tell-no-slot a.settings.now a.blockers.now a.states.now a.vectors.now a.slot a.code a.«data».now a.scratch.now (rw (← c.before.before.before.get-buffers.ensures) (sym c.before.before.lent-fits.ensures ∙ not-false _ c.before.if1.false)) c.if2.true), (same-words _ _, same-words _ _))
+returns-2 c = ((let a = c.before.before.before.before.before.before.before.before.before.before.args in tell_no_slot a.settings.now a.blockers.now a.states.now a.vectors.now a.slot a.code a.«data».now a.scratch.now (rw (← c.before.before.before.get-buffers.ensures) (sym c.before.before.lent-fits.ensures ∙ not-false _ c.before.if1.false)) c.if2.true), (same_words _ _, same_words _ _))
 
 get-settings-requires : tie.Need-get-settings-requires
 get-settings-requires c κs = search rules
@@ -41,7 +41,7 @@ same-length-4 : tie.Need-same-length-4
 same-length-4 c = search rules
 
 returns-3 : tie.Need-returns-3
-returns-3 c = let k = c.before.before.before.before.before.before.before.before.before.before.before.before.before in ((let a = k.before.before.before.before.before.before.before.before.before.before.before.before.before.args in tell-there a.settings.now a.blockers.now a.states.now a.vectors.now a.slot a.code a.«data».now a.scratch.now (rw (← k.before.before.before.before.before.before.get-buffers.ensures) (sym k.before.before.before.before.before.lent-fits.ensures ∙ not-false _ k.before.before.before.before.if1.false)) k.before.before.before.if2.false _ k.state-at.ensures _ k.before.before.get-settings.ensures _ k.before.before.before.before.before.before.get-buffers.ensures _ _ _ _ _ c.before.before.before.before.before.before.before.before.tell-slot.ensures.0), c.before.before.before.before.before.before.before.before.tell-slot.ensures.1)
+returns-3 c = let k = c.before.before.before.before.before.before.before.before.before.before.before.before.before in ((let a = k.before.before.before.before.before.before.before.before.before.before.before.before.before.args in tell_there a.settings.now a.blockers.now a.states.now a.vectors.now a.slot a.code a.«data».now a.scratch.now (rw (← k.before.before.before.before.before.before.get-buffers.ensures) (sym k.before.before.before.before.before.lent-fits.ensures ∙ not-false _ k.before.before.before.before.if1.false)) k.before.before.before.if2.false _ k.state-at.ensures _ k.before.before.get-settings.ensures _ k.before.before.before.before.before.before.get-buffers.ensures _ _ _ _ _ c.before.before.before.before.before.before.before.before.tell_slot.ensures.0), c.before.before.before.before.before.before.before.before.tell_slot.ensures.1)
 
 pub tell-spec : {M : Type 1} → statement M
 tell-spec =

@@ -2,7 +2,7 @@
 use native.Mathlib.Omega.{arith}
 use lib.ListN.{length-set}
 use mathlib.Core.Path.{sym}
-use Rattle.dock_words.specs.View.{settingsWords}
+use Rattle.dock_words.specs.View.{settings_words}
 use Rattle.dock_words.proofs.Stored.{whole}
 use borrow.Author.Rules.{rules}
 use Rattle.dock_words.proofs.setting_words.put_settings.Statement.{statement}
@@ -39,7 +39,7 @@ same_length : tie.Need-same-length
 same_length c = search rules
 
 returns : tie.Need-returns
-returns c = let s = c.before.before.before in whole s.args.words.now (settingsWords s.args.s s.args.b) (sym s.requires)
+returns c = let s = c.before.before.before in whole s.args.words.now (settings_words s.args.s s.args.b) (sym s.requires)
 
 pub put-settings-spec : {M : Type 1} → statement M
 put-settings-spec =

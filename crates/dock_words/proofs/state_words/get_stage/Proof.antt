@@ -1,5 +1,5 @@
--- `dock_words::state_words::get_stage` meets its contract: each part is read where `stageOf` has it. Assumes nothing.
-use Rattle.dock_words.specs.View.{stageOf}
+-- `dock_words::state_words::get_stage` meets its contract: each part is read where `stage_of` has it. Assumes nothing.
+use Rattle.dock_words.specs.View.{stage_of}
 use borrow.Author.Rules.{rules}
 use Rattle.dock_words.proofs.state_words.get_stage.Statement.{statement}
 use Rattle.dock_words.proofs.state_words.get_stage.Tie as tie
@@ -26,7 +26,7 @@ shared-slice-read-t11 : tie.Need-shared-slice-read-t11
 shared-slice-read-t11 c = search rules
 
 returns : tie.Need-returns
-unfolding stageOf
+unfolding stage_of
 returns c = rw (c.before.before.before.get-range4.ensures, c.before.before.before.before.get-range3.ensures, c.before.before.before.before.before.get-range2.ensures, c.before.before.before.before.before.before.get-range.ensures, c.before.type_size.ensures)
 
 pub get-stage-spec : {M : Type 1} → statement M

@@ -1,5 +1,5 @@
--- `dock_words::state_words::get_state` meets its contract: each part is read where `stateFrom` has it. Assumes nothing.
-use Rattle.dock_words.specs.View.{stateFrom}
+-- `dock_words::state_words::get_state` meets its contract: each part is read where `state_from` has it. Assumes nothing.
+use Rattle.dock_words.specs.View.{state_from}
 use borrow.Author.Rules.{rules}
 use Rattle.dock_words.proofs.state_words.get_state.Statement.{statement}
 use Rattle.dock_words.proofs.state_words.get_state.Tie as tie
@@ -38,7 +38,7 @@ get-stage-requires : tie.Need-get-stage-requires
 get-stage-requires c κs = search rules
 
 returns : tie.Need-returns
-unfolding stateFrom
+unfolding state_from
 returns c = rw (c.get-stage.ensures, c.before.get-range2.ensures, c.before.before.get-range.ensures, c.before.before.before.course-of.ensures, c.before.before.before.before.before.Job-of.ensures, c.before.before.before.before.before.before.before.byte_of.ensures, c.before.before.before.before.before.before.before.before.before.phase-of.ensures)
 
 pub get-state-spec : {M : Type 1} → statement M

@@ -1,6 +1,6 @@
 -- `dock_words::state_words::phase_at` meets its contract: the phase stands in its word. Assumes nothing.
 use mathlib.Core.Path.{sym, ◌∙◌}
-use Rattle.dock_words.specs.Laws.{phase-word}
+use Rattle.dock_words.specs.Laws.{phase_word}
 use borrow.Author.Rules.{rules}
 use Rattle.dock_words.proofs.state_words.phase_at.Statement.{statement}
 use Rattle.dock_words.proofs.state_words.phase_at.Tie as tie
@@ -18,7 +18,7 @@ phase-of-requires : tie.Need-phase-of-requires
 phase-of-requires c κs = search rules
 
 returns : tie.Need-returns
-returns c = c.phase-of.ensures ∙ sym (phase-word c.before.before.before.args.states.now c.before.before.before.args.slot c.before.before.before.requires.1)
+returns c = c.phase-of.ensures ∙ sym (phase_word c.before.before.before.args.states.now c.before.before.before.args.slot c.before.before.before.requires.1)
 
 pub phase-at-spec : {M : Type 1} → statement M
 phase-at-spec =

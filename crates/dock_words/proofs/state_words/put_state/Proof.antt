@@ -2,7 +2,7 @@
 use native.Mathlib.Omega.{arith}
 use lib.ListN.{length-set}
 use mathlib.Core.Path.{sym}
-use Rattle.dock_words.specs.View.{stateWords}
+use Rattle.dock_words.specs.View.{state_words}
 use Rattle.dock_words.proofs.Stored.{whole}
 use borrow.Author.Rules.{rules}
 use Rattle.dock_words.proofs.state_words.put_state.Statement.{statement}
@@ -45,7 +45,7 @@ same_length : tie.Need-same-length
 same_length c = omega (arith, c.before.row3.given, c.before.before.before.before.before.row2.given, simp length-set at c.before.before.before.before.before.before.before.before.before.row.given)
 
 returns : tie.Need-returns
-returns c = let k = c.before.before.before.before.before.before.before.before.before.before in let s = k.before.before.before.before.before.before.before in rw (c.before.before.put-stage.ensures, c.before.before.before.before.before.before.put-range2.ensures, k.put-range.ensures, k.before.before.course-tag.ensures, k.before.before.before.job-tag.ensures, k.before.before.before.before.byte_word.ensures, k.before.before.before.before.before.phase-tag.ensures) (whole s.args.row.now (stateWords s.args.x) (sym s.requires))
+returns c = let k = c.before.before.before.before.before.before.before.before.before.before in let s = k.before.before.before.before.before.before.before in rw (c.before.before.put-stage.ensures, c.before.before.before.before.before.before.put-range2.ensures, k.put-range.ensures, k.before.before.course-tag.ensures, k.before.before.before.job-tag.ensures, k.before.before.before.before.byte_word.ensures, k.before.before.before.before.before.phase-tag.ensures) (whole s.args.row.now (state_words s.args.x) (sym s.requires))
 
 pub put-state-spec : {M : Type 1} → statement M
 put-state-spec =

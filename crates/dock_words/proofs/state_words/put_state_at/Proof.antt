@@ -1,5 +1,5 @@
 -- `dock_words::state_words::put_state_at` meets its contract: the state's words come back in the place of the slot's row. Assumes nothing.
-use Rattle.dock_words.specs.Laws.{state-part}
+use Rattle.dock_words.specs.Laws.{state_part}
 use borrow.Author.Rules.{rules}
 use Rattle.dock_words.proofs.state_words.put_state_at.Statement.{statement}
 use Rattle.dock_words.proofs.state_words.put_state_at.Tie as tie
@@ -29,7 +29,7 @@ same_length : tie.Need-same-length
 same_length c = search rules
 
 returns : tie.Need-returns
-returns c = let s = c.before.before.before.before.before in state-part s.args.states.now s.args.slot s.args.x c.before.before.put-state.new.0 s.requires.1 s.requires.0 (search rules) c.before.before.put-state.ensures
+returns c = let s = c.before.before.before.before.before in state_part s.args.states.now s.args.slot s.args.x c.before.before.put-state.new.0 s.requires.1 s.requires.0 (search rules) c.before.before.put-state.ensures
 
 pub put-state-at-spec : {M : Type 1} → statement M
 put-state-at-spec =

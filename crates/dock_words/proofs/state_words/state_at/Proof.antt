@@ -1,8 +1,8 @@
 -- `dock_words::state_words::state_at` meets its contract: the slot's row, decoded, is its state. Assumes nothing.
 use mathlib.Core.Path.{sym, ap, ◌∙◌}
-use Rattle.arithmetic.specs.Rows.{row-part}
-use Rattle.dock_words.specs.View.{stateFrom}
-use Rattle.dock_words.specs.Laws.{state-row}
+use Rattle.arithmetic.specs.Rows.{row_part}
+use Rattle.dock_words.specs.View.{state_from}
+use Rattle.dock_words.specs.Laws.{state_row}
 use borrow.Author.Rules.{rules}
 use Rattle.dock_words.proofs.state_words.state_at.Statement.{statement}
 use Rattle.dock_words.proofs.state_words.state_at.Tie as tie
@@ -29,7 +29,7 @@ get-state-requires : tie.Need-get-state-requires
 get-state-requires c κs = search rules
 
 returns : tie.Need-returns
-returns c = let s = c.before.before.before in let w = s.args.states.now in c.get-state.ensures ∙ ap stateFrom (row-part 18 s.args.slot w) ∙ sym (state-row w s.args.slot s.requires.1)
+returns c = let s = c.before.before.before in let w = s.args.states.now in c.get-state.ensures ∙ ap state_from (row_part 18 s.args.slot w) ∙ sym (state_row w s.args.slot s.requires.1)
 
 pub state-at-spec : {M : Type 1} → statement M
 state-at-spec =

@@ -4,7 +4,7 @@ use native.Mathlib.Omega.{arith}
 use Prim.Native.Nat.{ℕ, ◌+◌, ◌≤◌, ◌<◌, ◌-◌}
 use mathlib.Core.Path.{◌≡◌, refl, sym, ◌∙◌}
 use lib.ListN.{length, replicate, length-replicate, get_or-replicate}
-use Rattle.arithmetic.specs.Loops.{Like, like-more, like-all}
+use Rattle.arithmetic.specs.Loops.{Like, like_more, like_all}
 use Rattle.dock_words.proofs.tags.clear.Statement.{statement}
 use Rattle.dock_words.proofs.tags.clear.Tie as tie
 
@@ -34,7 +34,7 @@ loop-again c =
     let l = c.before.loop in
     let n = length c.before.before.args.words.now in
     let h : l.i < length (replicate {A = ℕ} n 0) = omega (arith, length-replicate {A = ℕ} n 0, c.loop-test.true, l.invariant.1) in
-    (search rules, l.invariant.1, like-more (replicate {A = ℕ} n 0) l.words l.i (l.i + 1) 0 0 refl h l.invariant.2 (sym (get_or-replicate n l.i 0 0 (omega (arith, length-replicate {A = ℕ} n 0)))))
+    (search rules, l.invariant.1, like_more (replicate {A = ℕ} n 0) l.words l.i (l.i + 1) 0 0 refl h l.invariant.2 (sym (get_or-replicate n l.i 0 0 (omega (arith, length-replicate {A = ℕ} n 0)))))
 
 same_length : tie.Need-same-length invariant-loop decreases-loop
 same_length c = c.before.loop.invariant.2.0 ∙ length-replicate {A = ℕ} _ 0
@@ -42,7 +42,7 @@ same_length c = c.before.loop.invariant.2.0 ∙ length-replicate {A = ℕ} _ 0
 returns : tie.Need-returns invariant-loop decreases-loop
 returns c =
     let n = length c.before.before.args.words.now in
-    like-all (replicate {A = ℕ} n 0) _ c.before.loop.i (omega (arith, length-replicate {A = ℕ} n 0, c.loop-test.false, c.before.loop.invariant.1)) c.before.loop.invariant.2
+    like_all (replicate {A = ℕ} n 0) _ c.before.loop.i (omega (arith, length-replicate {A = ℕ} n 0, c.loop-test.false, c.before.loop.invariant.1)) c.before.loop.invariant.2
 
 pub clear_spec : {M : Type 1} → statement M
 clear_spec =

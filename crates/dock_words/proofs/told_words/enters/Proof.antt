@@ -3,11 +3,11 @@ use mathlib.Core.Path.{refl, sym, ◌∙◌}
 use Prim.Native.Nat.{◌*◌}
 use lib.ListN.{get_or}
 use borrow.Author.Tests.{not-true, not-false}
-use Rattle.dock.specs.Dock.{noVector}
+use Rattle.dock.specs.Dock.{no_vector}
 use Rattle.dock_words.specs.View.{vectors_of}
-use Rattle.dock.specs.SlotLaws.{filled-share}
-use Rattle.dock_words.proofs.Told.{enters-not, enters-refused, enters-done}
-use Rattle.dock_words.specs.CallWordsLaws.{same-words, done-words}
+use Rattle.dock.specs.SlotLaws.{filled_share_lem}
+use Rattle.dock_words.proofs.Told.{enters_not, enters_refused, enters_done}
+use Rattle.dock_words.specs.CallWordsLaws.{same_words, done_words}
 use borrow.Author.Rules.{rules}
 use Rattle.dock_words.proofs.told_words.enters.Statement.{statement}
 use Rattle.dock_words.proofs.told_words.enters.Tie as tie
@@ -19,7 +19,7 @@ same_length : tie.Need-same-length
 same_length c = search rules
 
 returns : tie.Need-returns
-returns c = ((let a = c.before.before.before.before.before.before.before.before.args in enters-not a.blockers.now a.states.now a.slot (a.slot * a.settings.bounce) a.x a.y (get_or (vectors_of a.vectors.now) a.slot noVector) a.«data».now a.scratch.now (sym c.before.may-change.ensures ∙ not-true _ c.if1.true)), (same-words _ _, same-words _ _))
+returns c = ((let a = c.before.before.before.before.before.before.before.before.args in enters_not a.blockers.now a.states.now a.slot (a.slot * a.settings.bounce) a.x a.y (get_or (vectors_of a.vectors.now) a.slot no_vector) a.«data».now a.scratch.now (sym c.before.may-change.ensures ∙ not-true _ c.if1.true)), (same_words _ _, same_words _ _))
 
 fill-requires : tie.Need-fill-requires
 fill-requires c κs = search rules
@@ -37,7 +37,7 @@ same-length-3 : tie.Need-same-length-3
 same-length-3 c = search rules
 
 returns-2 : tie.Need-returns-2
-returns-2 c = let k = c.before.before.before.before.before.before in ((let a = k.before.before.before.before.before.before.before.before.args in enters-refused a.blockers.now a.states.now a.slot (a.slot * a.settings.bounce) a.x a.y (get_or (vectors_of a.vectors.now) a.slot noVector) a.«data».now a.scratch.now (sym k.before.may-change.ensures ∙ not-false _ k.if1.false) _ _ (c.before.before.before.before.fill.ensures ∙ filled-share a.slot a.settings a.buffers a.y (get_or (vectors_of a.vectors.now) a.slot noVector) a.«data».now a.scratch.now k.before.before.before.before.before.before.before.before.requires.4) _ c.enum-told2.given.1), (same-words _ _, same-words _ _))
+returns-2 c = let k = c.before.before.before.before.before.before in ((let a = k.before.before.before.before.before.before.before.before.args in enters_refused a.blockers.now a.states.now a.slot (a.slot * a.settings.bounce) a.x a.y (get_or (vectors_of a.vectors.now) a.slot no_vector) a.«data».now a.scratch.now (sym k.before.may-change.ensures ∙ not-false _ k.if1.false) _ _ (c.before.before.before.before.fill.ensures ∙ filled_share_lem a.slot a.settings a.buffers a.y (get_or (vectors_of a.vectors.now) a.slot no_vector) a.«data».now a.scratch.now k.before.before.before.before.before.before.before.before.requires.4) _ c.enum-told2.given.1), (same_words _ _, same_words _ _))
 
 change-blocker-requires : tie.Need-change-blocker-requires
 change-blocker-requires c κs = search rules
@@ -55,7 +55,7 @@ same-length-6 : tie.Need-same-length-6
 same-length-6 c = search rules
 
 returns-3 : tie.Need-returns-3
-returns-3 c = let k = c.before.before.before.before.before.before.before.before.before.before.before.before in ((let a = k.before.before.before.before.before.before.before.before.before.before.args in enters-done a.blockers.now a.states.now a.slot (a.slot * a.settings.bounce) a.x a.y (get_or (vectors_of a.vectors.now) a.slot noVector) a.«data».now a.scratch.now (sym k.before.before.before.may-change.ensures ∙ not-false _ k.before.before.if1.false) _ _ (k.fill.ensures ∙ filled-share a.slot a.settings a.buffers a.y (get_or (vectors_of a.vectors.now) a.slot noVector) a.«data».now a.scratch.now k.before.before.before.before.before.before.before.before.before.before.requires.4) c.before.before.before.before.before.before.before.before.enum_told.given.1 _ _ c.before.before.before.before.before.before.change-blocker.ensures c.before.before.put-state-at.ensures), (done-words _ _ _ refl, done-words _ _ _ refl))
+returns-3 c = let k = c.before.before.before.before.before.before.before.before.before.before.before.before in ((let a = k.before.before.before.before.before.before.before.before.before.before.args in enters_done a.blockers.now a.states.now a.slot (a.slot * a.settings.bounce) a.x a.y (get_or (vectors_of a.vectors.now) a.slot no_vector) a.«data».now a.scratch.now (sym k.before.before.before.may-change.ensures ∙ not-false _ k.before.before.if1.false) _ _ (k.fill.ensures ∙ filled_share_lem a.slot a.settings a.buffers a.y (get_or (vectors_of a.vectors.now) a.slot no_vector) a.«data».now a.scratch.now k.before.before.before.before.before.before.before.before.before.before.requires.4) c.before.before.before.before.before.before.before.before.enum_told.given.1 _ _ c.before.before.before.before.before.before.change-blocker.ensures c.before.before.put-state-at.ensures), (done_words _ _ _ refl, done_words _ _ _ refl))
 
 pub enters-spec : {M : Type 1} → statement M
 enters-spec =

@@ -1,7 +1,7 @@
 -- `dock_words::told_words::fill` meets its contract: nothing is moved, or by the slot's vector. Assumes nothing.
 use mathlib.Core.Path.{sym, ◌∙◌}
 use borrow.Author.Tests.{not-true}
-use Rattle.dock.specs.Slots.{filledShare}
+use Rattle.dock.specs.Slots.{filled_share}
 use borrow.Author.Rules.{rules}
 use Rattle.dock_words.proofs.told_words.fill.Statement.{statement}
 use Rattle.dock_words.proofs.told_words.fill.Tie as tie
@@ -10,7 +10,7 @@ is-bounced-write-requires : tie.Need-is-bounced-write-requires
 is-bounced-write-requires c κs = search rules
 
 returns : tie.Need-returns
-unfolding filledShare
+unfolding filled_share
 returns c = simp (sym c.before.is-bounced-write.ensures ∙ not-true _ c.if1.true)
 
 vector-at-requires : tie.Need-vector-at-requires

@@ -1,7 +1,7 @@
 -- `dock_words::told_words::hand_out` meets its contract: nothing is moved, or by the slot's vector. Assumes nothing.
 use mathlib.Core.Path.{sym, ◌∙◌}
 use borrow.Author.Tests.{not-true}
-use Rattle.dock.specs.Slots.{handedShare}
+use Rattle.dock.specs.Slots.{handed_share}
 use borrow.Author.Rules.{rules}
 use Rattle.dock_words.proofs.told_words.hand_out.Statement.{statement}
 use Rattle.dock_words.proofs.told_words.hand_out.Tie as tie
@@ -10,7 +10,7 @@ is-bounced-read-requires : tie.Need-is-bounced-read-requires
 is-bounced-read-requires c κs = search rules
 
 returns : tie.Need-returns
-unfolding handedShare
+unfolding handed_share
 returns c = simp (sym c.before.is-bounced-read.ensures ∙ not-true _ c.if1.true)
 
 vector-at-requires : tie.Need-vector-at-requires

@@ -2,11 +2,11 @@
 use mathlib.Core.Path.{refl, ◌∙◌}
 use Prim.Native.Nat.{◌*◌}
 use lib.ListN.{get_or}
-use Rattle.dock.specs.Dock.{noVector}
+use Rattle.dock.specs.Dock.{no_vector}
 use Rattle.dock_words.specs.View.{vectors_of}
-use Rattle.dock.specs.SlotLaws.{filled-share}
-use Rattle.dock_words.proofs.Told.{stays-refused, stays-done}
-use Rattle.dock_words.specs.CallWordsLaws.{same-words, done-words}
+use Rattle.dock.specs.SlotLaws.{filled_share_lem}
+use Rattle.dock_words.proofs.Told.{stays_refused, stays_done}
+use Rattle.dock_words.specs.CallWordsLaws.{same_words, done_words}
 use borrow.Author.Rules.{rules}
 use Rattle.dock_words.proofs.told_words.stays.Statement.{statement}
 use Rattle.dock_words.proofs.told_words.stays.Tie as tie
@@ -24,7 +24,7 @@ same_length : tie.Need-same-length
 same_length c = search rules
 
 returns : tie.Need-returns
-returns c = ((let a = c.before.before.before.before.before.before.before.before.before.before.before.args in stays-refused a.blockers.now a.states.now a.slot (a.slot * a.settings.bounce) a.y (get_or (vectors_of a.vectors.now) a.slot noVector) a.«data».now a.scratch.now _ _ (c.before.before.before.before.fill.ensures ∙ filled-share a.slot a.settings a.buffers a.y (get_or (vectors_of a.vectors.now) a.slot noVector) a.«data».now a.scratch.now c.before.before.before.before.before.before.before.before.before.before.before.requires.3) _ c.enum-told2.given.1), same-words _ _)
+returns c = ((let a = c.before.before.before.before.before.before.before.before.before.before.before.args in stays_refused a.blockers.now a.states.now a.slot (a.slot * a.settings.bounce) a.y (get_or (vectors_of a.vectors.now) a.slot no_vector) a.«data».now a.scratch.now _ _ (c.before.before.before.before.fill.ensures ∙ filled_share_lem a.slot a.settings a.buffers a.y (get_or (vectors_of a.vectors.now) a.slot no_vector) a.«data».now a.scratch.now c.before.before.before.before.before.before.before.before.before.before.before.requires.3) _ c.enum-told2.given.1), same_words _ _)
 
 put-state-at-requires : tie.Need-put-state-at-requires
 put-state-at-requires c κs = search rules
@@ -36,7 +36,7 @@ same-length-3 : tie.Need-same-length-3
 same-length-3 c = search rules
 
 returns-2 : tie.Need-returns-2
-returns-2 c = let k = c.before.before.before.before.before.before.before.before in ((let a = k.before.before.before.before.before.before.before.args in stays-done a.blockers.now a.states.now a.slot (a.slot * a.settings.bounce) a.y (get_or (vectors_of a.vectors.now) a.slot noVector) a.«data».now a.scratch.now _ _ (k.fill.ensures ∙ filled-share a.slot a.settings a.buffers a.y (get_or (vectors_of a.vectors.now) a.slot noVector) a.«data».now a.scratch.now k.before.before.before.before.before.before.before.requires.3) c.before.before.before.before.enum_told.given.1 _ c.before.before.put-state-at.ensures), done-words _ _ _ refl)
+returns-2 c = let k = c.before.before.before.before.before.before.before.before in ((let a = k.before.before.before.before.before.before.before.args in stays_done a.blockers.now a.states.now a.slot (a.slot * a.settings.bounce) a.y (get_or (vectors_of a.vectors.now) a.slot no_vector) a.«data».now a.scratch.now _ _ (k.fill.ensures ∙ filled_share_lem a.slot a.settings a.buffers a.y (get_or (vectors_of a.vectors.now) a.slot no_vector) a.«data».now a.scratch.now k.before.before.before.before.before.before.before.requires.3) c.before.before.before.before.enum_told.given.1 _ c.before.before.put-state-at.ensures), done_words _ _ _ refl)
 
 pub stays-spec : {M : Type 1} → statement M
 stays-spec =

@@ -5,19 +5,19 @@ use mathlib.Core.List.{List}
 use mathlib.Core.Path.{◌≡◌, refl, sym}
 use lib.ListN.{length, drop}
 use Rattle.vectors.specs.Vectors.{none}
-use Rattle.arithmetic.specs.Rows.{rows-length}
-use Rattle.vectors.specs.Words.{vectorFrom, segmentOf}
-use Rattle.vectors.specs.WordLaws.{segment-words}
-use Rattle.arithmetic.specs.Loops.{Like, like-more, like-all}
+use Rattle.arithmetic.specs.Rows.{rows_length}
+use Rattle.vectors.specs.Words.{vector_from, segment_of}
+use Rattle.vectors.specs.WordLaws.{segment_words_lem}
+use Rattle.arithmetic.specs.Loops.{Like, like_more, like_all}
 use Rattle.dock_words.proofs.vector_words.get_vector.Statement.{statement}
 use Rattle.dock_words.proofs.vector_words.get_vector.Tie as tie
 
-sixteen : (w : List ℕ) → length (vectorFrom w).segments ≡ 16
-unfolding vectorFrom
-sixteen w = rows-length segmentOf 2 16 (drop 2 w)
+sixteen : (w : List ℕ) → length (vector_from w).segments ≡ 16
+unfolding vector_from
+sixteen w = rows_length segment_of 2 16 (drop 2 w)
 
 abbrev invariant-loop : tie.invariant-loop
-invariant-loop row segments₀ i₀ segments i = (i ≤ 16) × (Like (vectorFrom row).segments segments i)
+invariant-loop row segments₀ i₀ segments i = (i ≤ 16) × (Like (vector_from row).segments segments i)
 
 abbrev decreases-loop : tie.decreases-loop
 decreases-loop row segments₀ i₀ segments i = 16 - i
@@ -69,7 +69,7 @@ loop-less c = search rules
 
 loop-again : tie.Need-loop-preserved invariant-loop decreases-loop
 loop-again c = let l = c.before.before.before.before.before in let w = c.before.before.before.before.before.before.before.args.row.now in
-    (search rules, like-more _ _ l.loop.i _ _ none refl (rw (sixteen w) (search rules)) l.loop.invariant.1 (rw (c.before.before.type_size.ensures, c.size-of2.ensures) (segment-words w l.loop.i (search rules))))
+    (search rules, like_more _ _ l.loop.i _ _ none refl (rw (sixteen w) (search rules)) l.loop.invariant.1 (rw (c.before.before.type_size.ensures, c.size-of2.ensures) (segment_words_lem w l.loop.i (search rules))))
 
 shared-slice-read-size-of-3 : tie.Need-shared-slice-read-size-of-3 invariant-loop decreases-loop
 shared-slice-read-size-of-3 c = search rules
@@ -81,9 +81,9 @@ shared-slice-read-t19 : tie.Need-shared-slice-read-t19 invariant-loop decreases-
 shared-slice-read-t19 c = search rules
 
 returns : tie.Need-returns invariant-loop decreases-loop
-unfolding vectorFrom
+unfolding vector_from
 returns c = let w = c.before.before.before.before.before.before.args.row.now in
-    rw (c.before.size-of3.ensures, like-all (vectorFrom w).segments c.before.before.before.before.loop.segments c.before.before.before.before.loop.i (rw (sixteen w) (search rules)) c.before.before.before.before.loop.invariant.1)
+    rw (c.before.size-of3.ensures, like_all (vector_from w).segments c.before.before.before.before.loop.segments c.before.before.before.before.loop.i (rw (sixteen w) (search rules)) c.before.before.before.before.loop.invariant.1)
 
 pub get-vector-spec : {M : Type 1} → statement M
 get-vector-spec =

@@ -5,15 +5,15 @@ use Prim.Native.Nat.{◌+◌, ◌*◌, ◌≤◌, ◌-◌}
 use mathlib.Core.Path.{◌≡◌, sym, ◌∙◌}
 use mathlib.Core.List.{[], ◌∷◌}
 use lib.ListN.{length, length-set}
-use Rattle.vectors.specs.Words.{vectorWords, segmentWords}
-use Rattle.vectors.specs.WordLaws.{vector-width, vector-start, vector-length}
-use Rattle.arithmetic.specs.Loops.{array_long, Like, like-more, like-all}
-use Rattle.dock_words.proofs.Stored.{like-first}
+use Rattle.vectors.specs.Words.{vector_words, segment_words}
+use Rattle.vectors.specs.WordLaws.{vector_width, vector_start, vector_length}
+use Rattle.arithmetic.specs.Loops.{array_long, Like, like_more, like_all}
+use Rattle.dock_words.proofs.Stored.{like_first}
 use Rattle.dock_words.proofs.vector_words.put_vector.Statement.{statement}
 use Rattle.dock_words.proofs.vector_words.put_vector.Tie as tie
 
 abbrev invariant-loop : tie.invariant-loop
-invariant-loop row₀ v i₀ row i = (i ≤ 16) × (length (vectorWords v) ≡ 34) × (Like (vectorWords v) row (2 + 2 * i))
+invariant-loop row₀ v i₀ row i = (i ≤ 16) × (length (vector_words v) ≡ 34) × (Like (vector_words v) row (2 + 2 * i))
 
 abbrev decreases-loop : tie.decreases-loop
 decreases-loop row₀ v i₀ row i = 16 - i
@@ -31,8 +31,8 @@ loop-holds : tie.Need-loop-init invariant-loop decreases-loop
 loop-holds c = let s = c.before.before in
     let v = s.args.t2 in
     let n : length v.segments ≡ 16 = search (rules, array_long) in
-    let w = vector-width v n in
-    (search rules, w, rw c.size_word.ensures (like-first s.args.row.now (v.count ∷ v.total ∷ []) (segmentWords v.segments) (omega (arith, s.requires))))
+    let w = vector_width v n in
+    (search rules, w, rw c.size_word.ensures (like_first s.args.row.now (v.count ∷ v.total ∷ []) (segment_words v.segments) (omega (arith, s.requires))))
 
 mul-s : tie.Need-overflow-mul-s invariant-loop decreases-loop
 mul-s c = search rules
@@ -80,14 +80,14 @@ loop-again : tie.Need-loop-preserved invariant-loop decreases-loop
 loop-again c = let l = c.before.before.before.before in
     let v = c.before.before.before.before.before.before.before.args.t2 in
     let i = l.loop.i in
-    let first = like-more (vectorWords v) l.loop.row (2 + 2 * i) (3 + 2 * i) c.before.size-word2.result 0 (omega arith) (search rules) l.loop.invariant.2 (c.before.size-word2.ensures ∙ vector-start v i) in
-    (search rules, l.loop.invariant.1, like-more (vectorWords v) _ (3 + 2 * i) (2 + 2 * (i + 1)) c.size-word3.result 0 (omega arith) (search rules) first (c.size-word3.ensures ∙ vector-length v i))
+    let first = like_more (vector_words v) l.loop.row (2 + 2 * i) (3 + 2 * i) c.before.size-word2.result 0 (omega arith) (search rules) l.loop.invariant.2 (c.before.size-word2.ensures ∙ vector_start v i) in
+    (search rules, l.loop.invariant.1, like_more (vector_words v) _ (3 + 2 * i) (2 + 2 * (i + 1)) c.size-word3.result 0 (omega arith) (search rules) first (c.size-word3.ensures ∙ vector_length v i))
 
 same_length : tie.Need-same-length invariant-loop decreases-loop
 same_length c = c.before.loop.invariant.2.0 ∙ c.before.loop.invariant.1 ∙ sym c.before.before.before.before.requires
 
 returns : tie.Need-returns invariant-loop decreases-loop
-returns c = like-all (vectorWords c.before.before.before.before.args.t2) c.before.loop.row (2 + 2 * c.before.loop.i) (omega arith) c.before.loop.invariant.2
+returns c = like_all (vector_words c.before.before.before.before.args.t2) c.before.loop.row (2 + 2 * c.before.loop.i) (omega arith) c.before.loop.invariant.2
 
 pub put-vector-spec : {M : Type 1} → statement M
 put-vector-spec =

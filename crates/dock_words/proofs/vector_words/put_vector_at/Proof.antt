@@ -1,5 +1,5 @@
 -- `dock_words::vector_words::put_vector_at` meets its contract: the vector's words come back in the place of the slot's row. Assumes nothing.
-use Rattle.dock_words.specs.Laws.{vector-part}
+use Rattle.dock_words.specs.Laws.{vector_part}
 use Rattle.arithmetic.specs.Loops.{array_long}
 use borrow.Author.Rules.{rules}
 use Rattle.dock_words.proofs.vector_words.put_vector_at.Statement.{statement}
@@ -30,7 +30,7 @@ same_length : tie.Need-same-length
 same_length c = search rules
 
 returns : tie.Need-returns
-returns c = let s = c.before.before.before.before.before in vector-part s.args.vectors.now s.args.slot s.args.v c.before.before.put_vector.new.0 s.requires.1 s.requires.0 (search (rules, array_long)) c.before.before.put_vector.ensures
+returns c = let s = c.before.before.before.before.before in vector_part s.args.vectors.now s.args.slot s.args.v c.before.before.put_vector.new.0 s.requires.1 s.requires.0 (search (rules, array_long)) c.before.before.put_vector.ensures
 
 pub put-vector-at-spec : {M : Type 1} → statement M
 put-vector-at-spec =

@@ -1,7 +1,7 @@
 -- `dock_words::vector_words::vector_at` meets its contract: the slot's row, decoded, is its vector. Assumes nothing.
 use mathlib.Core.Path.{sym, ap, ◌∙◌}
-use Rattle.arithmetic.specs.Rows.{row-part}
-use Rattle.vectors.specs.Words.{vectorFrom}
+use Rattle.arithmetic.specs.Rows.{row_part}
+use Rattle.vectors.specs.Words.{vector_from}
 use Rattle.dock_words.specs.Laws.{vector_row}
 use borrow.Author.Rules.{rules}
 use Rattle.dock_words.proofs.vector_words.vector_at.Statement.{statement}
@@ -29,7 +29,7 @@ get-vector-requires : tie.Need-get-vector-requires
 get-vector-requires c κs = search rules
 
 returns : tie.Need-returns
-returns c = let s = c.before.before.before in let w = s.args.vectors.now in c.get-vector.ensures ∙ ap vectorFrom (row-part 34 s.args.slot w) ∙ sym (vector_row w s.args.slot s.requires.1)
+returns c = let s = c.before.before.before in let w = s.args.vectors.now in c.get-vector.ensures ∙ ap vector_from (row_part 34 s.args.slot w) ∙ sym (vector_row w s.args.slot s.requires.1)
 
 pub vector-at-spec : {M : Type 1} → statement M
 vector-at-spec =

@@ -1,7 +1,7 @@
 -- `sheets::joining::carry` meets its contract: its bytes lie in the data and go where the output has room. Assumes nothing.
 use native.Mathlib.Omega.{arith}
 use Prim.Native.Nat.{◌+◌, ◌-◌}
-use Rattle.vectors.specs.ByteLaws.{copied-back}
+use Rattle.vectors.specs.ByteLaws.{copied_back}
 use borrow.Author.Rules.{rules}
 use Rattle.sheets.proofs.joining.carry.Statement.{statement}
 use Rattle.sheets.proofs.joining.carry.Tie as tie
@@ -48,7 +48,7 @@ same_length c = search rules
 returns : tie.Need-returns
 returns c = let a = c.before.before.before.before.before.before.before.before.before.args in
     let p = c.before.before.before.before.before.before.before.before.before.requires in
-    copied-back a.output.now a.«data».now a.filled (a.end - a.at) (a.w.start + (a.at - a.w.offset.0)) c.before.before.copy-bytes.new.0
+    copied_back a.output.now a.«data».now a.filled (a.end - a.at) (a.w.start + (a.at - a.w.offset.0)) c.before.before.copy-bytes.new.0
     p.1 (omega (arith, p.0.from, p.0.ahead, p.0.to, p.0.inside)) c.before.before.copy-bytes.ensures
 
 pub carry-spec : {M : Type 1} → statement M

@@ -1,7 +1,7 @@
 -- `sheets::joining::has_room` meets its contract: by the lengths of the writes, or else by the joined ranges. Assumes nothing.
 use mathlib.Core.Path.{sym, ap, ◌∙◌}
 use lib.Dec.{leb}
-use Rattle.sheets.proofs.Answering.{room-for-all}
+use Rattle.sheets.proofs.Answering.{room_for_all}
 use borrow.Author.Rules.{rules}
 use Rattle.sheets.proofs.joining.has_room.Statement.{statement}
 use Rattle.sheets.proofs.joining.has_room.Tie as tie
@@ -10,7 +10,7 @@ holds-all-requires : tie.Need-holds-all-requires
 holds-all-requires c κs = search rules
 
 returns : tie.Need-returns
-returns c = sym (room-for-all _ _ _ c.before.before.before.requires.1 (sym c.before.holds-all.ensures ∙ c.if1.true))
+returns c = sym (room_for_all _ _ _ c.before.before.before.requires.1 (sym c.before.holds-all.ensures ∙ c.if1.true))
 
 measure-requires : tie.Need-measure-requires
 measure-requires c κs = search rules

@@ -2,22 +2,22 @@
 use mathlib.Core.Path.{◌≡◌, sym}
 use Prim.Native.Nat.{◌-◌}
 use lib.ListN.{length}
-use Rattle.sheets.specs.Sheets.{writesIn}
-use Rattle.sheets.proofs.Words.{writes-length}
-use Rattle.sheets.proofs.Answering.{Left, left-none, left-all, left_over, left-more}
+use Rattle.sheets.specs.Sheets.{writes_in}
+use Rattle.sheets.proofs.Words.{writes_length}
+use Rattle.sheets.proofs.Answering.{Left, left_none, left_all, left_over, left_more}
 use borrow.Author.Rules.{rules}
 use Rattle.sheets.proofs.joining.holds_all.Statement.{statement}
 use Rattle.sheets.proofs.joining.holds_all.Tie as tie
 
 abbrev invariant-loop : tie.invariant-loop
 invariant-loop writes room n left₀ i₀ left i =
-    (length (writesIn writes) ≡ n) × Left (writesIn writes) room left i
+    (length (writes_in writes) ≡ n) × Left (writes_in writes) room left i
 
 abbrev decreases-loop : tie.decreases-loop
 decreases-loop writes room n left₀ i₀ left i = n - i
 
 loop-holds : tie.Need-loop-init invariant-loop decreases-loop
-loop-holds c = (writes-length _, left-none _ _)
+loop-holds c = (writes_length _, left_none _ _)
 
 get-write-requires : tie.Need-get-write-requires invariant-loop decreases-loop
 get-write-requires c κs = search rules
@@ -32,10 +32,10 @@ loop-less : tie.Need-loop-smaller invariant-loop decreases-loop
 loop-less c = search rules
 
 loop-again : tie.Need-loop-preserved invariant-loop decreases-loop
-loop-again c = (c.before.before.before.before.before.loop.invariant.0, left-more c.before.before.before.before.before.loop.invariant.1 (search rules) _ c.before.before.before.get-write.ensures (search rules))
+loop-again c = (c.before.before.before.before.before.loop.invariant.0, left_more c.before.before.before.before.before.loop.invariant.1 (search rules) _ c.before.before.before.get-write.ensures (search rules))
 
 returns-2 : tie.Need-returns-2 invariant-loop decreases-loop
-returns-2 c = sym (left-all c.before.loop.invariant.1 (search rules))
+returns-2 c = sym (left_all c.before.loop.invariant.1 (search rules))
 
 pub holds-all-spec : {M : Type 1} → statement M
 holds-all-spec =

@@ -3,24 +3,24 @@ use mathlib.Core.Path.{◌≡◌, sym}
 use Prim.Native.Nat.{◌-◌}
 use lib.ListN.{length}
 use borrow.Author.Tests.{not-true, not-false}
-use Rattle.sheets.specs.Sheets.{writesIn}
-use Rattle.sheets.proofs.Words.{writes-length}
-use Rattle.sheets.proofs.Testing.{sheet-long, Tested, tested-none, tested-all, tested-not, tested-more}
+use Rattle.sheets.specs.Sheets.{writes_in}
+use Rattle.sheets.proofs.Words.{writes_length}
+use Rattle.sheets.proofs.Testing.{sheet_long, Tested, tested_none, tested_all, tested_not, tested_more}
 use borrow.Author.Rules.{rules}
 use Rattle.sheets.proofs.sheet.sheet_fits.Statement.{statement}
 use Rattle.sheets.proofs.sheet.sheet_fits.Tie as tie
 
 abbrev invariant-loop : tie.invariant-loop
-invariant-loop writes data-len n i₀ i = (length (writesIn writes) ≡ n) × Tested data-len (writesIn writes) i
+invariant-loop writes data-len n i₀ i = (length (writes_in writes) ≡ n) × Tested data-len (writes_in writes) i
 
 abbrev decreases-loop : tie.decreases-loop
 decreases-loop writes data-len n i₀ i = n - i
 
 returns : tie.Need-returns invariant-loop decreases-loop
-returns c = sym (sheet-long _ _ (search (rules, writes-length)))
+returns c = sym (sheet_long _ _ (search (rules, writes_length)))
 
 loop-holds : tie.Need-loop-init invariant-loop decreases-loop
-loop-holds c = (writes-length _, tested-none _ _ (search (rules, writes-length)))
+loop-holds c = (writes_length _, tested_none _ _ (search (rules, writes_length)))
 
 get-write-requires : tie.Need-get-write-requires invariant-loop decreases-loop
 get-write-requires c κs = search rules
@@ -29,7 +29,7 @@ is-sound-requires : tie.Need-is-sound-requires invariant-loop decreases-loop
 is-sound-requires c κs = search rules
 
 returns-2 : tie.Need-returns-2 invariant-loop decreases-loop
-returns-2 c = sym (tested-not c.before.before.before.before.loop.invariant.1 (search rules) _ c.before.before.get-write.ensures _ c.before.is-sound.ensures (not-true _ c.if2.true))
+returns-2 c = sym (tested_not c.before.before.before.before.loop.invariant.1 (search rules) _ c.before.before.get-write.ensures _ c.before.is-sound.ensures (not-true _ c.if2.true))
 
 add-i : tie.Need-overflow-add-i invariant-loop decreases-loop
 add-i c = search rules
@@ -38,10 +38,10 @@ loop-less : tie.Need-loop-smaller invariant-loop decreases-loop
 loop-less c = search rules
 
 loop-again : tie.Need-loop-preserved invariant-loop decreases-loop
-loop-again c = (c.before.before.before.before.loop.invariant.0, tested-more c.before.before.before.before.loop.invariant.1 (search rules) _ c.before.before.get-write.ensures _ c.before.is-sound.ensures (not-false _ c.if2.false))
+loop-again c = (c.before.before.before.before.loop.invariant.0, tested_more c.before.before.before.before.loop.invariant.1 (search rules) _ c.before.before.get-write.ensures _ c.before.is-sound.ensures (not-false _ c.if2.false))
 
 returns-3 : tie.Need-returns-3 invariant-loop decreases-loop
-returns-3 c = sym (tested-all c.before.loop.invariant.1 (search rules))
+returns-3 c = sym (tested_all c.before.loop.invariant.1 (search rules))
 
 pub sheet-fits-spec : {M : Type 1} → statement M
 sheet-fits-spec =

@@ -5,7 +5,7 @@ use mathlib.Core.Logic.{⊎_elim}
 use native.Mathlib.Omega.{arith}
 use types.Run.{OneOf}
 use denote.Enum.Declared.{declared, tag_of}
-use Rattle.stages.specs.Stages.{firstPhase, bouncedPhase}
+use Rattle.stages.specs.Stages.{first_phase, bounced_phase}
 use Rattle.stages.specs.declared.state.Job.{Job}
 use Rattle.stages.specs.declared.state.Job.TheVariants.{Read, Write, Zeroes, AllocatedZeroes, Discard}
 use Rattle.stages.specs.declared.state.Stage.{Stage}
@@ -13,7 +13,7 @@ use Rattle.stages.specs.contracts.state.Job.{enum}
 use Rattle.stages.proofs.plan.bounced_phase.Statement.{statement}
 use Rattle.stages.proofs.plan.bounced_phase.Tie as tie
 
-others : (j : Job) (g : Stage) → OneOf (1 ∷ 2 ∷ 3 ∷ 4 ∷ []) (tag_of (declared enum) j) → firstPhase g ≡ bouncedPhase j g
+others : (j : Job) (g : Stage) → OneOf (1 ∷ 2 ∷ 3 ∷ 4 ∷ []) (tag_of (declared enum) j) → first_phase g ≡ bounced_phase j g
 others Read g k = absurd (⊎_elim (λ e. omega arith) (⊎_elim (λ e. omega arith) (⊎_elim (λ e. omega arith) (λ e. omega arith))) k)
 others Write g k = refl
 others Zeroes g k = refl
@@ -24,7 +24,7 @@ enum_told : tie.Need-enum-told
 enum_told c = c.match.keys1
 
 returns : tie.Need-returns
-returns c = sym (ap (λ (j : Job). bouncedPhase j c.before.before.args.g) c.enum_told.given.1)
+returns c = sym (ap (λ (j : Job). bounced_phase j c.before.before.args.g) c.enum_told.given.1)
 
 first-phase-requires : tie.Need-first-phase-requires
 first-phase-requires c κs = tt

@@ -2,16 +2,16 @@
 use mathlib.Core.Path.{◌≡◌, ap, ◌∙◌}
 use Prim.Native.Nat.{ℕ, ◌+◌}
 use native.Mathlib.Omega.{arith}
-use Rattle.arithmetic.specs.Offsets.{storeAt, on-store-at}
-use Rattle.arithmetic.specs.RoundingLaws.{fits-true}
+use Rattle.arithmetic.specs.Offsets.{store_at, on_store_at}
+use Rattle.arithmetic.specs.RoundingLaws.{fits_true}
 use Rattle.arithmetic.specs.declared.offsets.StoreOffset.{StoreOffset}
 use Rattle.arithmetic.specs.declared.offsets.OnStore.TheVariants.{At}
 use borrow.Author.Rules.{rules}
 use Rattle.stages.proofs.plan.first_bytes.Statement.{statement}
 use Rattle.stages.proofs.plan.first_bytes.Tie as tie
 
-on-store-is : (c : tie.After-on-store) → let a = c.before.before.args in c.on_store.result ≡ At (storeAt (a.s.start.0 + a.end.0))
-on-store-is c = c.on_store.ensures ∙ on-store-at _ _ (fits-true _ c.before.before.requires)
+on-store-is : (c : tie.After-on-store) → let a = c.before.before.args in c.on_store.result ≡ At (store_at (a.s.start.0 + a.end.0))
+on-store-is c = c.on_store.ensures ∙ on_store_at _ _ (fits_true _ c.before.before.requires)
 
 on-store-requires : tie.Need-on-store-requires
 on-store-requires c κs = search rules
@@ -33,7 +33,7 @@ returns-2 c =
     let o = c.before.before.before in
     let a = o.before.before.args in
     let e = on-store-is o in
-    let g : c.before.end.given.0.0 ≡ storeAt (a.s.start.0 + a.end.0) = cc in
+    let g : c.before.end.given.0.0 ≡ store_at (a.s.start.0 + a.end.0) = cc in
     ap (λ (z : StoreOffset). record { start = a.s.start; end = z }) g
 
 pub first-bytes-spec : {M : Type 1} → statement M

@@ -7,7 +7,7 @@ use Rattle.arithmetic.specs.declared.offsets.Range.{Range}
 use Rattle.arithmetic.specs.declared.padding.Span.{Span}
 use Rattle.arithmetic.specs.declared.padding.Reads.{Reads}
 use Rattle.stages.specs.Stages.{first_of}
-use Rattle.stages.specs.Transfers.{head-is, heads-are}
+use Rattle.stages.specs.Transfers.{head_is, heads_are}
 use Rattle.stages.proofs.plan.first_read.Statement.{statement}
 use Rattle.stages.proofs.plan.first_read.Tie as tie
 
@@ -54,7 +54,7 @@ returns-2 c = in-case c.before.before.before.before.before.args.s _ c.before.bef
 returns-3 : tie.Need-returns-3
 returns-3 c =
     let s = c.before.before.before.before.before.before.args.s in
-    in-case s _ c.before.before.before.reads.ensures c.before.enum-told3.given.1 (c.first-bytes.ensures ∙ ap (λ (h : ℕ). range_of s.start.0 (s.start.0 + h)) (sym (head-is s _ (sym c.before.before.before.reads.ensures ∙ c.before.enum-told3.given.1))))
+    in-case s _ c.before.before.before.reads.ensures c.before.enum-told3.given.1 (c.first-bytes.ensures ∙ ap (λ (h : ℕ). range_of s.start.0 (s.start.0 + h)) (sym (head_is s _ (sym c.before.before.before.reads.ensures ∙ c.before.enum-told3.given.1))))
 
 returns-4 : tie.Need-returns-4
 returns-4 c = in-case c.before.before.before.before.before.before.args.s _ c.before.before.before.reads.ensures c.before.enum-told4.given.1 c.nowhere2.ensures
@@ -62,7 +62,7 @@ returns-4 c = in-case c.before.before.before.before.before.before.args.s _ c.bef
 returns-5 : tie.Need-returns-5
 returns-5 c =
     let s = c.before.before.before.before.before.before.args.s in
-    in-case s _ c.before.before.before.reads.ensures c.before.enum-told5.given.1 (c.first-bytes2.ensures ∙ ap (λ (h : ℕ). range_of s.start.0 (s.start.0 + h)) (sym (heads-are s _ _ (sym c.before.before.before.reads.ensures ∙ c.before.enum-told5.given.1)).0))
+    in-case s _ c.before.before.before.reads.ensures c.before.enum-told5.given.1 (c.first-bytes2.ensures ∙ ap (λ (h : ℕ). range_of s.start.0 (s.start.0 + h)) (sym (heads_are s _ _ (sym c.before.before.before.reads.ensures ∙ c.before.enum-told5.given.1)).0))
 
 pub first-read-spec : {M : Type 1} → statement M
 first-read-spec =

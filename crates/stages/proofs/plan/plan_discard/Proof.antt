@@ -1,6 +1,6 @@
 -- `stages::plan::plan_discard` meets its contract: each arm's cut is its case of the definition. Assumes nothing.
 use mathlib.Core.Path.{refl, sym, ap, ◌∙◌}
-use Rattle.stages.specs.Stages.{discardBy, discardPlan}
+use Rattle.stages.specs.Stages.{discard_by, discard_plan}
 use Rattle.stages.specs.Transfers.{discards}
 use Rattle.stages.proofs.Plans.{from_parts}
 use Rattle.stages.proofs.plan.plan_discard.Statement.{statement}
@@ -33,23 +33,23 @@ enum-known-r-2 : tie.Need-enum-known-r-2
 enum-known-r-2 c = c.match.keys3
 
 returns : tie.Need-returns
-unfolding discardPlan
+unfolding discard_plan
 returns c =
     let a = c.before.before.before.args in
-    sym (ap (discardBy a.offset a.n) (sym c.before.before.discard-cut.ensures ∙ c.enum_told.given.1))
+    sym (ap (discard_by a.offset a.n) (sym c.before.before.discard-cut.ensures ∙ c.enum_told.given.1))
 
 returns-2 : tie.Need-returns-2
-unfolding discardPlan
+unfolding discard_plan
 returns-2 c =
     let a = c.before.before.before.before.before.before.before.before.args in
     from_parts _ _ _ _ _ _ _ _ _ _ c.start.ensures c.before.before.before.asked-range.ensures c.before.before.nowhere.ensures c.before.direct-stage.ensures refl
-    ∙ sym (ap (discardBy a.offset a.n) (sym c.before.before.before.before.before.before.before.discard-cut.ensures ∙ c.before.before.before.before.before.r.given.1))
+    ∙ sym (ap (discard_by a.offset a.n) (sym c.before.before.before.before.before.before.before.discard-cut.ensures ∙ c.before.before.before.before.before.r.given.1))
 
 returns-3 : tie.Need-returns-3
-unfolding discardPlan
+unfolding discard_plan
 returns-3 c =
     let a = c.before.before.before.before.args in
-    sym (ap (discardBy a.offset a.n) (sym c.before.before.before.discard-cut.ensures ∙ c.before.r2.given.1))
+    sym (ap (discard_by a.offset a.n) (sym c.before.before.before.discard-cut.ensures ∙ c.before.r2.given.1))
 
 pub plan-discard-spec : {M : Type 1} → statement M
 plan-discard-spec =

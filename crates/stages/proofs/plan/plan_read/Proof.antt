@@ -1,5 +1,5 @@
 -- `stages::plan::plan_read` meets its contract. Assumes nothing.
-use Rattle.stages.specs.Stages.{readPlan}
+use Rattle.stages.specs.Stages.{read_plan}
 use Rattle.stages.proofs.plan.plan_read.Statement.{statement}
 use Rattle.stages.proofs.plan.plan_read.Tie as tie
 
@@ -7,7 +7,7 @@ plan-vector-requires : tie.Need-plan-vector-requires
 plan-vector-requires c κs = tt
 
 returns : tie.Need-returns
-unfolding readPlan
+unfolding read_plan
 returns c = c.plan-vector.ensures
 
 pub plan-read-spec : {M : Type 1} → statement M

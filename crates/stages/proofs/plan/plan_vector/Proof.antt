@@ -4,20 +4,20 @@ use Rattle.arithmetic.specs.PaddingLaws.{Spans}
 use Rattle.arithmetic.specs.declared.padding.Span.{Span}
 use Rattle.arithmetic.specs.declared.padding.Transfer.{Transfer}
 use Rattle.arithmetic.specs.declared.padding.Transfer.TheVariants.{Direct, Bounced, Refused as NoTransfer}
-use Rattle.stages.specs.Stages.{bouncedPhase, vectorBy, vectorPlan}
-use Rattle.stages.specs.Transfers.{bounced, holds, asked-fits}
+use Rattle.stages.specs.Stages.{bounced_phase, vector_by, vector_plan}
+use Rattle.stages.specs.Transfers.{bounced, holds, asked_fits}
 use Rattle.stages.specs.declared.plan.Plan.{Plan}
 use Rattle.stages.specs.declared.plan.Plan.TheVariants.{Refused}
-use Rattle.stages.proofs.Plans.{from_parts, padded-parts, too_long, in-bounce, nothing-moved, vector-by, refused-is}
+use Rattle.stages.proofs.Plans.{from_parts, padded_parts, too_long, in_bounce_lem, nothing_moved, vector_by_lem, refused_is}
 use Rattle.stages.proofs.plan.plan_vector.Statement.{statement}
 use Rattle.stages.proofs.plan.plan_vector.Tie as tie
 
 -- the plan by the call's transfer
-by : (c : tie.After-plan-transfer) (x : Transfer) {p : Plan} → let a = c.before.before.args in c.plan-transfer.result ≡ x → p ≡ vectorBy a.settings a.job a.direct a.offset a.n x
-    → p ≡ vectorPlan a.settings a.job a.direct a.offset a.n a.aligned
+by : (c : tie.After-plan-transfer) (x : Transfer) {p : Plan} → let a = c.before.before.args in c.plan-transfer.result ≡ x → p ≡ vector_by a.settings a.job a.direct a.offset a.n x
+    → p ≡ vector_plan a.settings a.job a.direct a.offset a.n a.aligned
 by c x e q =
     let a = c.before.before.args in
-    vector-by a.settings a.job a.direct a.offset a.n a.aligned x c.before.if1.false (sym c.plan-transfer.ensures ∙ e) q
+    vector_by_lem a.settings a.job a.direct a.offset a.n a.aligned x c.before.if1.false (sym c.plan-transfer.ensures ∙ e) q
 
 abbrev span : tie.After-transfer2 → Span
 span c = c.transfer2.given.0.0
@@ -28,7 +28,7 @@ spans c =
     bounced a.settings.align a.offset a.n a.aligned (span c) (sym c.before.before.before.plan-transfer.ensures ∙ c.transfer2.given.1)
 
 returns : tie.Need-returns
-returns c = let a = c.before.args in nothing-moved a.settings a.job a.direct a.offset a.n a.aligned c.if1.true
+returns c = let a = c.before.args in nothing_moved a.settings a.job a.direct a.offset a.n a.aligned c.if1.true
 
 plan-transfer-requires : tie.Need-plan-transfer-requires
 plan-transfer-requires c κs = tt
@@ -59,7 +59,7 @@ refusal-requires c κs = tt
 returns-3 : tie.Need-returns-3
 returns-3 c =
     let d = c.before.before.before in
-    by d (NoTransfer _) (refused-is _ c.before.before.match.keys2 c.before.match2.keys2) (ap Refused c.refusal.ensures)
+    by d (NoTransfer _) (refused_is _ c.before.before.match.keys2 c.before.match2.keys2) (ap Refused c.refusal.ensures)
 
 returns-4 : tie.Need-returns-4
 returns-4 c =
@@ -67,7 +67,7 @@ returns-4 c =
     by c.before.before.before.before.before.before.before (Bounced (span t)) t.transfer2.given.1 (too_long c.before.before.before.before.before.before.before.before.before.args.settings (span t) _ c.if2.true)
 
 asked-range-requires : tie.Need-asked-range-requires
-asked-range-requires c κs = asked-fits (spans c.before.before.before.before)
+asked-range-requires c κs = asked_fits (spans c.before.before.before.before)
 
 padded-stage-requires : tie.Need-padded-stage-requires
 padded-stage-requires c κs = holds (spans c.before.before.before.before.before)
@@ -87,8 +87,8 @@ returns-5 c =
     let t = c.before.before.before.before.before.before.before.before.before in
     let r = c.before.before.before.before.asked-range.ensures in
     by c.before.before.before.before.before.before.before.before.before.before.before.before (Bounced (span t)) t.transfer2.given.1
-    (in-bounce a.settings (span t) _ c.before.before.before.before.before.if2.false
-    (padded-parts (bouncedPhase a.job) _ _ _ _ _ _ (span t) _ _ _ _ c.start2.ensures r c.before.nowhere2.ensures c.before.before.before.padded-stage.ensures r c.before.before.bounced-phase.ensures))
+    (in_bounce_lem a.settings (span t) _ c.before.before.before.before.before.if2.false
+    (padded_parts (bounced_phase a.job) _ _ _ _ _ _ (span t) _ _ _ _ c.start2.ensures r c.before.nowhere2.ensures c.before.before.before.padded-stage.ensures r c.before.before.bounced-phase.ensures))
 
 pub plan-vector-spec : {M : Type 1} → statement M
 plan-vector-spec =

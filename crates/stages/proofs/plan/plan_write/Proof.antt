@@ -1,5 +1,5 @@
 -- `stages::plan::plan_write` meets its contract. Assumes nothing.
-use Rattle.stages.specs.Stages.{writePlan}
+use Rattle.stages.specs.Stages.{write_plan}
 use Rattle.stages.proofs.plan.plan_write.Statement.{statement}
 use Rattle.stages.proofs.plan.plan_write.Tie as tie
 
@@ -7,7 +7,7 @@ plan-vector-requires : tie.Need-plan-vector-requires
 plan-vector-requires c κs = tt
 
 returns : tie.Need-returns
-unfolding writePlan
+unfolding write_plan
 returns c = c.plan-vector.ensures
 
 pub plan-write-spec : {M : Type 1} → statement M

@@ -1,7 +1,7 @@
 -- `stages::plan::plan_zeroes` meets its contract: each arm's cut is its case of the definition. Assumes nothing.
 use mathlib.Core.Path.{refl, sym, ◌∙◌}
 use Rattle.stages.specs.Transfers.{splits}
-use Rattle.stages.proofs.Plans.{from-job, zero-by, zeroes-from}
+use Rattle.stages.proofs.Plans.{from_job, zero_by_lem, zeroes_from}
 use Rattle.stages.proofs.plan.plan_zeroes.Statement.{statement}
 use Rattle.stages.proofs.plan.plan_zeroes.Tie as tie
 
@@ -46,24 +46,24 @@ enum-known-r-2 c = c.match.keys4
 returns : tie.Need-returns
 returns c =
     let a = c.before.before.before.before.args in
-    zero-by a.settings a.allocate a.offset a.n _ c.before.before.zero-cut.ensures c.enum_told.given.1 refl
+    zero_by_lem a.settings a.allocate a.offset a.n _ c.before.before.zero-cut.ensures c.enum_told.given.1 refl
 
 returns-2 : tie.Need-returns-2
 returns-2 c =
     let a = c.before.before.before.before.before.before.before.before.args in
-    zero-by a.settings a.allocate a.offset a.n _ c.before.before.before.before.before.before.zero-cut.ensures c.before.before.before.before.r.given.1
-    (c.plan-zero-write.ensures ∙ zeroes-from a.settings _ _ _ _ _ c.before.before.before.before.before.before.before.zero-job.ensures c.before.before.nowhere.ensures)
+    zero_by_lem a.settings a.allocate a.offset a.n _ c.before.before.before.before.before.before.zero-cut.ensures c.before.before.before.before.r.given.1
+    (c.plan-zero-write.ensures ∙ zeroes_from a.settings _ _ _ _ _ c.before.before.before.before.before.before.before.zero_job_lem.ensures c.before.before.nowhere.ensures)
 
 returns-3 : tie.Need-returns-3
 returns-3 c =
     let a = c.before.before.before.before.before.before.before.before.args in
-    zero-by a.settings a.allocate a.offset a.n _ c.before.before.before.before.before.before.zero-cut.ensures c.before.before.before.before.c.given.1
-    (from-job _ _ _ _ _ _ _ _ _ c.start.ensures c.before.before.before.before.before.before.before.zero-job.ensures c.before.before.asked-range.ensures c.before.direct-stage2.ensures)
+    zero_by_lem a.settings a.allocate a.offset a.n _ c.before.before.before.before.before.before.zero-cut.ensures c.before.before.before.before.c.given.1
+    (from_job _ _ _ _ _ _ _ _ _ c.start.ensures c.before.before.before.before.before.before.before.zero_job_lem.ensures c.before.before.asked-range.ensures c.before.direct-stage2.ensures)
 
 returns-4 : tie.Need-returns-4
 returns-4 c =
     let a = c.before.before.before.before.before.args in
-    zero-by a.settings a.allocate a.offset a.n _ c.before.before.before.zero-cut.ensures c.before.r2.given.1 refl
+    zero_by_lem a.settings a.allocate a.offset a.n _ c.before.before.before.zero-cut.ensures c.before.r2.given.1 refl
 
 pub plan-zeroes-spec : {M : Type 1} → statement M
 plan-zeroes-spec =

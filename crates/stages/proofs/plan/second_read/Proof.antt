@@ -7,7 +7,7 @@ use Rattle.arithmetic.specs.declared.offsets.Range.{Range}
 use Rattle.arithmetic.specs.declared.padding.Span.{Span}
 use Rattle.arithmetic.specs.declared.padding.Reads.{Reads}
 use Rattle.stages.specs.Stages.{second_of}
-use Rattle.stages.specs.Transfers.{tail-is, heads-are}
+use Rattle.stages.specs.Transfers.{tail_is, heads_are}
 use Rattle.stages.proofs.plan.second_read.Statement.{statement}
 use Rattle.stages.proofs.plan.second_read.Tie as tie
 
@@ -60,12 +60,12 @@ returns-3 c = in-case c.before.before.before.before.args.s _ c.before.before.bef
 returns-4 : tie.Need-returns-4
 returns-4 c =
     let s = c.before.before.before.before.args.s in
-    in-case s _ c.before.before.before.reads.ensures c.before.enum-told4.given.1 (c.last-bytes.ensures ∙ ap (λ (t : ℕ). range_of (s.end.0 - t) s.end.0) (sym (tail-is s _ (sym c.before.before.before.reads.ensures ∙ c.before.enum-told4.given.1))))
+    in-case s _ c.before.before.before.reads.ensures c.before.enum-told4.given.1 (c.last-bytes.ensures ∙ ap (λ (t : ℕ). range_of (s.end.0 - t) s.end.0) (sym (tail_is s _ (sym c.before.before.before.reads.ensures ∙ c.before.enum-told4.given.1))))
 
 returns-5 : tie.Need-returns-5
 returns-5 c =
     let s = c.before.before.before.before.args.s in
-    in-case s _ c.before.before.before.reads.ensures c.before.enum-told5.given.1 (c.last-bytes2.ensures ∙ ap (λ (t : ℕ). range_of (s.end.0 - t) s.end.0) (sym (heads-are s _ _ (sym c.before.before.before.reads.ensures ∙ c.before.enum-told5.given.1)).1))
+    in-case s _ c.before.before.before.reads.ensures c.before.enum-told5.given.1 (c.last-bytes2.ensures ∙ ap (λ (t : ℕ). range_of (s.end.0 - t) s.end.0) (sym (heads_are s _ _ (sym c.before.before.before.reads.ensures ∙ c.before.enum-told5.given.1)).1))
 
 pub second-read-spec : {M : Type 1} → statement M
 second-read-spec =

@@ -1,5 +1,5 @@
 -- `stages::state::lies_in` meets its contract: each of its tests is one of the definition's. Assumes nothing.
-use Rattle.stages.specs.Stages.{liesIn}
+use Rattle.stages.specs.Stages.{lies_in}
 use Rattle.stages.proofs.state.lies_in.Statement.{statement}
 use Rattle.stages.proofs.state.lies_in.Tie as tie
 
@@ -25,7 +25,7 @@ size-requires-4 : tie.Need-size-requires-4
 size-requires-4 c κs = tt
 
 returns : tie.Need-returns
-unfolding liesIn
+unfolding lies_in
 returns c = rw (c.before.before.before.before.is-sum-within.ensures, c.before.is-sum-within2.ensures, c.before.before.before.before.before.size.ensures, c.size4.ensures, c.before.before.before.size2.ensures, c.before.before.before.before.before.before.second_at.ensures, c.before.before.size3.ensures)
 
 pub lies-in-spec : {M : Type 1} → statement M

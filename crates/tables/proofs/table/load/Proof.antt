@@ -10,7 +10,7 @@ use denote.Enum.Declared.{declared, tag_of}
 use Rattle.records.specs.contracts.Start.{enum}
 use Rattle.records.specs.declared.Start.{Start}
 use Rattle.records.specs.declared.Start.TheVariants.{End, Broken, Record}
-use Rattle.tables.proofs.Loading.{Reading, reading-none, starts, broken-here, room, passed_on, row_read, refused-by, ended}
+use Rattle.tables.proofs.Loading.{Reading, reading_none, starts, broken_here, room, passed_on, row_read, refused_by, ended}
 use Rattle.tables.specs.TablesLaws.{entry_row}
 use borrow.Author.Rules.{rules}
 use Rattle.tables.proofs.table.load.Statement.{statement}
@@ -32,7 +32,7 @@ make-rows-requires : tie.Need-make-rows-requires invariant-loop decreases-loop
 make-rows-requires c κs = search rules
 
 loop-holds : tie.Need-loop-init invariant-loop decreases-loop
-loop-holds c = rw c.make-rows.ensures (reading-none c.before.before.args.bytes.now)
+loop-holds c = rw c.make-rows.ensures (reading_none c.before.before.args.bytes.now)
 
 sub-first-record : tie.Need-overflow-sub-first-record invariant-loop decreases-loop
 sub-first-record c = search rules
@@ -54,7 +54,7 @@ refuse-requires c κs = search rules
 
 returns : tie.Need-returns invariant-loop decreases-loop
 returns c = let l = c.before.before.before.before.before.loop in
-    c.refuse.ensures ∙ sym (broken-here l.invariant (search rules) (no_record _ c.before.match.keys2 (sym (starts c.before.before.before.before.before.before.before.before.args.bytes.now l.at c.before.before.first-record.ensures))))
+    c.refuse.ensures ∙ sym (broken_here l.invariant (search rules) (no_record _ c.before.match.keys2 (sym (starts c.before.before.before.before.before.before.before.before.args.bytes.now l.at c.before.before.first-record.ensures))))
 
 add_body : tie.Need-overflow-add-body invariant-loop decreases-loop
 add_body c = search (rules, room c.before.before.before.before.before.before.loop.invariant c.before.«record».given.0.0 (starts c.before.before.before.before.before.before.before.before.before.args.bytes.now c.before.before.before.before.before.before.loop.at c.before.before.before.first-record.ensures ∙ c.before.«record».given.1))
@@ -97,7 +97,7 @@ refuse-requires-2 c κs = search rules
 
 returns-2 : tie.Need-returns-2 invariant-loop decreases-loop
 returns-2 c = let l = c.before.before.before.before.before.before.before.before.before.before.before.before.before.loop in
-    c.refuse2.ensures ∙ sym (refused-by l.invariant _ (starts c.before.before.before.before.before.before.before.before.before.before.before.before.before.before.before.before.args.bytes.now c.before.before.before.before.before.before.before.before.before.before.before.before.before.loop.at c.before.before.before.before.before.before.before.before.before.before.first-record.ensures ∙ c.before.before.before.before.before.before.before.before.«record».given.1) _ (sym c.before.before.before.before.read-entry.ensures ∙ c.before.before.r.given.1))
+    c.refuse2.ensures ∙ sym (refused_by l.invariant _ (starts c.before.before.before.before.before.before.before.before.before.before.before.before.before.before.before.before.args.bytes.now c.before.before.before.before.before.before.before.before.before.before.before.before.before.loop.at c.before.before.before.before.before.before.before.before.before.before.first-record.ensures ∙ c.before.before.before.before.before.before.before.before.«record».given.1) _ (sym c.before.before.before.before.read-entry.ensures ∙ c.before.before.r.given.1))
 
 loop-less : tie.Need-loop-smaller invariant-loop decreases-loop
 loop-less c = search rules

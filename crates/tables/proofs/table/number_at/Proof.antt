@@ -1,7 +1,7 @@
 -- `tables::table::number_at` meets its contract. Assumes nothing.
 use mathlib.Core.Path.{sym, ap, ◌∙◌}
-use Rattle.records.specs.Records.{littleEndian}
-use Rattle.records.specs.RecordsLaws.{four-from}
+use Rattle.records.specs.Records.{little_endian}
+use Rattle.records.specs.RecordsLaws.{four_from}
 use borrow.Author.Rules.{rules}
 use Rattle.tables.proofs.table.number_at.Statement.{statement}
 use Rattle.tables.proofs.table.number_at.Tie as tie
@@ -31,7 +31,7 @@ u32-of-requires : tie.Need-u32-of-requires
 u32-of-requires c κs = search rules
 
 returns : tie.Need-returns
-returns c = c.u32-of.ensures ∙ ap littleEndian (sym (four-from c.before.before.before.before.before.before.args.body.now c.before.before.before.before.before.before.args.at c.before.before.before.before.before.before.requires))
+returns c = c.u32-of.ensures ∙ ap little_endian (sym (four_from c.before.before.before.before.before.before.args.body.now c.before.before.before.before.before.before.args.at c.before.before.before.before.before.before.requires))
 
 pub number-at-spec : {M : Type 1} → statement M
 number-at-spec =

@@ -4,7 +4,7 @@ use mathlib.Core.Bool.{and-false}
 use lib.Dec.{eqb}
 use lib.ListN.{length}
 use borrow.Author.Tests.{eq-eqb, ne_eqb, lt-ltb, le-ltb, not-true, not-false}
-use Rattle.arithmetic.specs.Settings.{alignmentsFit}
+use Rattle.arithmetic.specs.Settings.{alignments_fit}
 use Rattle.tables.specs.Tables.{entry_of}
 use Rattle.tables.specs.declared.table.Entry.TheVariants.{Row}
 use borrow.Author.Rules.{rules}
@@ -32,13 +32,13 @@ is-fit-requires c κs = search rules
 returns-4 : tie.Need-returns-4
 unfolding entry_of
 returns-4 c = let a = c.before.before.before.before.before.before.before.args in
-    let f = ap alignmentsFit (sym c.before.before.read-row.ensures) ∙ sym c.before.is-fit.ensures ∙ not-true _ c.if4.true in
+    let f = ap alignments_fit (sym c.before.before.read-row.ensures) ∙ sym c.before.is-fit.ensures ∙ not-true _ c.if4.true in
     rw (eq-eqb a.kind 1 (search rules), eq-eqb (length a.body.now) 16 (search rules), lt-ltb a.count 64 (search rules), f)
 
 returns-5 : tie.Need-returns-5
 unfolding entry_of
 returns-5 c = let a = c.before.before.before.before.before.before.before.args in
-    let f = ap alignmentsFit (sym c.before.before.read-row.ensures) ∙ sym c.before.is-fit.ensures ∙ not-false _ c.if4.false in
+    let f = ap alignments_fit (sym c.before.before.read-row.ensures) ∙ sym c.before.is-fit.ensures ∙ not-false _ c.if4.false in
     rw (eq-eqb a.kind 1 (search rules), eq-eqb (length a.body.now) 16 (search rules), lt-ltb a.count 64 (search rules), f) (ap Row c.before.before.read-row.ensures)
 
 pub read-entry-spec : {M : Type 1} → statement M

@@ -3,16 +3,16 @@ use native.Mathlib.Omega.{arith}
 use Prim.Native.Nat.{◌+◌, ◌*◌, ◌-◌, ◌≤◌}
 use mathlib.Core.Path.{◌≡◌, refl, sym, ◌∙◌}
 use lib.ListN.{length, get_or, length-set}
-use Rattle.arithmetic.specs.Loops.{array_long, Like, like-more, like-all}
+use Rattle.arithmetic.specs.Loops.{array_long, Like, like_more, like_all}
 use Rattle.tables.specs.Tables.{no_row}
-use Rattle.tables.specs.Words.{tableWords}
-use Rattle.tables.specs.WordsLaws.{table-long, mem_word, req-word, zero_word, discard-word}
+use Rattle.tables.specs.Words.{table_words}
+use Rattle.tables.specs.WordsLaws.{table_long, mem_word, req_word, zero_word, discard_word}
 use borrow.Author.Rules.{rules}
 use Rattle.tables.proofs.words.put_table.Statement.{statement}
 use Rattle.tables.proofs.words.put_table.Tie as tie
 
 abbrev invariant-loop : tie.invariant-loop
-invariant-loop words₀ t i₀ words i = (i ≤ 64) × (length (tableWords t) ≡ 257) × (Like (tableWords t) words (1 + 4 * i))
+invariant-loop words₀ t i₀ words i = (i ≤ 64) × (length (table_words t) ≡ 257) × (Like (table_words t) words (1 + 4 * i))
 
 abbrev decreases-loop : tie.decreases-loop
 decreases-loop words₀ t i₀ words i = 64 - i
@@ -23,8 +23,8 @@ slice-write-words c = search rules
 loop-holds : tie.Need-loop-init invariant-loop decreases-loop
 loop-holds c = let t = c.args.t2 in
     let n : length t.rows ≡ 64 = search (rules, array_long) in
-    let w = table-long t n in
-    (search rules, w, like-more (tableWords t) c.args.words.now 0 1 t.count 0 refl (omega (arith, w)) (c.requires ∙ sym w, refl) refl)
+    let w = table_long t n in
+    (search rules, w, like_more (table_words t) c.args.words.now 0 1 t.count 0 refl (omega (arith, w)) (c.requires ∙ sym w, refl) refl)
 
 mul-row : tie.Need-overflow-mul-row invariant-loop decreases-loop
 mul-row c = search rules
@@ -83,18 +83,18 @@ loop-again c = let l = c.before.before in
     let i = l.loop.i in
     let w = l.loop.invariant.1 in
     let a = get_or t.rows i no_row in
-    let put = like-more (tableWords t) in
+    let put = like_more (table_words t) in
     let first = put l.loop.words (1 + 4 * i) (1 + 4 * i + 1) a.mem 0 refl (omega (arith, w, c.before.loop-test.true)) l.loop.invariant.2 (mem_word t i) in
-    let second = put _ (1 + 4 * i + 1) (1 + 4 * i + 2) a.req 0 (omega arith) (omega (arith, w, c.before.loop-test.true)) first (req-word t i) in
+    let second = put _ (1 + 4 * i + 1) (1 + 4 * i + 2) a.req 0 (omega arith) (omega (arith, w, c.before.loop-test.true)) first (req_word t i) in
     let third = put _ (1 + 4 * i + 2) (1 + 4 * i + 3) a.zero 0 (omega arith) (omega (arith, w, c.before.loop-test.true)) second (zero_word t i) in
-    let fourth = put _ (1 + 4 * i + 3) (1 + 4 * (i + 1)) a.discard 0 (omega arith) (omega (arith, w, c.before.loop-test.true)) third (discard-word t i) in
+    let fourth = put _ (1 + 4 * i + 3) (1 + 4 * (i + 1)) a.discard 0 (omega arith) (omega (arith, w, c.before.loop-test.true)) third (discard_word t i) in
     (search rules, w, fourth)
 
 same_length : tie.Need-same-length invariant-loop decreases-loop
 same_length c = c.before.loop.invariant.2.0 ∙ c.before.loop.invariant.1 ∙ sym c.before.before.requires
 
 returns : tie.Need-returns invariant-loop decreases-loop
-returns c = like-all (tableWords c.before.before.args.t2) c.before.loop.words (1 + 4 * c.before.loop.i) (omega (arith, c.before.loop.invariant.1, c.loop-test.false)) c.before.loop.invariant.2
+returns c = like_all (table_words c.before.before.args.t2) c.before.loop.words (1 + 4 * c.before.loop.i) (omega (arith, c.before.loop.invariant.1, c.loop-test.false)) c.before.loop.invariant.2
 
 pub put-table-spec : {M : Type 1} → statement M
 put-table-spec =

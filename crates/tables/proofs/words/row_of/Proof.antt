@@ -3,24 +3,24 @@ use native.Mathlib.Omega.{arith}
 use mathlib.Core.Path.{sym, ap, ◌∙◌}
 use mathlib.Core.Logic.{inl, inr}
 use Rattle.arithmetic.specs.declared.settings.Profile.TheVariants.{Of}
-use Rattle.tables.specs.TablesLaws.{past-last, row-there}
-use Rattle.tables.specs.Words.{tableFrom}
-use Rattle.tables.specs.WordsLaws.{row_words, table-rows}
+use Rattle.tables.specs.TablesLaws.{past_last, row_there}
+use Rattle.tables.specs.Words.{table_from}
+use Rattle.tables.specs.WordsLaws.{row_words_lem, table_rows}
 use borrow.Author.Rules.{rules}
 use Rattle.tables.proofs.words.row_of.Statement.{statement}
 use Rattle.tables.proofs.words.row_of.Tie as tie
 
 returns : tie.Need-returns
 returns c = let w = c.before.args.table.now in
-    sym (past-last (tableFrom w) c.before.args.index (inr (omega (arith, table-rows w, c.if1.true))))
+    sym (past_last (table_from w) c.before.args.index (inr (omega (arith, table_rows w, c.if1.true))))
 
 element-copy-out-if2 : tie.Need-element-copy-out-if2
 element-copy-out-if2 c = search rules
 
 returns-2 : tie.Need-returns-2
-unfolding tableFrom
+unfolding table_from
 returns-2 c = let w = c.before.before.before.args.table.now in
-    sym (past-last (tableFrom w) c.before.before.before.args.index (inl (search rules)))
+    sym (past_last (table_from w) c.before.before.before.args.index (inl (search rules)))
 
 mul_at : tie.Need-overflow-mul-at
 mul_at c = search rules
@@ -62,10 +62,10 @@ element-copy-out-t27 : tie.Need-element-copy-out-t27
 element-copy-out-t27 c = search rules
 
 returns-3 : tie.Need-returns-3
-unfolding tableFrom
+unfolding table_from
 returns-3 c = let w = c.before.before.before.before.before.before.before.args.table.now in
     let i = c.before.before.before.before.before.before.before.args.index in
-    ap Of (row_words w i (search rules)) ∙ sym (row-there (tableFrom w) i (search rules) (omega (arith, table-rows w, c.before.before.before.before.before.before.if1.false)))
+    ap Of (row_words_lem w i (search rules)) ∙ sym (row_there (table_from w) i (search rules) (omega (arith, table_rows w, c.before.before.before.before.before.before.if1.false)))
 
 pub row-of-spec : {M : Type 1} → statement M
 row-of-spec =

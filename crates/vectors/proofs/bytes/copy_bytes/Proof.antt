@@ -4,7 +4,7 @@ use mathlib.Core.Path.{◌∙◌}
 use Prim.Native.Nat.{◌-◌}
 use native.Mathlib.Omega.{arith}
 use borrow.Author.Rules.{rules}
-use Rattle.vectors.proofs.Copying.{Copied, copied_none, copied-begun, copied-fits, copied-block, copied_byte, copied_on, copied_all}
+use Rattle.vectors.proofs.Copying.{Copied, copied_none, copied_begun, copied_fits, copied_block, copied_byte, copied_on, copied_all}
 use Rattle.vectors.proofs.bytes.copy_bytes.Statement.{statement}
 use Rattle.vectors.proofs.bytes.copy_bytes.Tie as tie
 
@@ -37,7 +37,7 @@ sub-loop c = c.loop.invariant.most
 
 copy-block-requires :
     tie.Need-copy-block-requires invariant-loop decreases-loop invariant-loop2 decreases-loop2 invariant-loop3 decreases-loop3
-copy-block-requires c κs = let l = c.before.before.loop in copied-fits _ _ _ _ _ l.invariant 4096 c.before.loop-test.true
+copy-block-requires c κs = let l = c.before.before.loop in copied_fits _ _ _ _ _ l.invariant 4096 c.before.loop-test.true
 
 add-i : tie.Need-overflow-add-i invariant-loop decreases-loop invariant-loop2 decreases-loop2 invariant-loop3 decreases-loop3
 add-i c = let t = c.before.before.before.before in omega (arith, t.before.loop.invariant.most, t.loop-test.true)
@@ -48,17 +48,17 @@ loop-less c = let t = c.before.before.before.before in omega (arith, t.before.lo
 loop-again : tie.Need-loop-preserved invariant-loop decreases-loop invariant-loop2 decreases-loop2 invariant-loop3 decreases-loop3
 loop-again c = let k = c.before.before in
     let t = k.before.before in
-    copied-block _ _ _ _ _ t.before.loop.invariant 4096 k.copy-block.new.0 t.loop-test.true k.copy-block.ensures
+    copied_block _ _ _ _ _ t.before.loop.invariant 4096 k.copy-block.new.0 t.loop-test.true k.copy-block.ensures
 
 loop2-holds : tie.Need-loop2-init invariant-loop decreases-loop invariant-loop2 decreases-loop2 invariant-loop3 decreases-loop3
-loop2-holds c = copied-begun _ _ _ _ _ c.before.loop.invariant
+loop2-holds c = copied_begun _ _ _ _ _ c.before.loop.invariant
 
 sub-loop2 : tie.Need-overflow-sub-loop2 invariant-loop decreases-loop invariant-loop2 decreases-loop2 invariant-loop3 decreases-loop3
 sub-loop2 c = c.loop2.invariant.most
 
 copy-word-requires :
     tie.Need-copy-word-requires invariant-loop decreases-loop invariant-loop2 decreases-loop2 invariant-loop3 decreases-loop3
-copy-word-requires c κs = let l = c.before.before.loop2 in copied-fits _ _ _ _ _ l.invariant 8 c.before.loop2-test.true
+copy-word-requires c κs = let l = c.before.before.loop2 in copied_fits _ _ _ _ _ l.invariant 8 c.before.loop2-test.true
 
 add-i-2 : tie.Need-overflow-add-i-2 invariant-loop decreases-loop invariant-loop2 decreases-loop2 invariant-loop3 decreases-loop3
 add-i-2 c = let t = c.before.before.before.before in omega (arith, t.before.loop2.invariant.most, t.loop2-test.true)
@@ -69,10 +69,10 @@ loop2-less c = let t = c.before.before.before.before in omega (arith, t.before.l
 loop2-again : tie.Need-loop2-preserved invariant-loop decreases-loop invariant-loop2 decreases-loop2 invariant-loop3 decreases-loop3
 loop2-again c = let k = c.before.before in
     let t = k.before.before in
-    copied-block _ _ _ _ _ t.before.loop2.invariant 8 k.copy-word.new.0 t.loop2-test.true k.copy-word.ensures
+    copied_block _ _ _ _ _ t.before.loop2.invariant 8 k.copy-word.new.0 t.loop2-test.true k.copy-word.ensures
 
 loop3-holds : tie.Need-loop3-init invariant-loop decreases-loop invariant-loop2 decreases-loop2 invariant-loop3 decreases-loop3
-loop3-holds c = copied-begun _ _ _ _ _ c.before.loop2.invariant
+loop3-holds c = copied_begun _ _ _ _ _ c.before.loop2.invariant
 
 shared-slice-read-part :
     tie.Need-shared-slice-read-part invariant-loop decreases-loop invariant-loop2 decreases-loop2 invariant-loop3 decreases-loop3

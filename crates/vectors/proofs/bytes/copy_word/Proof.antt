@@ -6,7 +6,7 @@ use native.Mathlib.Omega.{arith}
 use lib.ListN.{length, take, drop, replicate, length-set, length-replicate}
 use lib.Seq.{paste, paste-zero}
 use Rattle.arithmetic.specs.Loops.{Like}
-use Rattle.vectors.proofs.Copying.{read_none, read_more, read-long, read_done, write-more, write_done}
+use Rattle.vectors.proofs.Copying.{read_none, read_more, read_long, read_done, write_more, write_done}
 use Rattle.vectors.proofs.bytes.copy_word.Statement.{statement}
 use Rattle.vectors.proofs.bytes.copy_word.Tie as tie
 
@@ -35,7 +35,7 @@ shared-slice-read-bytes c = omega (arith, c.before.before.before.requires)
 array-write-bytes : tie.Need-array-write-bytes invariant-loop decreases-loop invariant-loop2 decreases-loop2
 array-write-bytes c = let l = c.before.before in
     let s = l.before in
-    omega (arith, read-long 8 s.args.at l.loop.i s.args.source.now l.loop.bytes s.requires.1 l.loop.invariant.1)
+    omega (arith, read_long 8 s.args.at l.loop.i s.args.source.now l.loop.bytes s.requires.1 l.loop.invariant.1)
 
 add-i : tie.Need-overflow-add-i invariant-loop decreases-loop invariant-loop2 decreases-loop2
 add-i c = omega arith
@@ -57,7 +57,7 @@ loop2-holds c = let l = c.before in
 array-read-part : tie.Need-array-read-part invariant-loop decreases-loop invariant-loop2 decreases-loop2
 array-read-part c = let l = c.before.before.before in
     let s = l.before in
-    omega (arith, read-long 8 s.args.at l.loop.i s.args.source.now l.loop.bytes s.requires.1 l.loop.invariant.1)
+    omega (arith, read_long 8 s.args.at l.loop.i s.args.source.now l.loop.bytes s.requires.1 l.loop.invariant.1)
 
 add-part : tie.Need-overflow-add-part invariant-loop decreases-loop invariant-loop2 decreases-loop2
 add-part c = omega arith
@@ -76,8 +76,8 @@ loop2-again c = let m = c.before in
     let l = m.before.before in
     let s = l.before in
     let a = s.args in
-    let w = read-long 8 a.at l.loop.i a.source.now l.loop.bytes s.requires.1 l.loop.invariant.1 in
-    (omega arith, simp length-set (omega arith), m.loop2.invariant.2, rw m.loop2.invariant.3 (write-more a.at m.loop2.j l.loop.bytes a.part.now (omega arith) (omega arith)))
+    let w = read_long 8 a.at l.loop.i a.source.now l.loop.bytes s.requires.1 l.loop.invariant.1 in
+    (omega arith, simp length-set (omega arith), m.loop2.invariant.2, rw m.loop2.invariant.3 (write_more a.at m.loop2.j l.loop.bytes a.part.now (omega arith) (omega arith)))
 
 same_length : tie.Need-same-length invariant-loop decreases-loop invariant-loop2 decreases-loop2
 same_length c = omega arith

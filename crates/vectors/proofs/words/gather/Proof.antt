@@ -3,28 +3,28 @@ use borrow.Author.Rules.{rules}
 use native.Mathlib.Omega.{arith}
 use Prim.Native.Nat.{◌+◌, ◌-◌, ◌≤◌, ◌<◌}
 use lib.ListN.{length}
-use Rattle.vectors.specs.ByteLaws.{copied-back}
-use Rattle.vectors.specs.Words.{vectorFrom}
-use Rattle.vectors.specs.WordLaws.{vector-wide}
-use Rattle.vectors.proofs.Moving.{Gathered, gather-fits, gather-step, gather-end, gather-start, copies_of}
+use Rattle.vectors.specs.ByteLaws.{copied_back}
+use Rattle.vectors.specs.Words.{vector_from}
+use Rattle.vectors.specs.WordLaws.{vector_wide}
+use Rattle.vectors.proofs.Moving.{Gathered, gather_fits, gather_step, gather_end, gather_start, copies_of}
 use Rattle.vectors.proofs.words.gather.Statement.{statement}
 use Rattle.vectors.proofs.words.gather.Tie as tie
 
 abbrev invariant-loop : tie.invariant-loop
-invariant-loop words «data» slice₀ n filled₀ i₀ slice filled i = Gathered (vectorFrom words) «data» slice filled i
+invariant-loop words «data» slice₀ n filled₀ i₀ slice filled i = Gathered (vector_from words) «data» slice filled i
 
 abbrev decreases-loop : tie.decreases-loop
 decreases-loop words «data» slice₀ n filled₀ i₀ slice filled i = n - i
 
 -- what the segment read fits in
 fits : (c : tie.After-segment-at invariant-loop decreases-loop) → (c.segment-at.result.start + c.segment-at.result.length ≤ length c.before.before.before.before.before.before.args.«data».now) × (c.before.before.loop.filled + c.segment-at.result.length ≤ length c.before.before.loop.slice) × (length c.before.before.loop.slice ≤ 1048576) × (c.before.before.loop.i < 16)
-fits c = rw c.segment-at.ensures (gather-fits _ _ _ _ _ c.before.before.loop.invariant (rw c.before.before.before.buffer-count.ensures at c.before.loop-test.true))
+fits c = rw c.segment-at.ensures (gather_fits _ _ _ _ _ c.before.before.loop.invariant (rw c.before.before.before.buffer-count.ensures at c.before.loop-test.true))
 
 buffer-count-requires : tie.Need-buffer-count-requires invariant-loop decreases-loop
 buffer-count-requires c κs = search rules
 
 loop-holds : tie.Need-loop-init invariant-loop decreases-loop
-loop-holds c = gather-start _ _ _ (vector-wide _) c.before.before.before.requires
+loop-holds c = gather_start _ _ _ (vector_wide _) c.before.before.before.requires
 
 segment-at-requires : tie.Need-segment-at-requires invariant-loop decreases-loop
 segment-at-requires c κs = search rules
@@ -67,14 +67,14 @@ loop-again c = let l = c.before.before.before.before.before.before.before.before
     let a = c.before.before.before.before.before.before.before.before.before.before.before.before.before.args in
     let p = c.before.before.before.before.before.before.before.segment-at.result in
     let f = fits c.before.before.before.before.before.before.before in
-    rw (copied-back l.slice a.«data».now l.filled p.length p.start c.before.before.copy-bytes.new.0 (omega arith) (omega arith) c.before.before.copy-bytes.ensures, c.before.before.before.before.before.before.before.segment-at.ensures)
-    (gather-step _ _ _ _ _ l.invariant (rw c.before.before.before.before.before.before.before.before.before.before.buffer-count.ensures at c.before.before.before.before.before.before.before.before.loop-test.true))
+    rw (copied_back l.slice a.«data».now l.filled p.length p.start c.before.before.copy-bytes.new.0 (omega arith) (omega arith) c.before.before.copy-bytes.ensures, c.before.before.before.before.before.before.before.segment-at.ensures)
+    (gather_step _ _ _ _ _ l.invariant (rw c.before.before.before.before.before.before.before.before.before.before.buffer-count.ensures at c.before.before.before.before.before.before.before.before.loop-test.true))
 
 same_length : tie.Need-same-length invariant-loop decreases-loop
 same_length c = omega (arith, c.before.loop.invariant.long, (copies_of _ _ _ c.before.before.before.before.before.requires).1)
 
 returns : tie.Need-returns invariant-loop decreases-loop
-returns c = gather-end _ _ _ _ _ c.before.loop.invariant (rw c.before.before.buffer-count.ensures at c.loop-test.false)
+returns c = gather_end _ _ _ _ _ c.before.loop.invariant (rw c.before.before.buffer-count.ensures at c.loop-test.false)
 
 pub gather-spec : {M : Type 1} → statement M
 gather-spec =

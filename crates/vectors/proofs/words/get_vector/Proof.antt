@@ -2,21 +2,21 @@
 use Prim.Native.Nat.{◌≤◌, ◌-◌}
 use mathlib.Core.Path.{refl, sym}
 use borrow.Author.Rules.{rules}
-use Rattle.arithmetic.specs.Loops.{Like, like-more, like-all}
+use Rattle.arithmetic.specs.Loops.{Like, like_more, like_all}
 use Rattle.vectors.specs.Vectors.{none}
-use Rattle.vectors.specs.Words.{vectorFrom}
-use Rattle.vectors.specs.WordLaws.{vector-wide}
+use Rattle.vectors.specs.Words.{vector_from}
+use Rattle.vectors.specs.WordLaws.{vector_wide}
 use Rattle.vectors.proofs.words.get_vector.Statement.{statement}
 use Rattle.vectors.proofs.words.get_vector.Tie as tie
 
 abbrev invariant-loop : tie.invariant-loop
-invariant-loop words segments₀ i₀ segments i = (i ≤ 16) × (Like (vectorFrom words).segments segments i)
+invariant-loop words segments₀ i₀ segments i = (i ≤ 16) × (Like (vector_from words).segments segments i)
 
 abbrev decreases-loop : tie.decreases-loop
 decreases-loop words segments₀ i₀ segments i = 16 - i
 
 loop-holds : tie.Need-loop-init invariant-loop decreases-loop
-loop-holds c = (search rules, (sym (vector-wide _), refl))
+loop-holds c = (search rules, (sym (vector_wide _), refl))
 
 segment-at-requires : tie.Need-segment-at-requires invariant-loop decreases-loop
 segment-at-requires c κs = search rules
@@ -36,7 +36,7 @@ loop-less c = search rules
 loop-again : tie.Need-loop-preserved invariant-loop decreases-loop
 loop-again c = let l = c.before.before.loop in
     let w = c.before.before.before.args.words.now in
-    (search rules, like-more _ _ l.i _ _ none refl (rw (vector-wide w) (search rules)) l.invariant.1 c.segment-at.ensures)
+    (search rules, like_more _ _ l.i _ _ none refl (rw (vector_wide w) (search rules)) l.invariant.1 c.segment-at.ensures)
 
 buffer-count-requires : tie.Need-buffer-count-requires invariant-loop decreases-loop
 buffer-count-requires c κs = search rules
@@ -47,7 +47,7 @@ len-requires c κs = search rules
 returns : tie.Need-returns invariant-loop decreases-loop
 returns c = let w = c.before.before.before.before.args.words.now in
     let l = c.before.before.before.loop in
-    rw (c.before.buffer-count.ensures, c.len.ensures, like-all (vectorFrom w).segments l.segments l.i (rw (vector-wide w) (search rules)) l.invariant.1)
+    rw (c.before.buffer-count.ensures, c.len.ensures, like_all (vector_from w).segments l.segments l.i (rw (vector_wide w) (search rules)) l.invariant.1)
 
 pub get-vector-spec : {M : Type 1} → statement M
 get-vector-spec =

@@ -3,15 +3,15 @@ use borrow.Author.Rules.{rules}
 use native.Mathlib.Omega.{arith}
 use mathlib.Core.Path.{sym, ◌∙◌}
 use Prim.Native.Nat.{◌-◌}
-use Rattle.vectors.specs.Vectors.{segmentsOf, shares, anySegment, overlapOf}
-use Rattle.vectors.specs.Words.{vectorFrom}
-use Rattle.vectors.specs.WordLaws.{vector-wide}
-use Rattle.vectors.proofs.Testing.{Sought, overlap-start, sought-here, sought-next, sought-end}
+use Rattle.vectors.specs.Vectors.{segments_of, shares, any_segment, overlap_of}
+use Rattle.vectors.specs.Words.{vector_from}
+use Rattle.vectors.specs.WordLaws.{vector_wide}
+use Rattle.vectors.proofs.Testing.{Sought, overlap_start, sought_here, sought_next, sought_end}
 use Rattle.vectors.proofs.words.overlaps.Statement.{statement}
 use Rattle.vectors.proofs.words.overlaps.Tie as tie
 
 abbrev invariant-loop : tie.invariant-loop
-invariant-loop v w n i₀ i = Sought (vectorFrom v) (λ p. anySegment (shares p) (segmentsOf (vectorFrom w))) (overlapOf (segmentsOf (vectorFrom v)) (segmentsOf (vectorFrom w))) n i
+invariant-loop v w n i₀ i = Sought (vector_from v) (λ p. any_segment (shares p) (segments_of (vector_from w))) (overlap_of (segments_of (vector_from v)) (segments_of (vector_from w))) n i
 
 abbrev decreases-loop : tie.decreases-loop
 decreases-loop v w n i₀ i = n - i
@@ -20,7 +20,7 @@ used-count-requires : tie.Need-used-count-requires invariant-loop decreases-loop
 used-count-requires c κs = search rules
 
 loop-holds : tie.Need-loop-init invariant-loop decreases-loop
-loop-holds c = overlap-start _ (vectorFrom c.before.args.w.now) _ (vector-wide _) c.used-count.ensures
+loop-holds c = overlap_start _ (vector_from c.before.args.w.now) _ (vector_wide _) c.used-count.ensures
 
 segment-at-requires : tie.Need-segment-at-requires invariant-loop decreases-loop
 segment-at-requires c κs = search rules
@@ -29,7 +29,7 @@ shares-from-requires : tie.Need-shares-from-requires invariant-loop decreases-lo
 shares-from-requires c κs = search rules
 
 returns : tie.Need-returns invariant-loop decreases-loop
-returns c = sought-here _ _ _ _ _ c.before.before.before.before.loop.invariant c.before.before.before.loop-test.true (rw c.before.before.segment-at.ensures at (sym c.before.shares-from.ensures ∙ c.if1.true))
+returns c = sought_here _ _ _ _ _ c.before.before.before.before.loop.invariant c.before.before.before.loop-test.true (rw c.before.before.segment-at.ensures at (sym c.before.shares-from.ensures ∙ c.if1.true))
 
 add-i : tie.Need-overflow-add-i invariant-loop decreases-loop
 add-i c = omega (arith, c.before.before.before.loop-test.true, c.before.before.before.before.loop.invariant.most)
@@ -38,10 +38,10 @@ loop-less : tie.Need-loop-smaller invariant-loop decreases-loop
 loop-less c = omega (arith, c.before.before.before.loop-test.true)
 
 loop-again : tie.Need-loop-preserved invariant-loop decreases-loop
-loop-again c = sought-next _ _ _ _ _ c.before.before.before.before.loop.invariant c.before.before.before.loop-test.true (rw c.before.before.segment-at.ensures at (sym c.before.shares-from.ensures ∙ c.if1.false))
+loop-again c = sought_next _ _ _ _ _ c.before.before.before.before.loop.invariant c.before.before.before.loop-test.true (rw c.before.before.segment-at.ensures at (sym c.before.shares-from.ensures ∙ c.if1.false))
 
 returns-2 : tie.Need-returns-2 invariant-loop decreases-loop
-returns-2 c = sought-end _ _ _ _ _ c.before.loop.invariant c.loop-test.false
+returns-2 c = sought_end _ _ _ _ _ c.before.loop.invariant c.loop-test.false
 
 pub overlaps-spec : {M : Type 1} → statement M
 overlaps-spec =

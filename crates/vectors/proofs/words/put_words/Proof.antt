@@ -4,14 +4,14 @@ use native.Mathlib.Omega.{arith}
 use Prim.Native.Nat.{◌+◌, ◌*◌, ◌≤◌, ◌-◌}
 use mathlib.Core.Path.{◌≡◌, refl, sym, ◌∙◌}
 use lib.ListN.{length, set, length-set}
-use Rattle.arithmetic.specs.Loops.{array_long, Like, like-more, like-all}
-use Rattle.vectors.specs.Words.{vectorWords}
-use Rattle.vectors.specs.WordLaws.{vector-width, vector-start, vector-length}
+use Rattle.arithmetic.specs.Loops.{array_long, Like, like_more, like_all}
+use Rattle.vectors.specs.Words.{vector_words}
+use Rattle.vectors.specs.WordLaws.{vector_width, vector_start, vector_length}
 use Rattle.vectors.proofs.words.put_words.Statement.{statement}
 use Rattle.vectors.proofs.words.put_words.Tie as tie
 
 abbrev invariant-loop : tie.invariant-loop
-invariant-loop words₀ v i₀ words i = (i ≤ 16) × (length (vectorWords v) ≡ 34) × (Like (vectorWords v) words (2 + 2 * i))
+invariant-loop words₀ v i₀ words i = (i ≤ 16) × (length (vector_words v) ≡ 34) × (Like (vector_words v) words (2 + 2 * i))
 
 abbrev decreases-loop : tie.decreases-loop
 decreases-loop words₀ v i₀ words i = 16 - i
@@ -30,9 +30,9 @@ loop-holds c = let s = c.before.before in
     let w = s.args.words.now in
     let v = s.args.t2 in
     let m : length v.segments ≡ 16 = search (rules, array_long) in
-    let k = vector-width v m in
-    let one = like-more (vectorWords v) w 0 1 c.size_word.result 0 refl (omega arith) (s.requires ∙ sym k, refl) c.size_word.ensures in
-    (search rules, k, like-more (vectorWords v) (set w 0 c.size_word.result) 1 2 v.total 0 refl (omega arith) one refl)
+    let k = vector_width v m in
+    let one = like_more (vector_words v) w 0 1 c.size_word.result 0 refl (omega arith) (s.requires ∙ sym k, refl) c.size_word.ensures in
+    (search rules, k, like_more (vector_words v) (set w 0 c.size_word.result) 1 2 v.total 0 refl (omega arith) one refl)
 
 mul-s : tie.Need-overflow-mul-s invariant-loop decreases-loop
 mul-s c = search rules
@@ -80,14 +80,14 @@ loop-again : tie.Need-loop-preserved invariant-loop decreases-loop
 loop-again c = let l = c.before.before.before.before.loop in
     let v = c.before.before.before.before.before.before.before.args.t2 in
     let i = l.i in
-    let first = like-more (vectorWords v) l.words (2 + 2 * i) (3 + 2 * i) c.before.size-word2.result 0 (omega arith) (search rules) l.invariant.2 (c.before.size-word2.ensures ∙ vector-start v i) in
-    (search rules, l.invariant.1, like-more (vectorWords v) _ (3 + 2 * i) (2 + 2 * (i + 1)) c.size-word3.result 0 (omega arith) (search rules) first (c.size-word3.ensures ∙ vector-length v i))
+    let first = like_more (vector_words v) l.words (2 + 2 * i) (3 + 2 * i) c.before.size-word2.result 0 (omega arith) (search rules) l.invariant.2 (c.before.size-word2.ensures ∙ vector_start v i) in
+    (search rules, l.invariant.1, like_more (vector_words v) _ (3 + 2 * i) (2 + 2 * (i + 1)) c.size-word3.result 0 (omega arith) (search rules) first (c.size-word3.ensures ∙ vector_length v i))
 
 same_length : tie.Need-same-length invariant-loop decreases-loop
 same_length c = c.before.loop.invariant.2.0 ∙ c.before.loop.invariant.1 ∙ sym c.before.before.before.before.requires
 
 returns : tie.Need-returns invariant-loop decreases-loop
-returns c = like-all (vectorWords c.before.before.before.before.args.t2) c.before.loop.words (2 + 2 * c.before.loop.i) (omega arith) c.before.loop.invariant.2
+returns c = like_all (vector_words c.before.before.before.before.args.t2) c.before.loop.words (2 + 2 * c.before.loop.i) (omega arith) c.before.loop.invariant.2
 
 pub put-words-spec : {M : Type 1} → statement M
 put-words-spec =

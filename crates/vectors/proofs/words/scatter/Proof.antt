@@ -3,28 +3,28 @@ use borrow.Author.Rules.{rules}
 use native.Mathlib.Omega.{arith}
 use Prim.Native.Nat.{◌+◌, ◌-◌, ◌≤◌, ◌<◌}
 use lib.ListN.{length}
-use Rattle.vectors.specs.ByteLaws.{copied-back}
-use Rattle.vectors.specs.Words.{vectorFrom}
-use Rattle.vectors.specs.WordLaws.{vector-wide}
-use Rattle.vectors.proofs.Moving.{Scattered, scatter-fits, scatter-step, scatter-end, scatter-start}
+use Rattle.vectors.specs.ByteLaws.{copied_back}
+use Rattle.vectors.specs.Words.{vector_from}
+use Rattle.vectors.specs.WordLaws.{vector_wide}
+use Rattle.vectors.proofs.Moving.{Scattered, scatter_fits, scatter_step, scatter_end, scatter_start}
 use Rattle.vectors.proofs.words.scatter.Statement.{statement}
 use Rattle.vectors.proofs.words.scatter.Tie as tie
 
 abbrev invariant-loop : tie.invariant-loop
-invariant-loop words data₀ slice n taken₀ i₀ «data» taken i = Scattered (vectorFrom words) data₀ slice «data» taken i
+invariant-loop words data₀ slice n taken₀ i₀ «data» taken i = Scattered (vector_from words) data₀ slice «data» taken i
 
 abbrev decreases-loop : tie.decreases-loop
 decreases-loop words data₀ slice n taken₀ i₀ «data» taken i = n - i
 
 -- what the segment read fits in
 fits : (c : tie.After-segment-at invariant-loop decreases-loop) → (c.segment-at.result.start + c.segment-at.result.length ≤ length c.before.before.loop.«data») × (c.before.before.loop.taken + c.segment-at.result.length ≤ length c.before.before.before.before.before.before.args.slice.now) × (length c.before.before.before.before.before.before.args.slice.now ≤ 1048576) × (c.before.before.loop.i < 16)
-fits c = rw c.segment-at.ensures (scatter-fits _ _ _ _ _ _ c.before.before.loop.invariant (rw c.before.before.before.buffer-count.ensures at c.before.loop-test.true))
+fits c = rw c.segment-at.ensures (scatter_fits _ _ _ _ _ _ c.before.before.loop.invariant (rw c.before.before.before.buffer-count.ensures at c.before.loop-test.true))
 
 buffer-count-requires : tie.Need-buffer-count-requires invariant-loop decreases-loop
 buffer-count-requires c κs = search rules
 
 loop-holds : tie.Need-loop-init invariant-loop decreases-loop
-loop-holds c = scatter-start _ _ _ (vector-wide _) c.before.before.before.requires
+loop-holds c = scatter_start _ _ _ (vector_wide _) c.before.before.before.requires
 
 segment-at-requires : tie.Need-segment-at-requires invariant-loop decreases-loop
 segment-at-requires c κs = search rules
@@ -67,14 +67,14 @@ loop-again c = let l = c.before.before.before.before.before.before.before.before
     let a = c.before.before.before.before.before.before.before.before.before.before.before.before.before.args in
     let p = c.before.before.before.before.before.before.before.segment-at.result in
     let f = fits c.before.before.before.before.before.before.before in
-    rw (copied-back l.«data» a.slice.now p.start p.length l.taken c.before.before.copy-bytes.new.0 (omega arith) (omega arith) c.before.before.copy-bytes.ensures, c.before.before.before.before.before.before.before.segment-at.ensures)
-    (scatter-step _ _ _ _ _ _ l.invariant (rw c.before.before.before.before.before.before.before.before.before.before.buffer-count.ensures at c.before.before.before.before.before.before.before.before.loop-test.true))
+    rw (copied_back l.«data» a.slice.now p.start p.length l.taken c.before.before.copy-bytes.new.0 (omega arith) (omega arith) c.before.before.copy-bytes.ensures, c.before.before.before.before.before.before.before.segment-at.ensures)
+    (scatter_step _ _ _ _ _ _ l.invariant (rw c.before.before.before.before.before.before.before.before.before.before.buffer-count.ensures at c.before.before.before.before.before.before.before.before.loop-test.true))
 
 same_length : tie.Need-same-length invariant-loop decreases-loop
 same_length c = omega (arith, c.before.loop.invariant.keeps)
 
 returns : tie.Need-returns invariant-loop decreases-loop
-returns c = scatter-end _ _ _ _ _ _ c.before.loop.invariant (rw c.before.before.buffer-count.ensures at c.loop-test.false)
+returns c = scatter_end _ _ _ _ _ _ c.before.loop.invariant (rw c.before.before.buffer-count.ensures at c.loop-test.false)
 
 pub scatter-spec : {M : Type 1} → statement M
 scatter-spec =

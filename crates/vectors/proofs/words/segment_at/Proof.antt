@@ -5,8 +5,8 @@ use lib.ListN.{length, get_or-eq_default}
 use native.Mathlib.Omega.{arith}
 use borrow.Author.Rules.{rules}
 use Rattle.vectors.specs.Vectors.{none}
-use Rattle.vectors.specs.Words.{vectorFrom}
-use Rattle.vectors.specs.WordLaws.{segment-words, vector-wide}
+use Rattle.vectors.specs.Words.{vector_from}
+use Rattle.vectors.specs.WordLaws.{segment_words_lem, vector_wide}
 use Rattle.vectors.proofs.words.segment_at.Statement.{statement}
 use Rattle.vectors.proofs.words.segment_at.Tie as tie
 
@@ -41,12 +41,12 @@ size-of-requires-2 : tie.Need-size-of-requires-2
 size-of-requires-2 c κs = search rules
 
 returns : tie.Need-returns
-returns c = rw (c.before.before.type_size.ensures, c.size-of2.ensures) (segment-words c.before.before.before.before.before.args.words.now c.before.before.before.before.before.args.i c.before.before.before.before.if1.true)
+returns c = rw (c.before.before.type_size.ensures, c.size-of2.ensures) (segment_words_lem c.before.before.before.before.before.args.words.now c.before.before.before.before.before.args.i c.before.before.before.before.if1.true)
 
 returns-2 : tie.Need-returns-2
 returns-2 c = let w = c.before.args.words.now in
-    let h : length (vectorFrom w).segments ≤ c.before.args.i = omega (arith, vector-wide w) in
-    sym (get_or-eq_default (vectorFrom w).segments none h)
+    let h : length (vector_from w).segments ≤ c.before.args.i = omega (arith, vector_wide w) in
+    sym (get_or-eq_default (vector_from w).segments none h)
 
 pub segment-at-spec : {M : Type 1} → statement M
 segment-at-spec =

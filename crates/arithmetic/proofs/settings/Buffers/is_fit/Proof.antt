@@ -1,6 +1,6 @@
 -- `arithmetic::settings::Buffers::is_fit` meets its contract: settings that fit bound the shares. Assumes nothing.
 use native.Mathlib.Omega.{arith}
-use Rattle.arithmetic.specs.Settings.{buffersFit}
+use Rattle.arithmetic.specs.Settings.{buffers_fit}
 use Rattle.arithmetic.specs.SettingsLaws.{accepted}
 use borrow.Author.Rules.{rules}
 use Rattle.arithmetic.proofs.settings.Buffers.is_fit.Statement.{statement}
@@ -19,7 +19,7 @@ mul-result : tie.Need-overflow-mul-result
 mul-result c = let a = c.before.before.before.before.before.before.before in omega (arith, (accepted a.args.s a.requires).most)
 
 returns : tie.Need-returns
-unfolding buffersFit
+unfolding buffers_fit
 returns c = let m = c.before.before in
     let b = m.before in
     simp (b.before.has-end.ensures, b.has-end2.ensures, m.is-multiple.ensures)

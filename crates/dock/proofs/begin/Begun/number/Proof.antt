@@ -1,7 +1,7 @@
 -- `dock::begin::Begun::number` meets its contract: each arm's number is its case of the definition. Assumes nothing.
 use mathlib.Core.Path.{sym, ap, ◌∙◌}
 use borrow.Author.Rules.{rules}
-use Rattle.dock.specs.Numbers.{begunPaper}
+use Rattle.dock.specs.Numbers.{begun_paper}
 use Rattle.dock.specs.declared.begin.Begun.{Begun}
 use Rattle.dock.specs.declared.numbers.Number.TheVariants.{Of}
 use Rattle.dock.proofs.begin.Begun.number.Statement.{statement}
@@ -26,7 +26,7 @@ returns-2 : tie.Need-returns-2
 returns-2 c = search rules
 
 returns-3 : tie.Need-returns-3
-returns-3 c = ap Of c.number.ensures ∙ sym (ap (λ (a : Begun). (begunPaper a).number) c.before.before.self.given.1)
+returns-3 c = ap Of c.number.ensures ∙ sym (ap (λ (a : Begun). (begun_paper a).number) c.before.before.self.given.1)
 
 pub number-spec : {M : Type 1} → statement M
 number-spec =

@@ -5,42 +5,42 @@ use mathlib.Core.Bool.{true, false}
 use mathlib.Core.List.{[]}
 use Prim.Native.Nat.{ℕ, ◌<◌, ◌≤◌}
 use Rattle.arithmetic.specs.declared.refusals.Refusal.TheVariants.{Buffer, Slot}
-use Rattle.vectors.specs.Vectors.{vectorOf}
+use Rattle.vectors.specs.Vectors.{vector_of}
 use Rattle.vectors.specs.declared.vector.IoVector.{IoVector}
-use Rattle.stages.specs.Stages.{hasEnded}
+use Rattle.stages.specs.Stages.{has_ended}
 use Rattle.stages.specs.declared.state.State.{State}
-use Rattle.dock.specs.Begin.{withJob}
+use Rattle.dock.specs.Begin.{with_job}
 use Rattle.dock.specs.declared.dock.Dock.{Dock}
 use Rattle.dock.specs.declared.tell.Collected.TheVariants.{Final, Refused}
 use Rattle.dock.specs.declared.tell.Collects.{Collects}
 use lib.ListN.{length}
-use Rattle.dock.specs.Dock.{lentFits, stateAt, vacant}
-use Rattle.dock.specs.Tell.{collectOf}
+use Rattle.dock.specs.Dock.{lent_fits, state_at, vacant}
+use Rattle.dock.specs.Tell.{collect_of}
 use borrow.Author.Rules.{rules}
 use Rattle.dock.proofs.dock.Dock.collect.Statement.{statement}
 use Rattle.dock.proofs.dock.Dock.collect.Tie as tie
 
 -- what a collect answers: 205, 208 for a slot past the eight and for a job that has not ended, else the answer
 module _ (d : Dock) (p m n : ℕ) where
-  unlent : lentFits d.buffers m n ≡ false → ◌≡◌ {A = Collects} (record { dock = d; answer = Refused Buffer }) (collectOf d p m n)
-  unfolding collectOf
+  unlent : lent_fits d.buffers m n ≡ false → ◌≡◌ {A = Collects} (record { dock = d; answer = Refused Buffer }) (collect_of d p m n)
+  unfolding collect_of
   unlent f = simp f
 
-  module _ (f : lentFits d.buffers m n ≡ true) where
-    no_slot : 8 ≤ p → ◌≡◌ {A = Collects} (record { dock = d; answer = Refused Slot }) (collectOf d p m n)
-    unfolding collectOf
+  module _ (f : lent_fits d.buffers m n ≡ true) where
+    no_slot : 8 ≤ p → ◌≡◌ {A = Collects} (record { dock = d; answer = Refused Slot }) (collect_of d p m n)
+    unfolding collect_of
     no_slot h = simp (f, le-ltb p 8 h)
 
-    not-ended : p < 8 → hasEnded (stateAt d p).phase ≡ false → ◌≡◌ {A = Collects} (record { dock = d; answer = Refused Slot }) (collectOf d p m n)
-    unfolding collectOf
+    not-ended : p < 8 → has_ended (state_at d p).phase ≡ false → ◌≡◌ {A = Collects} (record { dock = d; answer = Refused Slot }) (collect_of d p m n)
+    unfolding collect_of
     not-ended h e = simp (f, lt-ltb p 8 h, e)
 
-    collected : (x : State) (v : IoVector) → p < 8 → hasEnded (stateAt d p).phase ≡ true → x ≡ vacant → v ≡ vectorOf [] → ◌≡◌ {A = Collects} (record { dock = withJob d p d.blockers x v; answer = Final (stateAt d p).answer }) (collectOf d p m n)
-    unfolding collectOf
+    collected : (x : State) (v : IoVector) → p < 8 → has_ended (state_at d p).phase ≡ true → x ≡ vacant → v ≡ vector_of [] → ◌≡◌ {A = Collects} (record { dock = with_job d p d.blockers x v; answer = Final (state_at d p).answer }) (collect_of d p m n)
+    unfolding collect_of
     collected x v h e i j = simp (f, lt-ltb p 8 h, e, i, j)
 
 -- past the first test the lent buffers have their lengths of opening
-fit_is : (c : tie.Else1) → lentFits c.before.before.before.before.before.args.t1.buffers (length c.before.before.before.before.before.args.«data».now) (length c.before.before.before.before.before.args.scratch.now) ≡ true
+fit_is : (c : tie.Else1) → lent_fits c.before.before.before.before.before.args.t1.buffers (length c.before.before.before.before.before.args.«data».now) (length c.before.before.before.before.before.args.scratch.now) ≡ true
 fit_is c = sym c.before.lent-fits.ensures ∙ not-false _ c.if1.false
 
 lent-fits-requires : tie.Need-lent-fits-requires

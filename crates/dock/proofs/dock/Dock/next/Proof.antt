@@ -3,24 +3,24 @@ use borrow.Author.Tests.{not-true, not-false, lt-ltb, le-ltb}
 use mathlib.Core.Path.{◌≡◌, sym, ap, ◌∙◌}
 use mathlib.Core.Bool.{Bool, true}
 use Prim.Native.Nat.{ℕ, ◌<◌}
-use Rattle.blockers.specs.Blockers.{waitsOf}
+use Rattle.blockers.specs.Blockers.{waits_of}
 use Rattle.dock.specs.declared.dock.Dock.{Dock}
 use lib.ListN.{length}
-use Rattle.dock.specs.Dock.{lentFits, stateAt, vectorAt}
-use Rattle.dock.specs.Next.{dueIn, next_of}
+use Rattle.dock.specs.Dock.{lent_fits, state_at, vector_at}
+use Rattle.dock.specs.Next.{due_in, next_of}
 use Rattle.dock.specs.declared.next.Due.{Due}
 use borrow.Author.Rules.{rules}
 use Rattle.dock.proofs.dock.Dock.next.Statement.{statement}
 use Rattle.dock.proofs.dock.Dock.next.Tie as tie
 
 -- what is due, where the lent buffers fit and the slot is one of the eight
-module _ (d : Dock) (p m n : ℕ) (f : lentFits d.buffers m n ≡ true) (h : p < 8) where
-  due-there : {r : Due} {w : Bool} → w ≡ waitsOf p d.blockers → r ≡ dueIn (stateAt d p) w (vectorAt d p).count → r ≡ next_of d p m n
+module _ (d : Dock) (p m n : ℕ) (f : lent_fits d.buffers m n ≡ true) (h : p < 8) where
+  due-there : {r : Due} {w : Bool} → w ≡ waits_of p d.blockers → r ≡ due_in (state_at d p) w (vector_at d p).count → r ≡ next_of d p m n
   unfolding next_of
-  due-there w e = simp (f, lt-ltb p 8 h) (e ∙ ap (λ (t : Bool). dueIn (stateAt d p) t (vectorAt d p).count) w)
+  due-there w e = simp (f, lt-ltb p 8 h) (e ∙ ap (λ (t : Bool). due_in (state_at d p) t (vector_at d p).count) w)
 
 -- past the first test the lent buffers have their lengths of opening
-fit_is : (c : tie.Else1) → lentFits c.before.before.before.before.before.args.t1.buffers (length c.before.before.before.before.before.args.«data».now) (length c.before.before.before.before.before.args.scratch.now) ≡ true
+fit_is : (c : tie.Else1) → lent_fits c.before.before.before.before.before.args.t1.buffers (length c.before.before.before.before.before.args.«data».now) (length c.before.before.before.before.before.args.scratch.now) ≡ true
 fit_is c = sym c.before.lent-fits.ensures ∙ not-false _ c.if1.false
 
 lent-fits-requires : tie.Need-lent-fits-requires

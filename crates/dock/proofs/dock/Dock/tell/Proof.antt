@@ -1,7 +1,7 @@
 -- `dock::dock::Dock::tell` meets its contract: 205, then 208 past the last slot, then what the slot's tell leaves, stored where it is done. Assumes nothing.
 use mathlib.Core.Path.{sym, ◌∙◌}
 use borrow.Author.Tests.{not-true, not-false}
-use Rattle.dock.proofs.Steps.{tell-buffer, tell-slot, tell-refused, tell-stored}
+use Rattle.dock.proofs.Steps.{tell_buffer, tell_slot, tell_refused, tell_stored}
 use borrow.Author.Rules.{rules}
 use Rattle.dock.proofs.dock.Dock.tell.Statement.{statement}
 use Rattle.dock.proofs.dock.Dock.tell.Tie as tie
@@ -10,10 +10,10 @@ lent-fits-requires : tie.Need-lent-fits-requires
 lent-fits-requires c κs = search rules
 
 returns : tie.Need-returns
-returns c = let a = c.before.before.before.before.before.before.args in tell-buffer a.t1 a.slot a.code a.«data».now a.scratch.now (sym c.before.lent-fits.ensures ∙ not-true _ c.if1.true)
+returns c = let a = c.before.before.before.before.before.before.args in tell_buffer a.t1 a.slot a.code a.«data».now a.scratch.now (sym c.before.lent-fits.ensures ∙ not-true _ c.if1.true)
 
 returns-2 : tie.Need-returns-2
-returns-2 c = let a = c.before.before.before.before.before.before.before.args in tell-slot a.t1 a.slot a.code a.«data».now a.scratch.now (sym c.before.before.lent-fits.ensures ∙ not-false _ c.before.if1.false) c.if2.true
+returns-2 c = let a = c.before.before.before.before.before.before.before.args in tell_slot a.t1 a.slot a.code a.«data».now a.scratch.now (sym c.before.before.lent-fits.ensures ∙ not-false _ c.before.if1.false) c.if2.true
 
 mul-x : tie.Need-overflow-mul-x
 mul-x c = search rules
@@ -43,7 +43,7 @@ same-length-2 : tie.Need-same-length-2
 same-length-2 c = search rules
 
 returns-3 : tie.Need-returns-3
-returns-3 c = let a = c.before.before.before.before.before.before.before.before.before.before.before.before.before.before.before.before.before.before.before.args in tell-refused a.t1 a.slot a.code a.«data».now a.scratch.now (sym c.before.before.before.before.before.before.before.before.before.before.before.before.before.before.lent-fits.ensures ∙ not-false _ c.before.before.before.before.before.before.before.before.before.before.before.before.before.if1.false) (search rules) _ _ _ c.before.before.before.before.before.before.tell-slot.ensures _ c.enum-told2.given.1
+returns-3 c = let a = c.before.before.before.before.before.before.before.before.before.before.before.before.before.before.before.before.before.before.before.args in tell_refused a.t1 a.slot a.code a.«data».now a.scratch.now (sym c.before.before.before.before.before.before.before.before.before.before.before.before.before.before.lent-fits.ensures ∙ not-false _ c.before.before.before.before.before.before.before.before.before.before.before.before.before.if1.false) (search rules) _ _ _ c.before.before.before.before.before.before.tell_slot.ensures _ c.enum-told2.given.1
 
 mul-state : tie.Need-overflow-mul-state
 mul-state c = search rules
@@ -58,7 +58,7 @@ same-length-4 : tie.Need-same-length-4
 same-length-4 c = search rules
 
 returns-4 : tie.Need-returns-4
-returns-4 c = let a = c.before.before.before.before.before.before.before.before.before.before.before.before.before.before.before.before.before.before.before.before.before.args in tell-stored a.t1 a.slot a.code a.«data».now a.scratch.now (sym c.before.before.before.before.before.before.before.before.before.before.before.before.before.before.before.before.lent-fits.ensures ∙ not-false _ c.before.before.before.before.before.before.before.before.before.before.before.before.before.before.before.if1.false) (search rules) _ _ _ c.before.before.before.before.before.before.before.before.tell-slot.ensures c.before.before.enum_told.given.1
+returns-4 c = let a = c.before.before.before.before.before.before.before.before.before.before.before.before.before.before.before.before.before.before.before.before.before.args in tell_stored a.t1 a.slot a.code a.«data».now a.scratch.now (sym c.before.before.before.before.before.before.before.before.before.before.before.before.before.before.before.before.lent-fits.ensures ∙ not-false _ c.before.before.before.before.before.before.before.before.before.before.before.before.before.before.before.if1.false) (search rules) _ _ _ c.before.before.before.before.before.before.before.before.tell_slot.ensures c.before.before.enum_told.given.1
 
 pub tell-spec : {M : Type 1} → statement M
 tell-spec =

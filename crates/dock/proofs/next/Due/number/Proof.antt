@@ -1,7 +1,7 @@
 -- `dock::next::Due::number` meets its contract: each arm's number is its case of the definition. Assumes nothing.
 use mathlib.Core.Path.{sym, ap, ◌∙◌}
 use borrow.Author.Rules.{rules}
-use Rattle.dock.specs.Numbers.{duePaper}
+use Rattle.dock.specs.Numbers.{due_paper}
 use Rattle.dock.specs.declared.next.Due.{Due}
 use Rattle.dock.specs.declared.numbers.Number.TheVariants.{Of}
 use Rattle.dock.proofs.next.Due.number.Statement.{statement}
@@ -29,10 +29,10 @@ returns-2 : tie.Need-returns-2
 returns-2 c = search rules
 
 returns-3 : tie.Need-returns-3
-returns-3 c = sym (ap (λ (a : Due). (duePaper a).number) c.before.self.given.1)
+returns-3 c = sym (ap (λ (a : Due). (due_paper a).number) c.before.self.given.1)
 
 returns-4 : tie.Need-returns-4
-returns-4 c = ap Of c.number.ensures ∙ sym (ap (λ (a : Due). (duePaper a).number) c.before.before.self2.given.1)
+returns-4 c = ap Of c.number.ensures ∙ sym (ap (λ (a : Due). (due_paper a).number) c.before.before.self2.given.1)
 
 pub number-spec : {M : Type 1} → statement M
 number-spec =

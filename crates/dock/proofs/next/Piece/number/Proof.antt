@@ -1,7 +1,7 @@
 -- `dock::next::Piece::number` meets its contract: each arm's number is its case of the definition. Assumes nothing.
 use mathlib.Core.Path.{sym, ap, ◌∙◌}
 use borrow.Author.Rules.{rules}
-use Rattle.dock.specs.Numbers.{piecePaper}
+use Rattle.dock.specs.Numbers.{piece_paper}
 use Rattle.dock.specs.declared.next.Piece.{Piece}
 use Rattle.dock.specs.declared.numbers.Number.TheVariants.{Of}
 use Rattle.dock.proofs.next.Piece.number.Statement.{statement}
@@ -26,7 +26,7 @@ returns-2 : tie.Need-returns-2
 returns-2 c = search rules
 
 returns-3 : tie.Need-returns-3
-returns-3 c = ap Of c.number.ensures ∙ sym (ap (λ (a : Piece). (piecePaper a).number) c.before.before.self.given.1)
+returns-3 c = ap Of c.number.ensures ∙ sym (ap (λ (a : Piece). (piece_paper a).number) c.before.before.self.given.1)
 
 pub number-spec : {M : Type 1} → statement M
 number-spec =

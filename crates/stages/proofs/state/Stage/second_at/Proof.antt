@@ -4,7 +4,7 @@ use Prim.Native.Nat.{ℕ, ◌-◌, ◌≤◌, ◌<◌}
 use native.Mathlib.Decide.{dec_lt}
 use native.Mathlib.Omega.{arith}
 use borrow.Author.Tests.{lt-leb}
-use Rattle.arithmetic.specs.Offsets.{bufferAt, inBufferOf, in-buffer-at}
+use Rattle.arithmetic.specs.Offsets.{buffer_at, in_buffer_of, in_buffer_at}
 use Rattle.arithmetic.specs.declared.refusals.Refusal.{Refusal}
 use Rattle.arithmetic.specs.declared.refusals.Refusal.TheVariants.{Overflow}
 use Rattle.arithmetic.specs.declared.offsets.StoreOffset.{StoreOffset}
@@ -15,21 +15,21 @@ use borrow.Author.Rules.{rules}
 use Rattle.stages.proofs.state.Stage.second_at.Statement.{statement}
 use Rattle.stages.proofs.state.Stage.second_at.Tie as tie
 
-before : (o start : StoreOffset) → o.0 < start.0 → inBufferOf o start ≡ Refused Overflow
-unfolding inBufferOf
+before : (o start : StoreOffset) → o.0 < start.0 → in_buffer_of o start ≡ Refused Overflow
+unfolding in_buffer_of
 before o start h = rw (lt-leb start.0 o.0 h)
 
-module _ (o start : StoreOffset) {x : InBuffer} (e : x ≡ inBufferOf o start) where
-  there : (b : BufferOffset) → x ≡ At b → b ≡ bufferAt (o.0 - start.0)
+module _ (o start : StoreOffset) {x : InBuffer} (e : x ≡ in_buffer_of o start) where
+  there : (b : BufferOffset) → x ≡ At b → b ≡ buffer_at (o.0 - start.0)
   there b f = elim (dec_lt o.0 start.0) [
     | yes h ↦ let g = before o start h in let z : ◌≡◌ {A = ℕ} 0 1 = cc in absurd (omega arith)
-    | no h ↦ let k : start.0 ≤ o.0 = omega arith in let g = in-buffer-at o start k in cc
+    | no h ↦ let k : start.0 ≤ o.0 = omega arith in let g = in_buffer_at o start k in cc
   ]
 
-  nowhere : (r : Refusal) → x ≡ Refused r → bufferAt 0 ≡ bufferAt (o.0 - start.0)
+  nowhere : (r : Refusal) → x ≡ Refused r → buffer_at 0 ≡ buffer_at (o.0 - start.0)
   nowhere r f = elim (dec_lt o.0 start.0) [
-    | yes h ↦ let z : 0 ≡ o.0 - start.0 = omega arith in ap bufferAt z
-    | no h ↦ let k : start.0 ≤ o.0 = omega arith in let g = in-buffer-at o start k in let z : ◌≡◌ {A = ℕ} 0 1 = cc in absurd (omega arith)
+    | yes h ↦ let z : 0 ≡ o.0 - start.0 = omega arith in ap buffer_at z
+    | no h ↦ let k : start.0 ≤ o.0 = omega arith in let g = in_buffer_at o start k in let z : ◌≡◌ {A = ℕ} 0 1 = cc in absurd (omega arith)
   ]
 
 in-buffer-requires : tie.Need-in-buffer-requires

@@ -7,7 +7,7 @@ use native.Mathlib.Omega.{arith}
 use types.Run.{OneOf}
 use denote.Enum.Declared.{declared, tag_of}
 use Rattle.arithmetic.specs.declared.settings.Settings.{Settings}
-use Rattle.stages.specs.Stages.{inPhase, endedWith, stageDone, doneNext}
+use Rattle.stages.specs.Stages.{in_phase, ended_with, stage_done, done_next}
 use Rattle.stages.specs.declared.state.Phase.{Phase}
 use Rattle.stages.specs.declared.state.Phase.TheVariants.{Free, Ended, DirectRead, BouncedRead, FirstRead, SecondRead, BouncedWrite, DirectWrite, ZeroRequest, DiscardRequest}
 use Rattle.stages.specs.declared.state.State.{State}
@@ -18,8 +18,8 @@ use Rattle.stages.proofs.state.State.done.Statement.{statement}
 use Rattle.stages.proofs.state.State.done.Tie as tie
 
 -- a state in the phase ph
-in-case : (s : Settings) (x : State) (ph : Phase) {t : Step} → x.phase ≡ ph → t ≡ doneNext ph s x → t ≡ doneNext x.phase s x
-in-case s x ph e q = q ∙ sym (ap (λ (p : Phase). doneNext p s x) e)
+in-case : (s : Settings) (x : State) (ph : Phase) {t : Step} → x.phase ≡ ph → t ≡ done_next ph s x → t ≡ done_next x.phase s x
+in-case s x ph e q = q ∙ sym (ap (λ (p : Phase). done_next p s x) e)
 
 -- the phases of a stage's last request, and those with which a job ends
 abbrev Last : ℕ → Type 0
@@ -28,7 +28,7 @@ Last n = OneOf (6 ∷ 8 ∷ []) n
 abbrev Only : ℕ → Type 0
 Only n = OneOf (0 ∷ 1 ∷ 2 ∷ 3 ∷ 7 ∷ 9 ∷ []) n
 
-lasts : (s : Settings) (x : State) (ph : Phase) → Last (tag_of (declared enum) ph) → stageDone x.course s x ≡ doneNext ph s x
+lasts : (s : Settings) (x : State) (ph : Phase) → Last (tag_of (declared enum) ph) → stage_done x.course s x ≡ done_next ph s x
 lasts s x Free k = absurd (⊎_elim (λ e. omega arith) (λ e. omega arith) k)
 lasts s x Ended k = absurd (⊎_elim (λ e. omega arith) (λ e. omega arith) k)
 lasts s x DirectRead k = absurd (⊎_elim (λ e. omega arith) (λ e. omega arith) k)
@@ -40,7 +40,7 @@ lasts s x DirectWrite k = absurd (⊎_elim (λ e. omega arith) (λ e. omega arit
 lasts s x ZeroRequest k = refl
 lasts s x DiscardRequest k = absurd (⊎_elim (λ e. omega arith) (λ e. omega arith) k)
 
-onlies : (s : Settings) (x : State) (ph : Phase) → Only (tag_of (declared enum) ph) → Ends (endedWith 0 x) ≡ doneNext ph s x
+onlies : (s : Settings) (x : State) (ph : Phase) → Only (tag_of (declared enum) ph) → Ends (ended_with 0 x) ≡ done_next ph s x
 onlies s x Free k = refl
 onlies s x Ended k = refl
 onlies s x DirectRead k = refl
@@ -76,7 +76,7 @@ ends-requires c κs = tt
 returns : tie.Need-returns
 returns c =
     let a = c.before.before.before.before.args in
-    in-case a.settings a.self _ c.before.before.enum_told.given.1 (ap Stays (c.set-phase.ensures ∙ ap (λ (p : Phase). inPhase p a.self) c.before.pass-first-read.ensures))
+    in-case a.settings a.self _ c.before.before.enum_told.given.1 (ap Stays (c.set-phase.ensures ∙ ap (λ (p : Phase). in_phase p a.self) c.before.pass-first-read.ensures))
 
 returns-2 : tie.Need-returns-2
 returns-2 c =

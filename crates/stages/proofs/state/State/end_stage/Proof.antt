@@ -1,6 +1,6 @@
 -- `stages::state::State::end_stage` meets its contract: each arm's course is its case of the definition. Assumes nothing.
 use mathlib.Core.Path.{sym, ap, ◌∙◌}
-use Rattle.stages.specs.Stages.{stageDone}
+use Rattle.stages.specs.Stages.{stage_done}
 use Rattle.stages.specs.declared.state.Course.{Course}
 use Rattle.stages.proofs.state.State.end_stage.Statement.{statement}
 use Rattle.stages.proofs.state.State.end_stage.Tie as tie
@@ -32,22 +32,22 @@ write-chunk-requires c κs = tt
 returns : tie.Need-returns
 returns c =
     let a = c.before.before.before.before.before.args in
-    c.ends.ensures ∙ sym (ap (λ (k : Course). stageDone k a.settings a.self) c.before.enum_told.given.1)
+    c.ends.ensures ∙ sym (ap (λ (k : Course). stage_done k a.settings a.self) c.before.enum_told.given.1)
 
 returns-2 : tie.Need-returns-2
 returns-2 c =
     let a = c.before.before.before.before.before.args in
-    c.write-head.ensures ∙ sym (ap (λ (k : Course). stageDone k a.settings a.self) c.before.enum-told2.given.1)
+    c.write-head.ensures ∙ sym (ap (λ (k : Course). stage_done k a.settings a.self) c.before.enum-told2.given.1)
 
 returns-3 : tie.Need-returns-3
 returns-3 c =
     let a = c.before.before.before.before.before.args in
-    c.write-tail.ensures ∙ sym (ap (λ (k : Course). stageDone k a.settings a.self) c.before.enum-told3.given.1)
+    c.write-tail.ensures ∙ sym (ap (λ (k : Course). stage_done k a.settings a.self) c.before.enum-told3.given.1)
 
 returns-4 : tie.Need-returns-4
 returns-4 c =
     let a = c.before.before.before.before.before.args in
-    c.write-chunk.ensures ∙ sym (ap (λ (k : Course). stageDone k a.settings a.self) c.before.enum-told4.given.1)
+    c.write-chunk.ensures ∙ sym (ap (λ (k : Course). stage_done k a.settings a.self) c.before.enum-told4.given.1)
 
 pub end-stage-spec : {M : Type 1} → statement M
 end-stage-spec =

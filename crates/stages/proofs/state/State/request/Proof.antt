@@ -1,7 +1,7 @@
 -- `stages::state::State::request` meets its contract: each arm's phase is its case of the definition. Assumes nothing.
 use mathlib.Core.Path.{◌≡◌, sym, ap, ◌∙◌}
 use Prim.Native.Nat.{ℕ}
-use Rattle.stages.specs.Stages.{request, requestBy, requestOf}
+use Rattle.stages.specs.Stages.{request, request_by, request_of}
 use Rattle.stages.specs.declared.state.Phase.{Phase}
 use Rattle.stages.specs.declared.state.State.{State}
 use Rattle.stages.specs.declared.state.Kind.{Kind}
@@ -10,9 +10,9 @@ use Rattle.stages.proofs.state.State.request.Statement.{statement}
 use Rattle.stages.proofs.state.State.request.Tie as tie
 
 -- a state in the phase ph
-in-case : (x : State) (n : ℕ) (ph : Phase) {q : Request} → x.phase ≡ ph → q ≡ requestBy ph x n → q ≡ requestOf x n
-unfolding requestOf
-in-case x n ph e h = h ∙ sym (ap (λ (p : Phase). requestBy p x n) e)
+in-case : (x : State) (n : ℕ) (ph : Phase) {q : Request} → x.phase ≡ ph → q ≡ request_by ph x n → q ≡ request_of x n
+unfolding request_of
+in-case x n ph e h = h ∙ sym (ap (λ (p : Phase). request_by p x n) e)
 
 enum_told : tie.Need-enum-told
 enum_told c = c.match.keys1

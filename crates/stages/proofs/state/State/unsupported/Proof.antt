@@ -7,7 +7,7 @@ use native.Mathlib.Omega.{arith}
 use types.Run.{OneOf}
 use denote.Enum.Declared.{declared, tag_of}
 use Rattle.arithmetic.specs.declared.settings.Settings.{Settings}
-use Rattle.stages.specs.Stages.{endedWith, unsupportedNext}
+use Rattle.stages.specs.Stages.{ended_with, unsupported_next}
 use Rattle.stages.specs.declared.state.Phase.{Phase}
 use Rattle.stages.specs.declared.state.Phase.TheVariants.{Free, Ended, DirectRead, BouncedRead, FirstRead, SecondRead, BouncedWrite, DirectWrite, ZeroRequest, DiscardRequest}
 use Rattle.stages.specs.declared.state.State.{State}
@@ -18,8 +18,8 @@ use Rattle.stages.proofs.state.State.unsupported.Statement.{statement}
 use Rattle.stages.proofs.state.State.unsupported.Tie as tie
 
 -- a state in the phase ph
-in-case : (s : Settings) (x : State) (ph : Phase) {t : Step} → x.phase ≡ ph → t ≡ unsupportedNext ph s x → t ≡ unsupportedNext x.phase s x
-in-case s x ph e q = q ∙ sym (ap (λ (p : Phase). unsupportedNext p s x) e)
+in-case : (s : Settings) (x : State) (ph : Phase) {t : Step} → x.phase ≡ ph → t ≡ unsupported_next ph s x → t ≡ unsupported_next x.phase s x
+in-case s x ph e q = q ∙ sym (ap (λ (p : Phase). unsupported_next p s x) e)
 
 -- the phases before ZeroRequest
 abbrev Before : ℕ → Type 0
@@ -33,7 +33,7 @@ below n k =
     (⊎_elim (λ e. omega arith) (⊎_elim (λ e. omega arith) (⊎_elim (λ e. omega arith) (⊎_elim (λ e. omega arith) (λ e. omega arith)))))))
     k
 
-others : (s : Settings) (x : State) (ph : Phase) → Before (tag_of (declared enum) ph) → Ends (endedWith 1 x) ≡ unsupportedNext ph s x
+others : (s : Settings) (x : State) (ph : Phase) → Before (tag_of (declared enum) ph) → Ends (ended_with 1 x) ≡ unsupported_next ph s x
 others s x Free k = refl
 others s x Ended k = refl
 others s x DirectRead k = refl

@@ -1,7 +1,7 @@
 -- `stages::state::State::write_chunk` meets its contract: each arm's chunk is its case of the definition. Assumes nothing.
 use mathlib.Core.Path.{sym, ap, ◌∙◌}
 use Prim.Native.Nat.{ℕ}
-use Rattle.stages.specs.Stages.{endedWith, chunkBy, chunkNext}
+use Rattle.stages.specs.Stages.{ended_with, chunk_by, chunk_next}
 use Rattle.stages.specs.declared.told.Step.TheVariants.{Ends}
 use Rattle.stages.proofs.state.State.write_chunk.Statement.{statement}
 use Rattle.stages.proofs.state.State.write_chunk.Tie as tie
@@ -31,23 +31,23 @@ ends-requires-2 : tie.Need-ends-requires-2
 ends-requires-2 c κs = tt
 
 returns : tie.Need-returns
-unfolding chunkNext
+unfolding chunk_next
 returns c =
     let a = c.before.before.before.before.before.before.args in
-    c.ends.ensures ∙ sym (ap (chunkBy a.settings a.self) (sym c.before.before.before.next-chunk.ensures ∙ c.before.enum_told.given.1))
+    c.ends.ensures ∙ sym (ap (chunk_by a.settings a.self) (sym c.before.before.before.next-chunk.ensures ∙ c.before.enum_told.given.1))
 
 returns-2 : tie.Need-returns-2
-unfolding chunkNext
+unfolding chunk_next
 returns-2 c =
     let a = c.before.before.before.before.before.before.before.args in
-    c.write-zeroes.ensures ∙ sym (ap (chunkBy a.settings a.self) (sym c.before.before.before.before.next-chunk.ensures ∙ c.before.before.part.given.1))
+    c.write-zeroes.ensures ∙ sym (ap (chunk_by a.settings a.self) (sym c.before.before.before.before.next-chunk.ensures ∙ c.before.before.part.given.1))
 
 returns-3 : tie.Need-returns-3
-unfolding chunkNext
+unfolding chunk_next
 returns-3 c =
     let a = c.before.before.before.before.before.before.before.before.args in
-    c.ends2.ensures ∙ ap (λ (k : ℕ). Ends (endedWith k a.self)) c.before.number.ensures
-    ∙ sym (ap (chunkBy a.settings a.self) (sym c.before.before.before.before.before.next-chunk.ensures ∙ c.before.before.before.r.given.1))
+    c.ends2.ensures ∙ ap (λ (k : ℕ). Ends (ended_with k a.self)) c.before.number.ensures
+    ∙ sym (ap (chunk_by a.settings a.self) (sym c.before.before.before.before.before.next-chunk.ensures ∙ c.before.before.before.r.given.1))
 
 pub write-chunk-spec : {M : Type 1} → statement M
 write-chunk-spec =

@@ -1,5 +1,5 @@
 -- `vectors::vector::IoVector::add` meets its contract: the first unused segment becomes the new one. Assumes nothing.
-use Rattle.vectors.proofs.Building.{with-room}
+use Rattle.vectors.proofs.Building.{with_room}
 use borrow.Author.Rules.{rules}
 use Rattle.vectors.proofs.vector.IoVector.add.Statement.{statement}
 use Rattle.vectors.proofs.vector.IoVector.add.Tie as tie
@@ -17,7 +17,7 @@ add-self-2 : tie.Need-overflow-add-self-2
 add-self-2 c = search rules
 
 returns : tie.Need-returns
-returns c = with-room c.args.t1 c.args.segment c.requires
+returns c = with_room c.args.t1 c.args.segment c.requires
 
 pub add_spec : {M : Type 1} → statement M
 add_spec = tie.close (tie.spec mul-segment element-set-from-segment add-self add-self-2 returns)

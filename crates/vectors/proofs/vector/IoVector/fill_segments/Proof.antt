@@ -6,7 +6,7 @@ use Prim.Native.Nat.{◌-◌}
 use lib.ListN.{length}
 use Rattle.arithmetic.specs.Loops.{array_long}
 use Rattle.vectors.proofs.Pass.{nth}
-use Rattle.vectors.proofs.Moving.{Filled, fill-fits, fill_step, fill_end, fill_start, filled-back}
+use Rattle.vectors.proofs.Moving.{Filled, fill_fits, fill_step, fill_end, fill_start, filled_back}
 use Rattle.vectors.proofs.vector.IoVector.fill_segments.Statement.{statement}
 use Rattle.vectors.proofs.vector.IoVector.fill_segments.Tie as tie
 
@@ -22,36 +22,36 @@ loop-holds c = let a = c.before.args in
     fill_start a.t1 a.«data».now a.value w c.before.requires
 
 mul-p : tie.Need-overflow-mul-p invariant-loop decreases-loop
-mul-p c = omega (arith, fill-fits _ _ _ _ _ c.before.loop.invariant c.loop-test.true)
+mul-p c = omega (arith, fill_fits _ _ _ _ _ c.before.loop.invariant c.loop-test.true)
 
 element-copy-out-p : tie.Need-element-copy-out-p invariant-loop decreases-loop
-element-copy-out-p c = omega (arith, fill-fits _ _ _ _ _ c.before.loop.invariant c.loop-test.true)
+element-copy-out-p c = omega (arith, fill_fits _ _ _ _ _ c.before.loop.invariant c.loop-test.true)
 
 add-to : tie.Need-overflow-add-to invariant-loop decreases-loop
-add-to c = omega (arith, fill-fits _ _ _ _ _ c.before.before.before.loop.invariant c.before.before.loop-test.true)
+add-to c = omega (arith, fill_fits _ _ _ _ _ c.before.before.before.loop.invariant c.before.before.loop-test.true)
 
 sub-fill-bytes : tie.Need-overflow-sub-fill-bytes invariant-loop decreases-loop
-sub-fill-bytes c = omega (arith, fill-fits _ _ _ _ _ c.before.before.before.loop.invariant c.before.before.loop-test.true)
+sub-fill-bytes c = omega (arith, fill_fits _ _ _ _ _ c.before.before.before.loop.invariant c.before.before.loop-test.true)
 
 part-fill-bytes-start : tie.Need-slice-bounds-fill-bytes-start invariant-loop decreases-loop
-part-fill-bytes-start c = omega (arith, fill-fits _ _ _ _ _ c.before.before.before.loop.invariant c.before.before.loop-test.true)
+part-fill-bytes-start c = omega (arith, fill_fits _ _ _ _ _ c.before.before.before.loop.invariant c.before.before.loop-test.true)
 
 part-fill-bytes-end : tie.Need-slice-bounds-fill-bytes-end invariant-loop decreases-loop
-part-fill-bytes-end c = omega (arith, fill-fits _ _ _ _ _ c.before.before.before.loop.invariant c.before.before.loop-test.true)
+part-fill-bytes-end c = omega (arith, fill_fits _ _ _ _ _ c.before.before.before.loop.invariant c.before.before.loop-test.true)
 
 fill-bytes-requires : tie.Need-fill-bytes-requires invariant-loop decreases-loop
 fill-bytes-requires c κs = search rules
 
 add-i : tie.Need-overflow-add-i invariant-loop decreases-loop
-add-i c = omega (arith, fill-fits _ _ _ _ _ c.before.before.before.before.before.before.before.loop.invariant c.before.before.before.before.before.before.loop-test.true)
+add-i c = omega (arith, fill_fits _ _ _ _ _ c.before.before.before.before.before.before.before.loop.invariant c.before.before.before.before.before.before.loop-test.true)
 
 loop-less : tie.Need-loop-smaller invariant-loop decreases-loop
-loop-less c = omega (arith, fill-fits _ _ _ _ _ c.before.before.before.before.before.before.before.loop.invariant c.before.before.before.before.before.before.loop-test.true)
+loop-less c = omega (arith, fill_fits _ _ _ _ _ c.before.before.before.before.before.before.before.loop.invariant c.before.before.before.before.before.before.loop-test.true)
 
 loop-again : tie.Need-loop-preserved invariant-loop decreases-loop
 loop-again c = let l = c.before.before.before.before.before.before.before.loop in
     let a = c.before.before.before.before.before.before.before.before.before.args in
-    rw (filled-back l.«data» (nth a.t1 l.i).start (nth a.t1 l.i).length a.value c.before.before.fill-bytes.new.0 (omega (arith, fill-fits _ _ _ _ _ c.before.before.before.before.before.before.before.loop.invariant c.before.before.before.before.before.before.loop-test.true)) c.before.before.fill-bytes.ensures)
+    rw (filled_back l.«data» (nth a.t1 l.i).start (nth a.t1 l.i).length a.value c.before.before.fill-bytes.new.0 (omega (arith, fill_fits _ _ _ _ _ c.before.before.before.before.before.before.before.loop.invariant c.before.before.before.before.before.before.loop-test.true)) c.before.before.fill-bytes.ensures)
     (fill_step _ _ _ _ _ l.invariant c.before.before.before.before.before.before.loop-test.true)
 
 same_length : tie.Need-same-length invariant-loop decreases-loop

@@ -6,8 +6,8 @@ use lib.ListN.{length}
 use borrow.Author.Rules.{rules}
 use Rattle.arithmetic.specs.Loops.{array_long}
 use Rattle.vectors.proofs.Pass.{nth}
-use Rattle.vectors.specs.ByteLaws.{copied-back}
-use Rattle.vectors.proofs.Moving.{Gathered, gather-fits, gather-step, gather-end, gather-start, copies_of}
+use Rattle.vectors.specs.ByteLaws.{copied_back}
+use Rattle.vectors.proofs.Moving.{Gathered, gather_fits, gather_step, gather_end, gather_start, copies_of}
 use Rattle.vectors.proofs.vector.IoVector.gather.Statement.{statement}
 use Rattle.vectors.proofs.vector.IoVector.gather.Tie as tie
 
@@ -20,58 +20,58 @@ decreases-loop «data» slice₀ self n filled₀ i₀ slice filled i = self.cou
 loop-holds : tie.Need-loop-init invariant-loop decreases-loop
 loop-holds c = let a = c.before.before.args in
     let w : length a.t1.segments ≡ 16 = search (rules, array_long) in
-    gather-start a.t1 a.«data».now a.slice.now w c.before.before.requires
+    gather_start a.t1 a.«data».now a.slice.now w c.before.before.requires
 
 mul-p : tie.Need-overflow-mul-p invariant-loop decreases-loop
-mul-p c = omega (arith, gather-fits _ _ _ _ _ c.before.loop.invariant c.loop-test.true)
+mul-p c = omega (arith, gather_fits _ _ _ _ _ c.before.loop.invariant c.loop-test.true)
 
 element-copy-out-p : tie.Need-element-copy-out-p invariant-loop decreases-loop
-element-copy-out-p c = omega (arith, gather-fits _ _ _ _ _ c.before.loop.invariant c.loop-test.true)
+element-copy-out-p c = omega (arith, gather_fits _ _ _ _ _ c.before.loop.invariant c.loop-test.true)
 
 add-to : tie.Need-overflow-add-to invariant-loop decreases-loop
-add-to c = omega (arith, gather-fits _ _ _ _ _ c.before.before.before.loop.invariant c.before.before.loop-test.true)
+add-to c = omega (arith, gather_fits _ _ _ _ _ c.before.before.before.loop.invariant c.before.before.loop-test.true)
 
 add-next : tie.Need-overflow-add-next invariant-loop decreases-loop
-add-next c = omega (arith, gather-fits _ _ _ _ _ c.before.before.before.before.loop.invariant c.before.before.before.loop-test.true)
+add-next c = omega (arith, gather_fits _ _ _ _ _ c.before.before.before.before.loop.invariant c.before.before.before.loop-test.true)
 
 sub-copy-bytes : tie.Need-overflow-sub-copy-bytes invariant-loop decreases-loop
-sub-copy-bytes c = omega (arith, gather-fits _ _ _ _ _ c.before.before.before.before.loop.invariant c.before.before.before.loop-test.true)
+sub-copy-bytes c = omega (arith, gather_fits _ _ _ _ _ c.before.before.before.before.loop.invariant c.before.before.before.loop-test.true)
 
 part-copy-bytes-start : tie.Need-slice-bounds-copy-bytes-start invariant-loop decreases-loop
-part-copy-bytes-start c = omega (arith, gather-fits _ _ _ _ _ c.before.before.before.before.loop.invariant c.before.before.before.loop-test.true)
+part-copy-bytes-start c = omega (arith, gather_fits _ _ _ _ _ c.before.before.before.before.loop.invariant c.before.before.before.loop-test.true)
 
 part-copy-bytes-end : tie.Need-slice-bounds-copy-bytes-end invariant-loop decreases-loop
-part-copy-bytes-end c = omega (arith, gather-fits _ _ _ _ _ c.before.before.before.before.loop.invariant c.before.before.before.loop-test.true)
+part-copy-bytes-end c = omega (arith, gather_fits _ _ _ _ _ c.before.before.before.before.loop.invariant c.before.before.before.loop-test.true)
 
 sub-copy-bytes-2 : tie.Need-overflow-sub-copy-bytes-2 invariant-loop decreases-loop
-sub-copy-bytes-2 c = omega (arith, gather-fits _ _ _ _ _ c.before.before.before.before.before.loop.invariant c.before.before.before.before.loop-test.true)
+sub-copy-bytes-2 c = omega (arith, gather_fits _ _ _ _ _ c.before.before.before.before.before.loop.invariant c.before.before.before.before.loop-test.true)
 
 part-copy-bytes-start-2 : tie.Need-slice-bounds-copy-bytes-start-2 invariant-loop decreases-loop
-part-copy-bytes-start-2 c = omega (arith, gather-fits _ _ _ _ _ c.before.before.before.before.before.loop.invariant c.before.before.before.before.loop-test.true)
+part-copy-bytes-start-2 c = omega (arith, gather_fits _ _ _ _ _ c.before.before.before.before.before.loop.invariant c.before.before.before.before.loop-test.true)
 
 part-copy-bytes-end-2 : tie.Need-slice-bounds-copy-bytes-end-2 invariant-loop decreases-loop
-part-copy-bytes-end-2 c = omega (arith, gather-fits _ _ _ _ _ c.before.before.before.before.before.loop.invariant c.before.before.before.before.loop-test.true)
+part-copy-bytes-end-2 c = omega (arith, gather_fits _ _ _ _ _ c.before.before.before.before.before.loop.invariant c.before.before.before.before.loop-test.true)
 
 copy-bytes-requires : tie.Need-copy-bytes-requires invariant-loop decreases-loop
 copy-bytes-requires c κs = search rules
 
 add-i : tie.Need-overflow-add-i invariant-loop decreases-loop
-add-i c = omega (arith, gather-fits _ _ _ _ _ c.before.before.before.before.before.before.before.before.before.loop.invariant c.before.before.before.before.before.before.before.before.loop-test.true)
+add-i c = omega (arith, gather_fits _ _ _ _ _ c.before.before.before.before.before.before.before.before.before.loop.invariant c.before.before.before.before.before.before.before.before.loop-test.true)
 
 loop-less : tie.Need-loop-smaller invariant-loop decreases-loop
-loop-less c = omega (arith, gather-fits _ _ _ _ _ c.before.before.before.before.before.before.before.before.before.loop.invariant c.before.before.before.before.before.before.before.before.loop-test.true)
+loop-less c = omega (arith, gather_fits _ _ _ _ _ c.before.before.before.before.before.before.before.before.before.loop.invariant c.before.before.before.before.before.before.before.before.loop-test.true)
 
 loop-again : tie.Need-loop-preserved invariant-loop decreases-loop
 loop-again c = let l = c.before.before.before.before.before.before.before.before.before.loop in
     let a = c.before.before.before.before.before.before.before.before.before.before.before.before.args in
-    rw (copied-back l.slice a.«data».now l.filled (nth a.t1 l.i).length (nth a.t1 l.i).start c.before.before.copy-bytes.new.0 (omega (arith, gather-fits _ _ _ _ _ c.before.before.before.before.before.before.before.before.before.loop.invariant c.before.before.before.before.before.before.before.before.loop-test.true)) (omega (arith, gather-fits _ _ _ _ _ c.before.before.before.before.before.before.before.before.before.loop.invariant c.before.before.before.before.before.before.before.before.loop-test.true)) c.before.before.copy-bytes.ensures)
-    (gather-step _ _ _ _ _ l.invariant c.before.before.before.before.before.before.before.before.loop-test.true)
+    rw (copied_back l.slice a.«data».now l.filled (nth a.t1 l.i).length (nth a.t1 l.i).start c.before.before.copy-bytes.new.0 (omega (arith, gather_fits _ _ _ _ _ c.before.before.before.before.before.before.before.before.before.loop.invariant c.before.before.before.before.before.before.before.before.loop-test.true)) (omega (arith, gather_fits _ _ _ _ _ c.before.before.before.before.before.before.before.before.before.loop.invariant c.before.before.before.before.before.before.before.before.loop-test.true)) c.before.before.copy-bytes.ensures)
+    (gather_step _ _ _ _ _ l.invariant c.before.before.before.before.before.before.before.before.loop-test.true)
 
 same_length : tie.Need-same-length invariant-loop decreases-loop
 same_length c = omega (arith, c.before.loop.invariant.long, (copies_of _ _ _ c.before.before.before.before.requires).1)
 
 returns : tie.Need-returns invariant-loop decreases-loop
-returns c = gather-end _ _ _ _ _ c.before.loop.invariant c.loop-test.false
+returns c = gather_end _ _ _ _ _ c.before.loop.invariant c.loop-test.false
 
 pub gather-spec : {M : Type 1} → statement M
 gather-spec =

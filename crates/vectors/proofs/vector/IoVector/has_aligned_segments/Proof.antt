@@ -6,7 +6,7 @@ use Prim.Native.Nat.{◌-◌}
 use native.Mathlib.Omega.{arith}
 use lib.ListN.{length}
 use Rattle.arithmetic.specs.Loops.{array_long}
-use Rattle.vectors.proofs.Testing.{Lined, few, lined-fits, off-start, off-length, lined-next, lined-end}
+use Rattle.vectors.proofs.Testing.{Lined, few, lined_fits, off_start, off_length, lined_next, lined_end}
 use Rattle.vectors.proofs.vector.IoVector.has_aligned_segments.Statement.{statement}
 use Rattle.vectors.proofs.vector.IoVector.has_aligned_segments.Tie as tie
 
@@ -26,7 +26,7 @@ element-copy-out-p : tie.Need-element-copy-out-p invariant-loop decreases-loop
 element-copy-out-p c = omega (arith, few _ _ _ _ _ c.before.loop.invariant)
 
 add-is-multiple : tie.Need-overflow-add-is-multiple invariant-loop decreases-loop
-add-is-multiple c = omega (arith, lined-fits _ _ _ _ _ c.before.before.loop.invariant c.before.loop-test.true)
+add-is-multiple c = omega (arith, lined_fits _ _ _ _ _ c.before.before.loop.invariant c.before.loop-test.true)
 
 is-multiple-requires : tie.Need-is-multiple-requires invariant-loop decreases-loop
 is-multiple-requires c κs = search rules
@@ -34,7 +34,7 @@ is-multiple-requires c κs = search rules
 returns : tie.Need-returns invariant-loop decreases-loop
 returns c = let t = c.before in
     let b = t.before.before in
-    off-start _ _ _ _ _ b.before.loop.invariant b.loop-test.true (sym t.is-multiple.ensures ∙ not-true _ c.if1.true)
+    off_start _ _ _ _ _ b.before.loop.invariant b.loop-test.true (sym t.is-multiple.ensures ∙ not-true _ c.if1.true)
 
 is-multiple-requires-2 : tie.Need-is-multiple-requires-2 invariant-loop decreases-loop
 is-multiple-requires-2 c κs = search rules
@@ -42,7 +42,7 @@ is-multiple-requires-2 c κs = search rules
 returns-2 : tie.Need-returns-2 invariant-loop decreases-loop
 returns-2 c = let t = c.before in
     let b = t.before.before.before.before in
-    off-length _ _ _ _ _ b.before.loop.invariant b.loop-test.true (sym t.is-multiple2.ensures ∙ not-true _ c.if2.true)
+    off_length _ _ _ _ _ b.before.loop.invariant b.loop-test.true (sym t.is-multiple2.ensures ∙ not-true _ c.if2.true)
 
 add-i : tie.Need-overflow-add-i invariant-loop decreases-loop
 add-i c = let b = c.before.before.before.before.before in omega (arith, b.loop-test.true, few _ _ _ _ _ b.before.loop.invariant)
@@ -54,10 +54,10 @@ loop-again : tie.Need-loop-preserved invariant-loop decreases-loop
 loop-again c = let t = c.before in
     let u = t.before in
     let b = u.before.before.before in
-    lined-next _ _ _ _ _ b.before.loop.invariant b.loop-test.true (sym u.before.is-multiple.ensures ∙ not-false _ u.if1.false) (sym t.is-multiple2.ensures ∙ not-false _ c.if2.false)
+    lined_next _ _ _ _ _ b.before.loop.invariant b.loop-test.true (sym u.before.is-multiple.ensures ∙ not-false _ u.if1.false) (sym t.is-multiple2.ensures ∙ not-false _ c.if2.false)
 
 returns-3 : tie.Need-returns-3 invariant-loop decreases-loop
-returns-3 c = lined-end _ _ _ _ _ c.before.loop.invariant c.loop-test.false
+returns-3 c = lined_end _ _ _ _ _ c.before.loop.invariant c.loop-test.false
 
 pub has-aligned-segments-spec : {M : Type 1} → statement M
 has-aligned-segments-spec =

@@ -5,9 +5,9 @@ use mathlib.Core.Path.{◌≡◌, sym, ◌∙◌}
 use Prim.Native.Nat.{◌-◌, ◌<◌}
 use lib.ListN.{length}
 use borrow.Author.Tests.{not-true, not-false, lt-leb}
-use Rattle.vectors.specs.Vectors.{isValid}
+use Rattle.vectors.specs.Vectors.{is_valid}
 use Rattle.arithmetic.specs.Loops.{array_long}
-use Rattle.vectors.proofs.Pass.{Checked, check-start, check-end, check-bad, check-long, check-next}
+use Rattle.vectors.proofs.Pass.{Checked, check_start, check_end, check_bad, check_long, check_next}
 use Rattle.vectors.proofs.vector.IoVector.is_valid.Statement.{statement}
 use Rattle.vectors.proofs.vector.IoVector.is_valid.Tie as tie
 
@@ -18,11 +18,11 @@ abbrev decreases-loop : tie.decreases-loop
 decreases-loop data-len self n sum₀ i₀ sum i = self.count - i
 
 returns : tie.Need-returns invariant-loop decreases-loop
-unfolding isValid
+unfolding is_valid
 returns c = let h : 16 < c.before.args.t1.count = omega (arith, c.if1.true) in simp (lt-leb _ _ h)
 
 loop-holds : tie.Need-loop-init invariant-loop decreases-loop
-loop-holds c = let w : length c.before.args.t1.segments ≡ 16 = search (rules, array_long) in check-start c.before.args.data-len c.before.args.t1 w (omega (arith, c.if1.false))
+loop-holds c = let w : length c.before.args.t1.segments ≡ 16 = search (rules, array_long) in check_start c.before.args.data-len c.before.args.t1 w (omega (arith, c.if1.false))
 
 mul-p : tie.Need-overflow-mul-p invariant-loop decreases-loop
 mul-p c = omega (arith, c.before.loop.invariant.few)
@@ -34,13 +34,13 @@ lies-in-requires : tie.Need-lies-in-requires invariant-loop decreases-loop
 lies-in-requires c κs = search rules
 
 returns-2 : tie.Need-returns-2 invariant-loop decreases-loop
-returns-2 c = check-bad _ _ _ _ c.before.before.before.before.loop.invariant c.before.before.before.loop-test.true (sym c.before.lies_in.ensures ∙ not-true _ c.if2.true)
+returns-2 c = check_bad _ _ _ _ c.before.before.before.before.loop.invariant c.before.before.before.loop-test.true (sym c.before.lies_in.ensures ∙ not-true _ c.if2.true)
 
 sub-if3 : tie.Need-overflow-sub-if3 invariant-loop decreases-loop
 sub-if3 c = c.before.before.before.before.loop.invariant.small
 
 returns-3 : tie.Need-returns-3 invariant-loop decreases-loop
-returns-3 c = check-long _ _ _ _ c.before.before.before.before.before.loop.invariant c.before.before.before.before.loop-test.true c.if3.true
+returns-3 c = check_long _ _ _ _ c.before.before.before.before.before.loop.invariant c.before.before.before.before.loop-test.true c.if3.true
 
 add-sum : tie.Need-overflow-add-sum invariant-loop decreases-loop
 add-sum c = omega (arith, c.before.before.before.before.before.loop.invariant.small, c.if3.false)
@@ -52,10 +52,10 @@ loop-less : tie.Need-loop-smaller invariant-loop decreases-loop
 loop-less c = omega (arith, c.before.before.before.before.loop-test.true)
 
 loop-again : tie.Need-loop-preserved invariant-loop decreases-loop
-loop-again c = check-next _ _ _ _ c.before.before.before.before.before.loop.invariant c.before.before.before.before.loop-test.true (sym c.before.before.lies_in.ensures ∙ not-false _ c.before.if2.false) c.if3.false
+loop-again c = check_next _ _ _ _ c.before.before.before.before.before.loop.invariant c.before.before.before.before.loop-test.true (sym c.before.before.lies_in.ensures ∙ not-false _ c.before.if2.false) c.if3.false
 
 returns-4 : tie.Need-returns-4 invariant-loop decreases-loop
-returns-4 c = check-end _ _ _ _ c.before.loop.invariant c.loop-test.false
+returns-4 c = check_end _ _ _ _ c.before.loop.invariant c.loop-test.false
 
 pub is-valid-spec : {M : Type 1} → statement M
 is-valid-spec =

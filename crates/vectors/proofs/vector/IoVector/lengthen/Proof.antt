@@ -3,7 +3,7 @@ use mathlib.Core.Path.{◌≡◌}
 use native.Mathlib.Omega.{arith}
 use lib.ListN.{length}
 use Rattle.arithmetic.specs.Loops.{array_long}
-use Rattle.vectors.proofs.Gluing.{some_left, last-length, lengthened}
+use Rattle.vectors.proofs.Gluing.{some_left, last_length, lengthened}
 use borrow.Author.Rules.{rules}
 use Rattle.vectors.proofs.vector.IoVector.lengthen.Statement.{statement}
 use Rattle.vectors.proofs.vector.IoVector.lengthen.Tie as tie
@@ -21,7 +21,7 @@ element-copy-out-last : tie.Need-element-copy-out-last
 element-copy-out-last c = search rules
 
 add-t6 : tie.Need-overflow-add-t6
-add-t6 c = let k = c.before.before.before in omega (arith, last-length k.args.t1 k.args.next (wide_of k) k.requires, k.requires.asked.small)
+add-t6 c = let k = c.before.before.before in omega (arith, last_length k.args.t1 k.args.next (wide_of k) k.requires, k.requires.asked.small)
 
 mul-t10 : tie.Need-overflow-mul-t10
 mul-t10 c = search rules

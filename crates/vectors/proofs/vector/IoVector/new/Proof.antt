@@ -1,11 +1,11 @@
 -- `vectors::vector::IoVector::new` meets its contract: the vector of no segments, written out. Assumes nothing.
 use mathlib.Core.Path.{refl}
-use Rattle.vectors.specs.Vectors.{vectorOf, size_of}
+use Rattle.vectors.specs.Vectors.{vector_of, size_of}
 use Rattle.vectors.proofs.vector.IoVector.new.Statement.{statement}
 use Rattle.vectors.proofs.vector.IoVector.new.Tie as tie
 
 returns : tie.Need-returns
-unfolding vectorOf size_of
+unfolding vector_of size_of
 returns c = refl
 
 pub new_spec : {M : Type 1} → statement M

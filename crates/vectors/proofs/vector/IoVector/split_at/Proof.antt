@@ -5,28 +5,28 @@ use lib.ListN.{length}
 use borrow.Author.Tests.{not-true, not-false}
 use Rattle.vectors.specs.declared.vector.SplitPosition.{SplitPosition}
 use Rattle.vectors.specs.declared.vector.Split.{Split}
-use Rattle.vectors.specs.Vectors.{segmentsOf, isValid}
+use Rattle.vectors.specs.Vectors.{segments_of, is_valid}
 use Rattle.vectors.specs.Positions.{position_of, Cut}
 use Rattle.vectors.specs.SegmentLaws.{valid}
 use Rattle.arithmetic.specs.Loops.{array_long}
-use Rattle.vectors.proofs.Splitting.{cut_of, split-refused, split_done}
+use Rattle.vectors.proofs.Splitting.{cut_of, split_refused, split_done}
 use borrow.Author.Rules.{rules}
 use Rattle.vectors.proofs.vector.IoVector.split_at.Statement.{statement}
 use Rattle.vectors.proofs.vector.IoVector.split_at.Tie as tie
 
 -- past the test the vector is valid
-valid-of : (c : tie.Else1) → isValid c.before.before.args.data-len c.before.before.args.self ≡ true
+valid-of : (c : tie.Else1) → is_valid c.before.before.args.data-len c.before.before.args.self ≡ true
 valid-of c = sym c.before.is-valid.ensures ∙ not-false _ c.if1.false
 
 -- where the head ends, and where the tail starts
-head-is : (c : tie.After-do-split-at) → c.do-split-at.result.head ≡ position_of (segmentsOf c.before.before.before.args.self) c.before.before.before.args.mid
-head-is c = ap (λ (s : Split). s.head) c.do-split-at.ensures
+head_is : (c : tie.After-do-split-at) → c.do-split-at.result.head ≡ position_of (segments_of c.before.before.before.args.self) c.before.before.before.args.mid
+head_is c = ap (λ (s : Split). s.head) c.do-split-at.ensures
 
-tail-is : (c : tie.After-do-split-at) → c.do-split-at.result.tail ≡ position_of (segmentsOf c.before.before.before.args.self) c.before.before.before.args.mid
-tail-is c = ap (λ (s : Split). s.tail) c.do-split-at.ensures
+tail_is : (c : tie.After-do-split-at) → c.do-split-at.result.tail ≡ position_of (segments_of c.before.before.before.args.self) c.before.before.before.args.mid
+tail_is c = ap (λ (s : Split). s.tail) c.do-split-at.ensures
 
 -- each is a split of the vector
-cut : (c : tie.After-do-split-at) (p : SplitPosition) → p ≡ position_of (segmentsOf c.before.before.before.args.self) c.before.before.before.args.mid
+cut : (c : tie.After-do-split-at) (p : SplitPosition) → p ≡ position_of (segments_of c.before.before.before.args.self) c.before.before.before.args.mid
     → Cut c.before.before.before.args.self p
 cut c p e =
     let w : length c.before.before.before.args.self.segments ≡ 16 = search (rules, array_long) in
@@ -39,16 +39,16 @@ new-requires : tie.Need-new-requires
 new-requires c κs = search rules
 
 returns : tie.Need-returns
-returns c = split-refused _ _ _ _ (sym c.before.before.is-valid.ensures ∙ not-true _ c.before.if1.true) c.new.ensures
+returns c = split_refused _ _ _ _ (sym c.before.before.is-valid.ensures ∙ not-true _ c.before.if1.true) c.new.ensures
 
 do-split-at-requires : tie.Need-do-split-at-requires
 do-split-at-requires c κs = record { over = _; is = valid-of c }
 
 head-to-requires : tie.Need-head-to-requires
-head-to-requires c κs = cut c _ (head-is c)
+head-to-requires c κs = cut c _ (head_is c)
 
 tail-from-requires : tie.Need-tail-from-requires
-tail-from-requires c κs = cut c.before _ (tail-is c.before)
+tail-from-requires c κs = cut c.before _ (tail_is c.before)
 
 returns-2 : tie.Need-returns-2
 returns-2 c = split_done _ _ c.before.before.before.before.before.args.mid _ _ _ (valid-of c.before.before.before) c.before.before.do-split-at.ensures c.before.head-to.ensures c.Tail-from.ensures

@@ -5,9 +5,9 @@ use Prim.Native.Nat.{◌-◌}
 use native.Mathlib.Omega.{arith}
 use lib.ListN.{length, take, drop}
 use Rattle.arithmetic.specs.Loops.{array_long}
-use Rattle.vectors.specs.Vectors.{segmentsOf, vectorOf}
+use Rattle.vectors.specs.Vectors.{segments_of, vector_of}
 use Rattle.vectors.proofs.Building.{grown}
-use Rattle.vectors.proofs.Splitting.{tail-joins, tail-clean, tail-ends, tail-inner}
+use Rattle.vectors.proofs.Splitting.{tail_joins, tail_clean, tail_ends, tail_inner}
 use borrow.Author.Rules.{rules}
 use Rattle.vectors.proofs.vector.IoVector.tail_from.Statement.{statement}
 use Rattle.vectors.proofs.vector.IoVector.tail_from.Tie as tie
@@ -17,7 +17,7 @@ wide_of c = search (rules, array_long)
 
 -- the segments from the position's on, whole
 joined : (c : tie.After-join) → let k = c.before.before.before in
-    c.join.result ≡ vectorOf (take (k.args.self.count - k.args.position.index) (drop k.args.position.index (segmentsOf k.args.self)))
+    c.join.result ≡ vector_of (take (k.args.self.count - k.args.position.index) (drop k.args.position.index (segments_of k.args.self)))
 joined c = grown [] _ c.before.before.new.ensures c.join.ensures
 
 new-requires : tie.Need-new-requires
@@ -27,28 +27,28 @@ sub-join : tie.Need-overflow-sub-join
 sub-join c = search rules
 
 join-requires : tie.Need-join-requires
-join-requires c κs = let k = c.before.before in tail-joins _ k.args.position (wide_of k) k.requires c.before.new.result c.before.new.ensures
+join-requires c κs = let k = c.before.before in tail_joins _ k.args.position (wide_of k) k.requires c.before.new.result c.before.new.ensures
 
 returns : tie.Need-returns
-returns c = let k = c.before.before.before.before in tail-clean _ k.args.position (wide_of k) k.requires _ c.if1.true (joined c.before)
+returns c = let k = c.before.before.before.before in tail_clean _ k.args.position (wide_of k) k.requires _ c.if1.true (joined c.before)
 
 element-copy-out-first : tie.Need-element-copy-out-first
 element-copy-out-first c = search rules
 
 add_start : tie.Need-overflow-add-start
-add_start c = let k = c.before.before.before.before.before.before in omega (arith, (tail-ends _ _ (wide_of k) k.requires c.before.before.if1.false _ (joined c.before.before.before)).0)
+add_start c = let k = c.before.before.before.before.before.before in omega (arith, (tail_ends _ _ (wide_of k) k.requires c.before.before.if1.false _ (joined c.before.before.before)).0)
 
 sub-length : tie.Need-overflow-sub-length
-sub-length c = let k = c.before.before.before.before.before.before.before in (tail-ends _ _ (wide_of k) k.requires c.before.before.before.if1.false _ (joined c.before.before.before.before)).1
+sub-length c = let k = c.before.before.before.before.before.before.before in (tail_ends _ _ (wide_of k) k.requires c.before.before.before.if1.false _ (joined c.before.before.before.before)).1
 
 element-set-from-tail : tie.Need-element-set-from-tail
 element-set-from-tail c = search rules
 
 sub-tail : tie.Need-overflow-sub-tail
-sub-tail c = let k = c.before.before.before.before.before.before.before in (tail-ends _ _ (wide_of k) k.requires c.before.before.before.if1.false _ (joined c.before.before.before.before)).2
+sub-tail c = let k = c.before.before.before.before.before.before.before in (tail_ends _ _ (wide_of k) k.requires c.before.before.before.if1.false _ (joined c.before.before.before.before)).2
 
 returns-2 : tie.Need-returns-2
-returns-2 c = let k = c.before.before.before.before.before.before.before in tail-inner _ _ (wide_of k) k.requires c.before.before.before.if1.false _ (joined c.before.before.before.before)
+returns-2 c = let k = c.before.before.before.before.before.before.before in tail_inner _ _ (wide_of k) k.requires c.before.before.before.if1.false _ (joined c.before.before.before.before)
 
 pub tail-from-spec : {M : Type 1} → statement M
 tail-from-spec =
