@@ -6,36 +6,36 @@ ghost use Rattle.arithmetic.specs.Offsets.{in_buffer_of, on_store_of};
 use crate::refusals::Refusal;
 
 // A byte's place on the store.
-#[derive(Drop)]
+#[derive(Clone, Copy)]
 pub struct StoreOffset(pub u64);
 
 // A byte's place in a bounce buffer.
-#[derive(Drop)]
+#[derive(Clone, Copy)]
 pub struct BufferOffset(pub usize);
 
 // The bytes of the store from start up to, not including, end.
-#[derive(Drop)]
+#[derive(Clone, Copy)]
 pub struct Range {
     pub start: StoreOffset,
     pub end: StoreOffset,
 }
 
 // Where a byte of the store lies in a bounce buffer that holds the store from some offset on.
-#[derive(Drop)]
+#[derive(Clone, Copy)]
 pub enum InBuffer {
     At(BufferOffset),
     Refused(Refusal),
 }
 
 // Where a byte of a bounce buffer lies on the store.
-#[derive(Drop)]
+#[derive(Clone, Copy)]
 pub enum OnStore {
     At(StoreOffset),
     Refused(Refusal),
 }
 
 // A sum, where it fits 64 bits.
-#[derive(Drop)]
+#[derive(Clone, Copy)]
 pub enum Sum {
     Fits(u64),
     Over,

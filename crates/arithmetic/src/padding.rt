@@ -10,7 +10,7 @@ use crate::refusals::Refusal;
 use crate::settings::Alignments;
 
 // A padded range, which a bounce buffer holds from its start.
-#[derive(Drop)]
+#[derive(Clone, Copy)]
 pub struct Span {
     pub start: StoreOffset, // padded start
     pub end: StoreOffset, // padded end
@@ -20,14 +20,14 @@ pub struct Span {
     pub suffix: u64, // bytes to read for the tail (T)
 }
 
-#[derive(Drop)]
+#[derive(Clone, Copy)]
 pub enum Padding {
     Padded(Span),
     Refused(Refusal),
 }
 
 // How a request goes to the store: as it is, or through a bounce buffer.
-#[derive(Drop)]
+#[derive(Clone, Copy)]
 pub enum Transfer {
     Direct(Range),
     Bounced(Span),
@@ -35,7 +35,7 @@ pub enum Transfer {
 }
 
 // What a padded write reads before it writes, as lengths: of the first bytes, of the last.
-#[derive(Drop)]
+#[derive(Clone, Copy)]
 pub enum Reads {
     Nothing,
     Whole,

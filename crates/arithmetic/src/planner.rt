@@ -7,13 +7,13 @@ use crate::offsets::{LARGEST, Range, StoreOffset, is_multiple, lesser};
 use crate::refusals::{Outcome, Refusal};
 use crate::settings::Settings;
 
-#[derive(Drop)]
+#[derive(Clone, Copy)]
 pub enum Count {
     Chunks(u64),
     Refused(Refusal),
 }
 
-#[derive(Drop)]
+#[derive(Clone, Copy)]
 pub enum Planned {
     Chunk(Range),
     Refused(Refusal),

@@ -2,7 +2,7 @@
 ghost use Rattle.std.specs.Prelude.{◌≡◌};
 ghost use Rattle.arithmetic.specs.Refusals.{number_of, outcome_number};
 
-#[derive(Drop)]
+#[derive(Clone, Copy)]
 pub enum Refusal {
     Unfit, // alignment, bounce buffer length or drive profile unfit
     Segment, // segment empty or outside the data, a 17th, total too long, index or length that does not fit
@@ -56,7 +56,7 @@ impl Refusal {
 }
 
 // What became of a call that returns nothing else.
-#[derive(Drop)]
+#[derive(Clone, Copy)]
 pub enum Outcome {
     Done,
     Refused(Refusal),

@@ -8,7 +8,7 @@ use crate::offsets::{LARGEST, is_multiple};
 use crate::refusals::{Outcome, Refusal};
 
 // Document 01's mem, req, zero, discard: M, R, Z, D.
-#[derive(Drop)]
+#[derive(Clone, Copy)]
 pub struct Alignments {
     pub mem: u64,
     pub req: u64,
@@ -17,28 +17,28 @@ pub struct Alignments {
 }
 
 // The alignments, and the length of one job's bounce buffer (document 01: the share).
-#[derive(Drop)]
+#[derive(Clone, Copy)]
 pub struct Settings {
     pub align: Alignments,
     pub bounce: u64,
 }
 
 // Address and length of a buffer that is lent.
-#[derive(Drop)]
+#[derive(Clone, Copy)]
 pub struct Lent {
     pub address: u64,
     pub length: u64,
 }
 
 // The buffers as opening fixes them.
-#[derive(Drop)]
+#[derive(Clone, Copy)]
 pub struct Buffers {
     pub data: Lent,
     pub scratch: Lent,
 }
 
 // A drive profile (document 01: a drive row), by its index.
-#[derive(Drop)]
+#[derive(Clone, Copy)]
 pub enum Profile {
     Of(Alignments),
     Refused(Refusal),

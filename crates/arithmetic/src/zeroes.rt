@@ -8,7 +8,7 @@ use crate::refusals::Refusal;
 use crate::settings::{Alignments, Settings};
 
 // A range with its aligned middle: head, middle and tail are adjacent; head and tail may be empty.
-#[derive(Drop)]
+#[derive(Clone, Copy)]
 pub struct Cut {
     pub head: Range,
     pub middle: Range,
@@ -16,7 +16,7 @@ pub struct Cut {
 }
 
 // What a zero job does: nothing, one write over the whole, or a zero request in the middle and writes beside it.
-#[derive(Drop)]
+#[derive(Clone, Copy)]
 pub enum ZeroCut {
     Nothing,
     Whole(Range),
@@ -24,7 +24,7 @@ pub enum ZeroCut {
     Refused(Refusal),
 }
 
-#[derive(Drop)]
+#[derive(Clone, Copy)]
 pub enum DiscardCut {
     Nothing,
     Middle(Range),
@@ -32,7 +32,7 @@ pub enum DiscardCut {
 }
 
 // The next write of write_full_zeroes over a range.
-#[derive(Drop)]
+#[derive(Clone, Copy)]
 pub enum Chunk {
     Nothing,
     Next(Range),

@@ -1,5 +1,6 @@
 // Layer 3: weak and strong write blockers by slot (imago: storage/drivers.rs). A blocker is entered even while it waits, notes
 // the slots of those it must wait for, and waits exactly while one of them is still there.
+#![tactic(auto)]
 ghost use Rattle.std.specs.Prelude.{map, ◌≡◌, ◌<◌};
 ghost use Rattle.blockers.specs.Blockers.{overlaps, is_entered, conflict, notes, notes_of, vacant, no_blockers, forgetting, refused};
 ghost use Rattle.blockers.specs.Blockers.{entered_of, left_of, waits_of, strength};
@@ -8,7 +9,7 @@ use arithmetic::offsets::{Range, StoreOffset};
 use arithmetic::refusals::{Outcome, Refusal};
 
 // What stands in a slot.
-#[derive(Drop)]
+#[derive(Clone, Copy)]
 pub enum Kind {
     Absent,
     Weak,
@@ -16,20 +17,20 @@ pub enum Kind {
 }
 
 // A slot's blocker: its range, and the slots that it noted and that are still there.
-#[derive(Drop)]
+#[derive(Clone, Copy)]
 pub struct Blocker {
     pub kind: Kind,
     pub range: Range,
     pub noted: [bool; 8],
 }
 
-#[derive(Drop)]
+#[derive(Clone, Copy)]
 pub struct Blockers {
     pub slots: [Blocker; 8],
 }
 
 // The blockers after a call, and whether it was carried out.
-#[derive(Drop)]
+#[derive(Clone, Copy)]
 pub struct Changed {
     pub blockers: Blockers,
     pub outcome: Outcome,

@@ -17,7 +17,7 @@ use vectors::vector::{Alignment, IoVector};
 
 // What is asked of a begin: the job, and where on the store. A read and a write have the length of their vector, the others
 // `length` and no vector; what is not the job's is not looked at.
-#[derive(Drop)]
+#[derive(Clone, Copy)]
 pub struct Asked {
     pub job: Job,
     pub offset: StoreOffset,
@@ -26,21 +26,21 @@ pub struct Asked {
 }
 
 // What a begin answers.
-#[derive(Drop)]
+#[derive(Clone, Copy)]
 pub enum Begun {
     Done, // no request to make: the job takes no slot
     Admitted(usize), // the job's slot
     Refused(Refusal),
 }
 
-#[derive(Drop)]
+#[derive(Clone, Copy)]
 pub struct Beginning {
     pub answer: Begun,
     pub dock: Dock,
 }
 
 // What a begin leaves of the slot it takes, to be stored where the job is admitted.
-#[derive(Drop)]
+#[derive(Clone, Copy)]
 pub struct Admission {
     pub answer: Begun,
     pub blockers: Blockers,

@@ -8,7 +8,7 @@ use blockers::Blockers;
 use stages::state::{Job, State, is_free};
 use vectors::vector::IoVector;
 
-#[derive(Drop)]
+#[derive(Clone, Copy)]
 pub struct Dock {
     pub settings: Settings,
     pub buffers: Buffers,

@@ -13,7 +13,7 @@ use stages::state::{Phase, Request, State, has_ended, is_free, size};
 use vectors::vector::{IoVector, Segment};
 
 // What next tells.
-#[derive(Drop)]
+#[derive(Clone, Copy)]
 pub enum Due {
     Waiting,
     Make(Request),
@@ -22,7 +22,7 @@ pub enum Due {
 }
 
 // Where a request's piece lies.
-#[derive(Drop)]
+#[derive(Clone, Copy)]
 pub enum Piece {
     InData(Segment),
     InScratch(Segment),

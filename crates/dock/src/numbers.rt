@@ -7,7 +7,7 @@ use crate::next::{Due, Piece};
 use crate::tell::Collected;
 
 // A number of document 01's: 0, a code of the store, or one of its table. None for an answer that has values alone.
-#[derive(Drop)]
+#[derive(Clone, Copy)]
 pub enum Number {
     Of(u8),
     None,

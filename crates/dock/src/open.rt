@@ -11,7 +11,7 @@ use stages::state::{Course, Job, Phase, Stage, State};
 use vectors::vector::IoVector;
 
 // A dock, and whether it was opened: one that was not refuses every begin likewise.
-#[derive(Drop)]
+#[derive(Clone, Copy)]
 pub struct Opened {
     pub dock: Dock,
     pub outcome: Outcome,

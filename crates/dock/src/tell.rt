@@ -17,14 +17,14 @@ use stages::state::{State, has_ended, is_blocking};
 use stages::told::Step;
 use vectors::vector::IoVector;
 
-#[derive(Drop)]
+#[derive(Clone, Copy)]
 pub struct Telling {
     pub outcome: Outcome,
     pub dock: Dock,
 }
 
 // What a tell leaves of one slot, to be stored where its outcome is done.
-#[derive(Drop)]
+#[derive(Clone, Copy)]
 pub struct Stepping {
     pub outcome: Outcome,
     pub blockers: Blockers,
@@ -32,19 +32,19 @@ pub struct Stepping {
 }
 
 // What a code leads to: a step of the job, or a refusal.
-#[derive(Drop)]
+#[derive(Clone, Copy)]
 pub enum Answered {
     Leads(Step),
     Refused(Refusal),
 }
 
-#[derive(Drop)]
+#[derive(Clone, Copy)]
 pub enum Collected {
     Final(u8),
     Refused(Refusal),
 }
 
-#[derive(Drop)]
+#[derive(Clone, Copy)]
 pub struct Collects {
     pub answer: Collected,
     pub dock: Dock,

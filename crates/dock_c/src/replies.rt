@@ -20,7 +20,7 @@ const NO_NUMBER: u64 = 256;
 
 // A number of document 01's, or NO_NUMBER; how many values there are; and the values, 0 past the last.
 #[repr(C)]
-#[derive(Drop)]
+#[derive(Clone, Copy)]
 pub struct Reply {
     pub number: u64,
     pub count: u64,

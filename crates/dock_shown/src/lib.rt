@@ -1,2 +1,3 @@
 // The combined calls on a dock in words: one for each request.
+#![tactic(auto)]
 pub mod shown;

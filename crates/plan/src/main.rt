@@ -1,5 +1,6 @@
 // Prints what requests become on an aligned drive: document 01's traced jobs, as far as they follow from the arithmetic.
 // A line a job: what is asked, and the requests that are made, each as offset+length.
+#![tactic(auto)]
 use arithmetic::offsets::{Range, StoreOffset};
 use arithmetic::padding::{Reads, Span, Transfer};
 use arithmetic::refusals::Refusal;

@@ -1,17 +1,18 @@
 // The house form of records (document 02, N3): bytes that are records one after the other, each a two-byte length of what follows, a
 // two-byte kind and the body, little-endian. Here is what bytes start with; who reads them knows the kinds.
+#![tactic(auto)]
 ghost use Rattle.std.specs.Prelude.{◌≡◌, [], ◌∷◌};
 ghost use Rattle.records.specs.Records.{little_endian, start_of};
 
 // A record's kind, and how long its body is, which lies behind the four bytes of length and kind.
-#[derive(Drop)]
+#[derive(Clone, Copy)]
 pub struct Header {
     pub kind: u64,
     pub body: usize,
 }
 
 // What bytes start with.
-#[derive(Drop)]
+#[derive(Clone, Copy)]
 pub enum Start {
     End, // there are none
     Broken, // a record that is cut, or shorter than its kind

@@ -1,5 +1,6 @@
 // Replays a script of events on standard input, and writes a trace. What a script and a trace have: the head of
 // crates/replay_run/src/lib.rt.
+#![tactic(auto)]
 
 fn main() {
     replay_run::replay_input();

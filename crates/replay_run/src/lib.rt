@@ -22,6 +22,7 @@
 // bytes modulo 65536.
 // A program has no exit status, so the last line tells: `ok` where the script ran to its end; `error: line N: ..` where line
 // N is neither event nor comment, and the run stops there; `error: ..` for a script of more than 65535 bytes, which is not run.
+#![tactic(auto)]
 ghost use Rattle.std.specs.Prelude.{◌<◌, ◌≤◌, length};
 
 use arithmetic::offsets::StoreOffset;
@@ -40,7 +41,7 @@ use replay_text::{marks, script, trace};
 use vectors::vector::{Changed, IoVector};
 
 // What a line is.
-#[derive(Drop)]
+#[derive(Clone, Copy)]
 enum Form {
     Comment,
     Event,
@@ -48,7 +49,7 @@ enum Form {
 }
 
 // What a line is, and the event, which counts only where it is one.
-#[derive(Drop)]
+#[derive(Clone, Copy)]
 struct Line {
     form: Form,
     event: Event,

@@ -1,20 +1,21 @@
 // The stand-in store, an array of bytes: past its end reads give zeroes, and writes are dropped.
 // What a code leaves open, the choice of its carry decides by the offset o on the store: bit o mod 64 says whether the byte
 // there is new, byte o mod 8, the lowest first, what it is where it may be anything.
+#![tactic(auto)]
 use arithmetic::offsets::{LARGEST, Sum};
 use dock::dock::Dock;
 use dock::next::Due;
 use stages::state::{Kind, Request};
 
 // Whether a request was out in the slot, to be carried out.
-#[derive(Drop)]
+#[derive(Clone, Copy)]
 pub enum CarryOutcome {
     Done,
     NoRequest,
 }
 
 // How the store carries a request out: with a code, and a choice, which is 0 where the script makes none.
-#[derive(Drop)]
+#[derive(Clone, Copy)]
 pub struct Act {
     pub code: u8,
     pub choice: u64,
@@ -22,7 +23,7 @@ pub struct Act {
 }
 
 // What bytes become: all the same, or those of a choice.
-#[derive(Drop)]
+#[derive(Clone, Copy)]
 enum Content {
     Same(u8),
     Chosen(u64),

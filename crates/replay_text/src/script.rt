@@ -2,7 +2,7 @@
 use vectors::vector::Segment;
 
 // The word that a line starts with.
-#[derive(Drop)]
+#[derive(Clone, Copy)]
 pub enum Verb {
     Open,
     Store,
@@ -21,7 +21,7 @@ pub enum Verb {
 }
 
 // What is wrong with a line.
-#[derive(Drop)]
+#[derive(Clone, Copy)]
 pub enum Flaw {
     Word, // no such event
     Number(usize), // after so many numbers: neither the line's end nor one blank and a number of 64 bits
@@ -32,14 +32,14 @@ pub enum Flaw {
 }
 
 // Whether a line is an event.
-#[derive(Drop)]
+#[derive(Clone, Copy)]
 pub enum Verdict {
     Good,
     Bad(Flaw),
 }
 
 // An event: its word, and the numbers after it; 0 for those that are not there.
-#[derive(Drop)]
+#[derive(Clone, Copy)]
 pub struct Event {
     pub verb: Verb,
     pub count: usize,
@@ -47,21 +47,21 @@ pub struct Event {
 }
 
 // What a line says, which counts only where the verdict is good.
-#[derive(Drop)]
+#[derive(Clone, Copy)]
 pub struct Parsed {
     pub event: Event,
     pub verdict: Verdict,
 }
 
 // A number, and where it ends.
-#[derive(Drop)]
+#[derive(Clone, Copy)]
 pub enum Number {
     Is(u64, usize),
     Bad,
 }
 
 // The numbers of a line up to the first that is none: good where the line ends there.
-#[derive(Drop)]
+#[derive(Clone, Copy)]
 struct Numbers {
     values: [u64; 35],
     count: usize,

@@ -11,20 +11,20 @@ use arithmetic::refusals::Refusal;
 use vectors::bytes::copy_bytes;
 
 // The bytes of the store up to `end`: all are those of write `owner`; or, where it is the number of the writes, none is covered.
-#[derive(Drop)]
+#[derive(Clone, Copy)]
 pub struct Stretch {
     pub owner: usize,
     pub end: u64,
 }
 
 // How much the writes of a sheet became.
-#[derive(Drop)]
+#[derive(Clone, Copy)]
 pub struct Size {
     pub ranges: usize,
     pub bytes: usize,
 }
 
-#[derive(Drop)]
+#[derive(Clone, Copy)]
 pub enum Joined {
     Into(Size),
     Refused(Refusal),

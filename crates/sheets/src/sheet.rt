@@ -5,7 +5,7 @@ ghost use Rattle.sheets.specs.Sheets.{no_write, writes_in, row_of, is_sound, she
 
 use arithmetic::offsets::{LARGEST, StoreOffset};
 
-#[derive(Drop)]
+#[derive(Clone, Copy)]
 pub struct SheetWrite {
     pub offset: StoreOffset,
     pub start: u64, // of its bytes in the data

@@ -13,7 +13,7 @@ use arithmetic::settings::Settings;
 use arithmetic::zeroes::{DiscardCut, ZeroCut, discard_cut, zero_cut};
 
 // What a job begins with: nothing to do, its first stage, or a refusal.
-#[derive(Drop)]
+#[derive(Clone, Copy)]
 pub enum Plan {
     Done,
     Started(State),

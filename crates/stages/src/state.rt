@@ -7,7 +7,7 @@ ghost use Rattle.stages.specs.Stages.{request_of};
 use arithmetic::offsets::{BufferOffset, InBuffer, Range, StoreOffset};
 
 // What a job was begun as.
-#[derive(Drop)]
+#[derive(Clone, Copy)]
 pub enum Job {
     Read,
     Write,
@@ -17,7 +17,7 @@ pub enum Job {
 }
 
 // Which request is out, or waited for.
-#[derive(Drop)]
+#[derive(Clone, Copy)]
 pub enum Phase {
     Free, // no job
     Ended, // the final answer is there
@@ -32,7 +32,7 @@ pub enum Phase {
 }
 
 // What follows the stage.
-#[derive(Drop)]
+#[derive(Clone, Copy)]
 pub enum Course {
     Last, // nothing
     Middle, // of a zero job: head, then tail; told 1: the whole in chunks
@@ -41,7 +41,7 @@ pub enum Course {
 }
 
 // Where a stage's bytes lie on the store and in the bounce buffer.
-#[derive(Drop)]
+#[derive(Clone, Copy)]
 pub struct Stage {
     pub asked: Range, // the asked range, before padding
     pub request: Range, // the range of its write, zero, discard or only read: padded, or as asked
@@ -51,7 +51,7 @@ pub struct Stage {
     pub strong: bool, // whether its blocker is strong
 }
 
-#[derive(Drop)]
+#[derive(Clone, Copy)]
 pub struct State {
     pub phase: Phase,
     pub answer: u8, // the final answer, once ended
@@ -63,7 +63,7 @@ pub struct State {
 }
 
 // What the store must do.
-#[derive(Drop)]
+#[derive(Clone, Copy)]
 pub enum Kind {
     Read,
     Write,
@@ -72,7 +72,7 @@ pub enum Kind {
     Discard,
 }
 
-#[derive(Drop)]
+#[derive(Clone, Copy)]
 pub struct Request {
     pub kind: Kind,
     pub offset: StoreOffset,

@@ -11,7 +11,7 @@ use arithmetic::settings::Settings;
 use arithmetic::zeroes::{Chunk, next_chunk};
 
 // The job goes on in its stage, ends, or enters its next stage.
-#[derive(Drop)]
+#[derive(Clone, Copy)]
 pub enum Step {
     Stays(State),
     Ends(State),

@@ -8,21 +8,21 @@ use arithmetic::settings::{Alignments, Profile};
 use records::{Start, first_record, u32_of};
 
 // The first `count` rows count.
-#[derive(Drop)]
+#[derive(Clone, Copy)]
 pub struct Table {
     pub rows: [Alignments; 64],
     pub count: usize,
 }
 
 // A table, and whether it was loaded: one that was not has no row.
-#[derive(Drop)]
+#[derive(Clone, Copy)]
 pub struct Loaded {
     pub table: Table,
     pub outcome: Outcome,
 }
 
 // What a record is to a table.
-#[derive(Drop)]
+#[derive(Clone, Copy)]
 pub enum Entry {
     Passed, // of a kind that is passed over
     Row(Alignments),

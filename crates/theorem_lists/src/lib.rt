@@ -1,1 +1,2 @@
 // Lists of calls on a dock, from an opened one: what holds after every one of them. No code: see specs/.
+#![tactic(auto)]

@@ -1,4 +1,5 @@
 // Runs the vectors' calls on a list of cases, one line a case.
+#![tactic(auto)]
 mod show; // what is printed
 mod edits; // validity, push, insert, append
 mod splits; // split_at, split_tail_at

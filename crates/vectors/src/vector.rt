@@ -7,13 +7,13 @@ ghost use Rattle.vectors.specs.Joining.{Room, Joins, last_touches, Lengthens, Gl
 use arithmetic::refusals::{Outcome, Refusal};
 
 // A run of bytes of the lent data (document 01: a piece of a vector).
-#[derive(Drop)]
+#[derive(Clone, Copy)]
 pub struct Segment {
     pub start: usize,
     pub length: usize,
 }
 
-#[derive(Drop)]
+#[derive(Clone, Copy)]
 pub struct IoVector {
     pub segments: [Segment; 16],
     pub count: usize,
@@ -21,14 +21,14 @@ pub struct IoVector {
 }
 
 // The vector after a call, and whether it was carried out; a refused call leaves it as it was.
-#[derive(Drop)]
+#[derive(Clone, Copy)]
 pub struct Changed {
     pub vector: IoVector,
     pub outcome: Outcome,
 }
 
 // A vector with segments glued behind it, and whether they fit; where they do not, it is as it was.
-#[derive(Drop)]
+#[derive(Clone, Copy)]
 pub struct Glued {
     pub vector: IoVector,
     pub fits: bool,
@@ -36,7 +36,7 @@ pub struct Glued {
 
 // The two parts of a split, and how many segments the walk to it looked at; of a refused one the vector as it was, an empty
 // one, and 0.
-#[derive(Drop)]
+#[derive(Clone, Copy)]
 pub struct Halves {
     pub head: IoVector,
     pub tail: IoVector,
@@ -45,7 +45,7 @@ pub struct Halves {
 }
 
 // The tail of a split alone; of a refused one the vector as it was.
-#[derive(Drop)]
+#[derive(Clone, Copy)]
 pub struct Tail {
     pub vector: IoVector,
     pub looked: usize,
@@ -53,14 +53,14 @@ pub struct Tail {
 }
 
 // A place between two bytes of a vector: `inside` bytes into segment `index`.
-#[derive(Drop)]
+#[derive(Clone, Copy)]
 pub struct SplitPosition {
     pub index: usize,
     pub inside: usize,
 }
 
 // Where a split falls: where the head ends, and where the tail starts; and how many segments the walk looked at.
-#[derive(Drop)]
+#[derive(Clone, Copy)]
 pub struct Split {
     pub head: SplitPosition,
     pub tail: SplitPosition,
@@ -68,7 +68,7 @@ pub struct Split {
 }
 
 // Whether a vector's segments lie as direct requests need them.
-#[derive(Drop)]
+#[derive(Clone, Copy)]
 pub enum Alignment {
     Aligned,
     Unaligned,
