@@ -85,12 +85,11 @@ sound_row : (n : ℕ) (a : Alignments) (x : Rows) (rs : List Alignments) → ali
 sound_row n a (these ts) rs f e g =
     let i : a ∷ ts ≡ rs = ap (rows_in rs) e in
     let s = g ts refl in
-    let fit : (j : ℕ) → j < length (a ∷ ts) → alignments_fit (get_or (a ∷ ts) j no_row) ≡ true =
-    λ j. elim j [
-      | zero ↦ λ l. f
-      | suc j ↦ λ l. s.fit j (omega (arith, l))
-    ] in
-    rw (← i) (record { some = omega (arith, s.some); most = omega (arith, s.most); fit = fit })
+    rw (← i) (record { some = omega (arith, s.some); most = omega (arith, s.most); fit = fit s })
+  where
+    fit : Sound (suc n) ts → (j : ℕ) → j < length (a ∷ ts) → alignments_fit (get_or (a ∷ ts) j no_row) ≡ true
+    fit s zero l = f
+    fit s (suc j) l = s.fit j (omega (arith, l))
 sound_row n a (refused r) rs f e g = let z : ◌≡◌ {A = ℕ} 0 1 = cc in absurd (omega arith)
 
 sound_from : (n : ℕ) (form : Form) (rs : List Alignments) → n ≤ 64 → rows_from n form ≡ these rs → Sound n rs

@@ -1,6 +1,6 @@
 -- Laws of the bytes of segments: lengths, joined lists, what scatter and fill keep, and which byte stands where. Assumes nothing.
 use Rattle.std.specs.Prelude.{◌≡◌, refl, Bool, true, false, ◌||◌, ◌⊎◌, ℕ, zero, suc, ◌+◌, ◌-◌, ◌≤◌, ◌<◌, get_or, replicate}
-use Rattle.std.proofs.Math.Path.{sym, ap}
+use Rattle.std.proofs.Math.Path.{sym, ap, subst}
 use Rattle.std.proofs.Common.{◌∙◌, inl, inr, ⊎_elim, zero-add, suc-add, length-append, length-take, drop_of_length-le, take-append-drop, take_all, take_at, drop_at, get_or-take, get_or-drop, get_or-append-add, take-add, lt-ltb, le-ltb, le-leb}
 use Rattle.std.proofs.Math.Bool.{or-true}
 use mathlib.Core.List.{List, [], ◌∷◌, ◌++◌, append_assoc, append-nil}
@@ -329,7 +329,10 @@ place_covered (p ∷ ps) i h = elim (dec_lt i p.length) [
       rw (lt-ltb i p.length l) (rw (le-leb p.start (p.start + i) a, lt-ltb (p.start + i) (p.start + p.length) b))
   | no l ↦
       let g : p.length ≤ i = omega arith in
-      rw (le-ltb i p.length g) (rw (place_covered ps (i - p.length) (omega arith)) (or-true (in_segment (place_of ps (i - p.length)) p)))
+      let e : place_of (p ∷ ps) i ≡ place_of ps (i - p.length) = rw (le-ltb i p.length g) refl in
+      let c : any_segment (in_segment (place_of ps (i - p.length))) ps ≡ true = place_covered ps (i - p.length) (omega arith) in
+      subst (λ (k : ℕ). covered (p ∷ ps) k ≡ true) (sym e)
+      (ap (λ (b : Bool). in_segment (place_of ps (i - p.length)) p || b) c ∙ or-true (in_segment (place_of ps (i - p.length)) p))
 ]
 
 -- and each index in one of them is a place
