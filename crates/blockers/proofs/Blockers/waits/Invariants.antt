@@ -1,0 +1,18 @@
+-- `blockers::Blockers::waits` meets its contract: the loop leaves at the first noted slot that is entered, and after i turns none of the first i is one. Assumes nothing.
+use borrow.Author.Rules.{rules}
+use native.Mathlib.Omega.{arith}
+use borrow.Author.Count.{below_none, below_more}
+use Prim.Native.Nat.{ℕ, ◌≤◌, ◌<◌, ◌-◌}
+use mathlib.Core.Path.{◌≡◌, sym, ap, ◌∙◌}
+use mathlib.Core.Bool.{Bool, false, ◌&&◌}
+use Rattle.arithmetic.specs.Loops.{any_here, any_none}
+use Rattle.blockers.specs.Blockers.{waits_of, is_entered, blocker_at, has_noted}
+use Rattle.blockers.specs.Laws.{past_free}
+use Rattle.blockers.proofs.Slots.{eight}
+use Rattle.blockers.proofs.Blockers.waits.Given as goal
+
+abbrev pub invariant-loop-i : goal.invariant-loop-i
+invariant-loop-i l = (l.i ≤ 8) × ((k : ℕ) → k < l.i → (has_noted l.self l.slot k && is_entered (blocker_at l.self k)) ≡ false)
+
+abbrev pub decreases-loop-i : goal.decreases-loop-i
+decreases-loop-i l = 8 - l.i

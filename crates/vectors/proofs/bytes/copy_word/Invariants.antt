@@ -1,0 +1,22 @@
+-- `vectors::bytes::copy_word` meets its contract: before place i the array is as the source from `at` on; the part has the array's first j bytes
+-- there, and its own around them. Assumes nothing.
+use mathlib.Core.Path.{◌≡◌, refl, ◌∙◌}
+use Prim.Native.Nat.{ℕ, ◌≤◌, ◌-◌}
+use native.Mathlib.Omega.{arith}
+use lib.ListN.{length, take, drop, replicate, length-set, length-replicate}
+use lib.Seq.{paste, paste-zero}
+use Rattle.arithmetic.specs.Loops.{Like}
+use Rattle.vectors.proofs.Copying.{read_none, read_more, read_long, read_done, write_more, write_done}
+use Rattle.vectors.proofs.bytes.copy_word.Given as goal
+
+abbrev pub invariant-loop-i : goal.invariant-loop-i
+invariant-loop-i l = (l.i ≤ 8) × Like (take 8 (drop l.at l.source)) l.bytes l.i
+
+abbrev pub decreases-loop-i : goal.decreases-loop-i
+decreases-loop-i l = 8 - l.i
+
+abbrev pub invariant-loop-j : goal.invariant-loop-j
+invariant-loop-j l = (l.j ≤ 8) × (length l.part ≡ length l.initial.part) × (l.bytes ≡ take 8 (drop l.at l.source)) × (l.part ≡ paste l.initial.part l.at l.bytes l.j)
+
+abbrev pub decreases-loop-j : goal.decreases-loop-j
+decreases-loop-j l = 8 - l.j

@@ -1,0 +1,15 @@
+-- `vectors::bytes::fill_bytes` meets its contract: after i turns the part is i times the value, then its own rest. Assumes nothing.
+use mathlib.Core.Path.{◌≡◌, refl, ◌∙◌}
+use mathlib.Core.List.{◌++◌}
+use Prim.Native.Nat.{◌≤◌, ◌-◌}
+use native.Mathlib.Omega.{arith}
+use lib.ListN.{length, replicate, drop, length-set}
+use borrow.Author.Fill.{fill_more}
+use Rattle.vectors.proofs.Moving.{fill_done}
+use Rattle.vectors.proofs.bytes.fill_bytes.Given as goal
+
+abbrev pub invariant-loop-i : goal.invariant-loop-i
+invariant-loop-i l = (l.i ≤ length l.initial.part) × (length l.part ≡ length l.initial.part) × (l.part ≡ replicate l.i l.value ++ drop l.i l.initial.part)
+
+abbrev pub decreases-loop-i : goal.decreases-loop-i
+decreases-loop-i l = length l.initial.part - l.i

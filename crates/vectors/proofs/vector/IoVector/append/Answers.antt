@@ -1,0 +1,51 @@
+-- `vectors::vector::IoVector::append` meets its contract: each step glues what the tests showed to fit. Assumes nothing.
+-- what the tests have shown
+use mathlib.Core.Path.{◌≡◌, sym, ◌∙◌}
+use mathlib.Core.Bool.{true, ◌&&◌}
+use mathlib.Core.List.{[]}
+use native.Mathlib.Omega.{arith}
+use lib.ListN.{length}
+use borrow.Author.Tests.{not-true, not-false}
+use Rattle.arithmetic.specs.Loops.{array_long}
+use Rattle.vectors.specs.Vectors.{is_valid}
+use Rattle.vectors.proofs.Building.{grown}
+use Rattle.vectors.proofs.Editing.{both_are, append_not, append_valid, append_long, append_first, append_rest, append_over, append_done}
+use borrow.Author.Rules.{rules}
+use Rattle.vectors.proofs.vector.IoVector.append.Goals as goal
+use Rattle.vectors.proofs.vector.IoVector.append.Goals.{Else-not-is_asked, Start}
+
+wide_of : (c : Start) → length c.args.self.segments ≡ 16
+wide_of c = search (rules, array_long)
+
+wide-other : (c : Start) → length c.args.other.segments ≡ 16
+wide-other c = search (rules, array_long)
+
+asked_of : (c : Else-not-is_asked) → (is_valid c.args.data_len c.args.other && is_valid c.args.data_len c.args.self) ≡ true
+asked_of c = sym (both_are c.is_valid.ensures c.is_valid-2.ensures) ∙ c.if-not-is_asked.false
+
+pub returns-then-not-is_asked : goal.returns-then-not-is_asked
+returns-then-not-is_asked c = c.refuse.ensures ∙ append_not c.args.data_len c.args.self c.args.other
+    (sym (both_are c.is_valid.ensures c.is_valid-2.ensures) ∙ c.if-not-is_asked.true)
+
+pub overflow_sub-self : goal.overflow_sub-self
+overflow_sub-self c = let v = append_valid c.args.data_len c.args.self c.args.other (wide_of c.before.before.before.before) (wide-other c.before.before.before.before) (asked_of c.before) in
+    omega (arith, v.total, v.fit.small)
+
+pub returns-then-self-other : goal.returns-then-self-other
+returns-then-self-other c = c.refuse-then-self-other.ensures ∙ append_long c.args.data_len c.args.self c.args.other (wide_of c.before.before.before.before.before.before.before) (wide-other c.before.before.before.before.before.before.before) (asked_of c.before.before.before.before) c.if-self-other.true
+
+pub join-front-requires : goal.join-front-requires
+join-front-requires c = append_first c.args.data_len c.args.self c.args.other (wide_of c.before.before.before.before.before.before.before) (wide-other c.before.before.before.before.before.before.before) (asked_of c.before.before.before.before) c.new.result c.new.ensures
+
+pub glue_all-whole-requires : goal.glue_all-whole-requires
+glue_all-whole-requires c = append_rest c.args.data_len c.args.self c.args.other (wide_of c.before.before.before.before.before.before.before.before) (wide-other c.before.before.before.before.before.before.before.before) (asked_of c.before.before.before.before.before) c.if-self-other.false c.join-front.result (grown [] _ c.new.ensures c.join-front.ensures)
+
+pub returns-then-not-whole : goal.returns-then-not-whole
+returns-then-not-whole c = c.refuse-then-not-whole.ensures ∙ append_over c.args.data_len c.args.self c.args.other (wide_of c.before.before.before.before.before.before.before.before.before.before.before.before) (wide-other c.before.before.before.before.before.before.before.before.before.before.before.before) (asked_of c.before.before.before.before.before.before.before.before.before) c.if-self-other.false
+    c.join-front.result (grown [] _ c.new.ensures c.join-front.ensures)
+    c.glue_all-whole.result c.glue_all-whole.ensures (c.if-not-whole.true)
+
+pub returns : goal.returns
+returns c = append_done c.args.data_len c.args.self c.args.other (wide_of c.before.before.before.before.before.before.before.before.before.before.before.before) (wide-other c.before.before.before.before.before.before.before.before.before.before.before.before) (asked_of c.before.before.before.before.before.before.before.before.before) c.if-self-other.false
+    c.join-front.result (grown [] _ c.new.ensures c.join-front.ensures)
+    c.glue_all-whole.result c.glue_all-whole.ensures (c.if-not-whole.false)

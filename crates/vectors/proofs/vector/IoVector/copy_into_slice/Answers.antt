@@ -1,0 +1,29 @@
+-- `vectors::vector::IoVector::copy_into_slice` meets its contract: past the two tests it is a gather, and a refused call changes nothing. Assumes nothing.
+-- past the first test the vector is valid
+use mathlib.Core.Path.{◌≡◌, sym, ap, ◌∙◌}
+use mathlib.Core.Bool.{true}
+use lib.ListN.{length}
+use borrow.Author.Tests.{not-true, not-false}
+use Rattle.vectors.specs.Vectors.{is_valid}
+use Rattle.vectors.proofs.Moving.{copies_invalid, copies_other, copies_true, bytes_total, refused, carried_out_lem}
+use borrow.Author.Rules.{rules}
+use Rattle.vectors.proofs.vector.IoVector.copy_into_slice.Goals as goal
+use Rattle.vectors.proofs.vector.IoVector.copy_into_slice.Goals.{Else-not-is_valid}
+
+valid-of : (c : Else-not-is_valid) → is_valid (length c.args.«data».now) c.args.self ≡ true
+valid-of c = sym c.is_valid.ensures ∙ c.if-not-is_valid.false
+
+pub returns-then-not-is_valid : goal.returns-then-not-is_valid
+returns-then-not-is_valid c = refused _ _ _ (copies_invalid _ _ _ (sym c.is_valid.ensures ∙ c.if-not-is_valid.true))
+
+pub returns-then-slice-self : goal.returns-then-slice-self
+returns-then-slice-self c = refused _ _ _ (copies_other _ _ _ c.if-slice-self.true)
+
+pub gather-requires : goal.gather-requires
+gather-requires c = copies_true _ _ _ (valid-of c.before.before.before) c.if-slice-self.false
+
+pub shape_of-slice : goal.shape_of-slice
+shape_of-slice c = ap length c.gather.ensures ∙ bytes_total _ _ (valid-of c.before.before.before.before.before.before) ∙ sym c.if-slice-self.false
+
+pub returns : goal.returns
+returns c = carried_out_lem _ _ _ _ (copies_true _ _ _ (valid-of c.before.before.before.before.before.before) c.if-slice-self.false) c.gather.ensures

@@ -1,0 +1,28 @@
+-- `vectors::vector::IoVector::fill` meets its contract: past the test it is a fill of the segments, and a refused call changes nothing. Assumes nothing.
+-- past the test the vector is valid
+use mathlib.Core.Path.{◌≡◌, sym, ap, ◌∙◌}
+use mathlib.Core.Bool.{true}
+use lib.ListN.{length}
+use borrow.Author.Tests.{not-true, not-false}
+use Rattle.vectors.specs.Vectors.{is_valid}
+use Rattle.vectors.specs.SegmentLaws.{valid}
+use Rattle.vectors.specs.ByteLaws.{fill_length}
+use Rattle.vectors.proofs.Moving.{refused, carried_out_lem}
+use borrow.Author.Rules.{rules}
+use Rattle.vectors.proofs.vector.IoVector.fill.Goals as goal
+use Rattle.vectors.proofs.vector.IoVector.fill.Goals.{Else-not-is_valid}
+
+valid-of : (c : Else-not-is_valid) → is_valid (length c.args.«data».now) c.args.self ≡ true
+valid-of c = sym c.is_valid.ensures ∙ c.if-not-is_valid.false
+
+pub returns-then-not-is_valid : goal.returns-then-not-is_valid
+returns-then-not-is_valid c = refused _ _ _ (sym c.is_valid.ensures ∙ c.if-not-is_valid.true)
+
+pub fill_segments-requires : goal.fill_segments-requires
+fill_segments-requires c = valid-of c.before
+
+pub shape_of-data : goal.shape_of-data
+shape_of-data c = ap length c.fill_segments.ensures ∙ fill_length _ _ _ (valid _ _ (valid-of c.before.before.before.before)).fit.lie
+
+pub returns : goal.returns
+returns c = carried_out_lem _ _ _ _ (valid-of c.before.before.before.before) c.fill_segments.ensures

@@ -1,0 +1,24 @@
+-- `vectors::vector::IoVector::lengthen` meets its contract: the last segment becomes the two in one. Assumes nothing.
+use mathlib.Core.Path.{◌≡◌}
+use native.Mathlib.Omega.{arith}
+use lib.ListN.{length}
+use Rattle.arithmetic.specs.Loops.{array_long}
+use Rattle.vectors.proofs.Gluing.{some_left, last_length, lengthened}
+use borrow.Author.Rules.{rules}
+use Rattle.vectors.proofs.vector.IoVector.lengthen.Goals as goal
+use Rattle.vectors.proofs.vector.IoVector.lengthen.Goals.{Start}
+
+wide_of : (c : Start) → length c.args.self.segments ≡ 16
+wide_of c = search (rules, array_long)
+
+pub overflow_sub-end : goal.overflow_sub-end
+overflow_sub-end c = some_left c.args.self c.args.next (wide_of c) c.requires
+
+pub overflow_add-self : goal.overflow_add-self
+overflow_add-self c = omega (arith, last_length c.args.self c.args.next (wide_of c.before.before.before) c.requires, c.requires.asked.small)
+
+pub overflow_add-self-2 : goal.overflow_add-self-2
+overflow_add-self-2 c = omega (arith, c.requires.asked.small)
+
+pub returns : goal.returns
+returns c = lengthened c.args.self c.args.next (wide_of c.before.before.before) c.requires

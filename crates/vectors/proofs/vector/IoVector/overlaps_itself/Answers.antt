@@ -1,0 +1,39 @@
+-- `vectors::vector::IoVector::overlaps_itself` meets its contract: what is sought is what is sought from segment i on. Assumes nothing.
+use borrow.Author.Rules.{rules}
+use mathlib.Core.Path.{◌≡◌, sym, ◌∙◌}
+use Prim.Native.Nat.{◌-◌}
+use native.Mathlib.Omega.{arith}
+use lib.ListN.{length}
+use Rattle.arithmetic.specs.Loops.{array_long}
+use Rattle.vectors.proofs.Testing.{Selfsought, self_start, self_from, self_here, self_next, self_end}
+use Rattle.vectors.proofs.vector.IoVector.overlaps_itself.Goals as goal
+
+pub loop-i-init : goal.loop-i-init
+loop-i-init c = let w : length c.args.self.segments ≡ 16 = search (rules, array_long) in self_start c.args.self c.used_count-n.result w c.used_count-n.ensures
+
+pub offset_bounds-self-i : goal.offset_bounds-self-i
+offset_bounds-self-i c = omega (arith, c.loop-i.invariant.most)
+
+pub bounds-self-i : goal.bounds-self-i
+bounds-self-i c = omega (arith, c.loop-i.invariant.most)
+
+pub overflow_add-i : goal.overflow_add-i
+overflow_add-i c = omega (arith, c.loop-i-test.true, c.loop-i.invariant.most)
+
+pub shares_from-requires : goal.shares_from-requires
+shares_from-requires c = self_from _ _ _ c.loop-i.invariant c.loop-i-test.true
+
+pub returns-then-shares_from : goal.returns-then-shares_from
+returns-then-shares_from c = self_here _ _ _ c.loop-i.invariant c.loop-i-test.true (sym c.shares_from.ensures ∙ c.if-shares_from.true)
+
+pub overflow_add-i-in-loop-i : goal.overflow_add-i-in-loop-i
+overflow_add-i-in-loop-i c = omega (arith, c.loop-i-test.true, c.loop-i.invariant.most)
+
+pub loop-i-smaller : goal.loop-i-smaller
+loop-i-smaller c = omega (arith, c.loop-i-test.true)
+
+pub loop-i-preserved : goal.loop-i-preserved
+loop-i-preserved c = self_next _ _ _ c.loop-i.invariant c.loop-i-test.true (sym c.shares_from.ensures ∙ c.if-shares_from.false)
+
+pub returns : goal.returns
+returns c = self_end _ _ _ c.loop-i.invariant c.loop-i-test.false

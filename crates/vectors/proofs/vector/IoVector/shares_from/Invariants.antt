@@ -1,0 +1,16 @@
+-- `vectors::vector::IoVector::shares_from` meets its contract: what is sought is what is sought from segment i on. Assumes nothing.
+use borrow.Author.Rules.{rules}
+use mathlib.Core.Path.{◌≡◌, sym, ◌∙◌}
+use Prim.Native.Nat.{◌-◌}
+use native.Mathlib.Omega.{arith}
+use lib.ListN.{length, drop}
+use Rattle.vectors.specs.Vectors.{segments_of, shares, any_segment}
+use Rattle.arithmetic.specs.Loops.{array_long}
+use Rattle.vectors.proofs.Testing.{Sought, sought_start, sought_here, sought_next, sought_end}
+use Rattle.vectors.proofs.vector.IoVector.shares_from.Given as goal
+
+abbrev pub invariant-loop-i : goal.invariant-loop-i
+invariant-loop-i l = Sought l.self (shares l.segment) (any_segment (shares l.segment) (drop l.start (segments_of l.self))) l.n l.i
+
+abbrev pub decreases-loop-i : goal.decreases-loop-i
+decreases-loop-i l = l.n - l.i

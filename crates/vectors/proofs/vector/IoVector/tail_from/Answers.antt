@@ -1,0 +1,38 @@
+-- `vectors::vector::IoVector::tail_from` meets its contract: the segments from the position on, the first cut where it lies inside one. Assumes nothing.
+use mathlib.Core.Path.{◌≡◌}
+use mathlib.Core.List.{[]}
+use Prim.Native.Nat.{◌-◌}
+use native.Mathlib.Omega.{arith}
+use lib.ListN.{length, take, drop}
+use Rattle.arithmetic.specs.Loops.{array_long}
+use Rattle.vectors.specs.Vectors.{segments_of, vector_of}
+use Rattle.vectors.proofs.Building.{grown}
+use Rattle.vectors.proofs.Splitting.{tail_joins, tail_clean, tail_ends, tail_inner}
+use borrow.Author.Rules.{rules}
+use Rattle.vectors.proofs.vector.IoVector.tail_from.Goals as goal
+use Rattle.vectors.proofs.vector.IoVector.tail_from.Goals.{After-join-tail, Start}
+
+wide_of : (c : Start) → length c.args.self.segments ≡ 16
+wide_of c = search (rules, array_long)
+
+-- the segments from the position's on, whole
+joined : (c : After-join-tail) → c.join-tail.result ≡ vector_of (take (c.args.self.count - c.args.position.index) (drop c.args.position.index (segments_of c.args.self)))
+joined c = grown [] _ c.new.ensures c.join-tail.ensures
+
+pub join-tail-requires : goal.join-tail-requires
+join-tail-requires c = tail_joins _ c.args.position (wide_of c.before.before) c.requires c.new.result c.new.ensures
+
+pub returns-then-inside-eq0 : goal.returns-then-inside-eq0
+returns-then-inside-eq0 c = tail_clean _ c.args.position (wide_of c.before.before.before.before) c.requires _ c.if-inside-eq0.true (joined c.before)
+
+pub overflow_add-start : goal.overflow_add-start
+overflow_add-start c = omega (arith, (tail_ends _ _ (wide_of c.before.before.before.before.before.before) c.requires c.if-inside-eq0.false _ (joined c.before.before.before)).0)
+
+pub overflow_sub-length : goal.overflow_sub-length
+overflow_sub-length c = (tail_ends _ _ (wide_of c.before.before.before.before.before.before.before) c.requires c.if-inside-eq0.false _ (joined c.before.before.before.before)).1
+
+pub overflow_sub-tail : goal.overflow_sub-tail
+overflow_sub-tail c = (tail_ends _ _ (wide_of c.before.before.before.before.before.before.before) c.requires c.if-inside-eq0.false _ (joined c.before.before.before.before)).2
+
+pub returns : goal.returns
+returns c = tail_inner _ _ (wide_of c.before.before.before.before.before.before.before) c.requires c.if-inside-eq0.false _ (joined c.before.before.before.before)

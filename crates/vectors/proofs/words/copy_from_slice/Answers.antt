@@ -1,0 +1,32 @@
+-- `vectors::words::copy_from_slice` meets its contract: past the two tests it is a scatter, and a refused call changes nothing. Assumes nothing.
+-- past the first test the vector is valid
+use mathlib.Core.Path.{◌≡◌, sym, ap, ◌∙◌}
+use mathlib.Core.Bool.{true}
+use lib.ListN.{length}
+use borrow.Author.Tests.{not-true, not-false}
+use Rattle.vectors.specs.Vectors.{is_valid}
+use Rattle.vectors.specs.Words.{vector_from}
+use Rattle.vectors.specs.SegmentLaws.{valid}
+use Rattle.vectors.specs.ByteLaws.{scatter_length}
+use Rattle.vectors.proofs.Moving.{copies_invalid, copies_other, copies_true, refused, carried_out_lem}
+use borrow.Author.Rules.{rules}
+use Rattle.vectors.proofs.words.copy_from_slice.Goals as goal
+use Rattle.vectors.proofs.words.copy_from_slice.Goals.{Else-not-is_valid}
+
+valid-of : (c : Else-not-is_valid) → is_valid (length c.args.«data».now) (vector_from c.args.words.now) ≡ true
+valid-of c = sym c.is_valid.ensures ∙ c.if-not-is_valid.false
+
+pub returns-then-not-is_valid : goal.returns-then-not-is_valid
+returns-then-not-is_valid c = refused _ _ _ (copies_invalid _ _ _ (sym c.is_valid.ensures ∙ c.if-not-is_valid.true))
+
+pub returns-then-slice-len : goal.returns-then-slice-len
+returns-then-slice-len c = refused _ _ _ (copies_other _ _ _ (rw c.len.ensures at c.if-slice-len.true))
+
+pub scatter-requires : goal.scatter-requires
+scatter-requires c = copies_true _ _ _ (valid-of c.before.before.before) (rw c.len.ensures at c.if-slice-len.false)
+
+pub shape_of-data : goal.shape_of-data
+shape_of-data c = ap length c.scatter.ensures ∙ scatter_length _ _ _ (valid _ _ (valid-of c.before.before.before.before.before.before)).fit.lie
+
+pub returns : goal.returns
+returns c = carried_out_lem _ _ _ _ (copies_true _ _ _ (valid-of c.before.before.before.before.before.before) (rw c.len.ensures at c.if-slice-len.false)) c.scatter.ensures

@@ -1,0 +1,15 @@
+-- `vectors::words::get_vector` meets its contract: after i turns the first i segments are read. Assumes nothing.
+use Prim.Native.Nat.{◌≤◌, ◌-◌}
+use mathlib.Core.Path.{refl, sym}
+use borrow.Author.Rules.{rules}
+use Rattle.arithmetic.specs.Loops.{Like, like_more, like_all}
+use Rattle.vectors.specs.Vectors.{none}
+use Rattle.vectors.specs.Words.{vector_from}
+use Rattle.vectors.specs.WordLaws.{vector_wide}
+use Rattle.vectors.proofs.words.get_vector.Given as goal
+
+abbrev pub invariant-loop-i : goal.invariant-loop-i
+invariant-loop-i l = (l.i ≤ 16) × (Like (vector_from l.words).segments l.segments l.i)
+
+abbrev pub decreases-loop-i : goal.decreases-loop-i
+decreases-loop-i l = 16 - l.i

@@ -1,0 +1,28 @@
+-- `vectors::words::overlaps` meets its contract: what is sought is what is sought from segment i on. Assumes nothing.
+use borrow.Author.Rules.{rules}
+use native.Mathlib.Omega.{arith}
+use mathlib.Core.Path.{sym, ◌∙◌}
+use Prim.Native.Nat.{◌-◌}
+use Rattle.vectors.specs.Vectors.{segments_of, shares, any_segment, overlap_of}
+use Rattle.vectors.specs.Words.{vector_from}
+use Rattle.vectors.specs.WordLaws.{vector_wide}
+use Rattle.vectors.proofs.Testing.{Sought, overlap_start, sought_here, sought_next, sought_end}
+use Rattle.vectors.proofs.words.overlaps.Goals as goal
+
+pub loop-i-init : goal.loop-i-init
+loop-i-init c = overlap_start _ (vector_from c.args.w.now) _ (vector_wide _) c.used_count-n.ensures
+
+pub returns-then-shares_from : goal.returns-then-shares_from
+returns-then-shares_from c = sought_here _ _ _ _ _ c.loop-i.invariant c.loop-i-test.true (rw c.segment_at-p.ensures at (sym c.shares_from.ensures ∙ c.if-shares_from.true))
+
+pub overflow_add-i : goal.overflow_add-i
+overflow_add-i c = omega (arith, c.loop-i-test.true, c.loop-i.invariant.most)
+
+pub loop-i-smaller : goal.loop-i-smaller
+loop-i-smaller c = omega (arith, c.loop-i-test.true)
+
+pub loop-i-preserved : goal.loop-i-preserved
+loop-i-preserved c = sought_next _ _ _ _ _ c.loop-i.invariant c.loop-i-test.true (rw c.segment_at-p.ensures at (sym c.shares_from.ensures ∙ c.if-shares_from.false))
+
+pub returns : goal.returns
+returns c = sought_end _ _ _ _ _ c.loop-i.invariant c.loop-i-test.false
