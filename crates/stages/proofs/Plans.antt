@@ -52,9 +52,9 @@ padded_parts f j w w' m m' c x r r' g ph e ew em eg er ep =
     from_parts j w w' m m' c g (padded_stage x r') ph (f (padded_stage x r')) e ew em k (ep ∙ ap f k)
 
 -- a transfer that is neither direct nor bounced is refused, for what it says
-pub refused_is : (x : Transfer) → OneOf (1 ∷ 2 ∷ []) (tag_of (declared enum) x) → OneOf (0 ∷ 2 ∷ []) (tag_of (declared enum) x) → x ≡ NoTransfer (transfer_refusal x)
-refused_is (Direct r) k l = absurd (⊎_elim (λ e. omega arith) (λ e. omega arith) k)
-refused_is (Bounced s) k l = absurd (⊎_elim (λ e. omega arith) (λ e. omega arith) l)
+pub refused_is : (x : Transfer) → ((r : Range) → x ≡ Direct r → ⊥) → ((s : Span) → x ≡ Bounced s → ⊥) → x ≡ NoTransfer (transfer_refusal x)
+refused_is (Direct r) k l = absurd (k r refl)
+refused_is (Bounced s) k l = absurd (l s refl)
 refused_is (NoTransfer r) k l = refl
 
 -- a job over a vector

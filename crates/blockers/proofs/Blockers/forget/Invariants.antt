@@ -6,7 +6,6 @@ use mathlib.Core.Path.{◌≡◌}
 use lib.ListN.{length, length-map}
 use Rattle.arithmetic.specs.Loops.{Mapped, mapped_none, mapped_more, like_all}
 use Rattle.blockers.specs.Blockers.{forgetting, nowhere}
-use Rattle.blockers.proofs.Slots.{eight}
 use Rattle.blockers.proofs.Blockers.forget.Given as goal
 
 abbrev pub invariant-loop-i : goal.invariant-loop-i

@@ -6,7 +6,6 @@ use mathlib.Core.Path.{◌≡◌, refl, sym, ◌∙◌}
 use lib.ListN.{length, length-map, get_or-map}
 use Rattle.arithmetic.specs.Loops.{Like, like_more, like_all}
 use Rattle.blockers.specs.Blockers.{notes, notes_of, nowhere}
-use Rattle.blockers.proofs.Slots.{eight}
 use Rattle.blockers.proofs.Blockers.notes.Given as goal
 
 abbrev pub invariant-loop-i : goal.invariant-loop-i

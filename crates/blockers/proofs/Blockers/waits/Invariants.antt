@@ -8,7 +8,6 @@ use mathlib.Core.Bool.{Bool, false, ◌&&◌}
 use Rattle.arithmetic.specs.Loops.{any_here, any_none}
 use Rattle.blockers.specs.Blockers.{waits_of, is_entered, blocker_at, has_noted}
 use Rattle.blockers.specs.Laws.{past_free}
-use Rattle.blockers.proofs.Slots.{eight}
 use Rattle.blockers.proofs.Blockers.waits.Given as goal
 
 abbrev pub invariant-loop-i : goal.invariant-loop-i

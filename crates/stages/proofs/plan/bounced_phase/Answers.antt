@@ -22,6 +22,3 @@ others Discard g k = refl
 pub returns-in-Read : goal.returns-in-Read
 returns-in-Read c = sym (ap (λ (j : Job). bounced_phase j c.args.g) c.in-Read.is)
 
--- TODO returns (arm ['match', 'keys2'] at At-match-keys2 ['in_default', 1, [['in_default-own', 'match', []]]]):
--- returns-2 : tie.Need-returns-2
--- returns-2 c = let a = c.before.before.args in c.first-phase.ensures ∙ others a.job a.g c.before.match.keys2

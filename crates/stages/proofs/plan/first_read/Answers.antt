@@ -6,6 +6,7 @@ use Rattle.arithmetic.specs.Offsets.{range_of}
 use Rattle.arithmetic.specs.Padding.{reads_of}
 use Rattle.arithmetic.specs.declared.offsets.Range.{Range}
 use Rattle.arithmetic.specs.declared.padding.Span.{Span}
+use Rattle.arithmetic.specs.declared.padding.Reads.{Reads}
 use Rattle.stages.specs.Stages.{first_of}
 use Rattle.stages.specs.Transfers.{head_is, heads_are}
 use Rattle.stages.proofs.plan.first_read.Goals as goal

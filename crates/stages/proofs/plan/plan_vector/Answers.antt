@@ -28,26 +28,20 @@ pub returns-then-n-eq0 : goal.returns-then-n-eq0
 returns-then-n-eq0 c = let a = c.args in nothing_moved a.settings a.job a.direct a.offset a.n a.aligned c.if-n-eq0.true
 
 pub returns-in-Direct : goal.returns-in-Direct
-returns-in-Direct c = by c.before.before.before.before (Direct c.in-Direct.r) c.in-Direct.is (from_parts _ _ _ _ _ _ _ _ _ _ c.start.ensures refl c.nowhere.ensures c.direct_stage.ensures refl)
-
--- TODO returns-in_default-transfer (arm ['match', 'keys2'] at At-match-keys2 ['in_default', 1, [['in_default-own', 'match', []]]]):
--- returns-3 : tie.Need-returns-3
--- returns-3 c =
---     let d = c.before.before.before in
---     by d (NoTransfer _) (refused_is _ c.before.before.match.keys2 c.before.match2.keys2) (ap Refused c.refusal.ensures)
+returns-in-Direct c = by (goal.at.returns-in-Direct c).After-plan_transfer-transfer (Direct c.in-Direct.r) c.in-Direct.is (from_parts _ _ _ _ _ _ _ _ _ _ c.start.ensures refl c.nowhere.ensures c.direct_stage.ensures refl)
 
 pub returns-then-settings-span : goal.returns-then-settings-span
-returns-then-settings-span c = by c.before.before.before.before.before (Bounced c.in-Bounced.span) c.in-Bounced.is (too_long c.args.settings c.in-Bounced.span _ c.if-settings-span.true)
+returns-then-settings-span c = by (goal.at.returns-then-settings-span c).After-plan_transfer-transfer (Bounced c.in-Bounced.span) c.in-Bounced.is (too_long c.args.settings c.in-Bounced.span _ c.if-settings-span.true)
 
 pub asked_range-range-requires : goal.asked_range-range-requires
-asked_range-range-requires c = asked_fits (spans c.before.before.before)
+asked_range-range-requires c = asked_fits (spans (goal.at.asked_range-range-requires c).In-Bounced)
 
 pub padded_stage-stage-requires : goal.padded_stage-stage-requires
-padded_stage-stage-requires c = holds (spans c.before.before.before.before)
+padded_stage-stage-requires c = holds (spans (goal.at.padded_stage-stage-requires c).In-Bounced)
 
 pub returns : goal.returns
 returns c = let a = c.args in
     let r = c.asked_range-range.ensures in
-    by c.before.before.before.before.before.before.before.before.before.before (Bounced c.in-Bounced.span) c.in-Bounced.is
+    by (goal.at.returns c).After-plan_transfer-transfer (Bounced c.in-Bounced.span) c.in-Bounced.is
     (in_bounce_lem a.settings c.in-Bounced.span _ c.if-settings-span.false
     (padded_parts (bounced_phase a.job) _ _ _ _ _ _ c.in-Bounced.span _ _ _ _ c.start-2.ensures r c.nowhere-2.ensures c.padded_stage-stage.ensures r c.bounced_phase-phase.ensures))

@@ -9,4 +9,4 @@ abbrev with-length : After-size-length → ℕ → Request
 with-length c n = let a = c.args in record { kind = a.kind; offset = a.r.start; length = n; segments = a.segments }
 
 pub returns : goal.returns
-returns c = ap (with-length c) c.size-length.ensures
+returns c = ap (with-length (goal.at.returns c).After-size-length) c.size-length.ensures

@@ -23,7 +23,7 @@ pub loop-i-smaller : goal.loop-i-smaller
 loop-i-smaller c = omega (arith, c.loop-i.invariant.most, c.loop-i-test.true)
 
 pub loop-i-preserved : goal.loop-i-preserved
-loop-i-preserved c = copied_block _ _ _ _ _ c.loop-i.invariant 4096 c.copy_block.new.0 c.loop-i-test.true c.copy_block.ensures
+loop-i-preserved c = copied_block _ _ _ _ _ c.loop-i.invariant 4096 c.copy_block.new.part c.loop-i-test.true c.copy_block.ensures
 
 pub loop-i-2-init : goal.loop-i-2-init
 loop-i-2-init c = copied_begun _ _ _ _ _ c.loop-i.invariant
@@ -41,7 +41,7 @@ pub loop-i-2-smaller : goal.loop-i-2-smaller
 loop-i-2-smaller c = omega (arith, c.loop-i-2.invariant.most, c.loop-i-2-test.true)
 
 pub loop-i-2-preserved : goal.loop-i-2-preserved
-loop-i-2-preserved c = copied_block _ _ _ _ _ c.loop-i-2.invariant 8 c.copy_word.new.0 c.loop-i-2-test.true c.copy_word.ensures
+loop-i-2-preserved c = copied_block _ _ _ _ _ c.loop-i-2.invariant 8 c.copy_word.new.part c.loop-i-2-test.true c.copy_word.ensures
 
 pub loop-i-3-init : goal.loop-i-3-init
 loop-i-3-init c = copied_begun _ _ _ _ _ c.loop-i-2.invariant

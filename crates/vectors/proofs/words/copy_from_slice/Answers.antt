@@ -17,16 +17,19 @@ valid-of : (c : Else-not-is_valid) → is_valid (length c.args.«data».now) (ve
 valid-of c = sym c.is_valid.ensures ∙ c.if-not-is_valid.false
 
 pub returns-then-not-is_valid : goal.returns-then-not-is_valid
-returns-then-not-is_valid c = refused _ _ _ (copies_invalid _ _ _ (sym c.is_valid.ensures ∙ c.if-not-is_valid.true))
+returns-then-not-is_valid c = let k = refused _ _ _ (copies_invalid _ _ _ (sym c.is_valid.ensures ∙ c.if-not-is_valid.true)) in
+    record { outcome = k.0; bytes = k.1 }
 
 pub returns-then-slice-len : goal.returns-then-slice-len
-returns-then-slice-len c = refused _ _ _ (copies_other _ _ _ (rw c.len.ensures at c.if-slice-len.true))
+returns-then-slice-len c = let k = refused _ _ _ (copies_other _ _ _ (rw c.len.ensures at c.if-slice-len.true)) in
+    record { outcome = k.0; bytes = k.1 }
 
 pub scatter-requires : goal.scatter-requires
-scatter-requires c = copies_true _ _ _ (valid-of c.before.before.before) (rw c.len.ensures at c.if-slice-len.false)
+scatter-requires c = copies_true _ _ _ (valid-of (goal.at.scatter-requires c).Else-not-is_valid) (rw c.len.ensures at c.if-slice-len.false)
 
 pub shape_of-data : goal.shape_of-data
-shape_of-data c = ap length c.scatter.ensures ∙ scatter_length _ _ _ (valid _ _ (valid-of c.before.before.before.before.before.before)).fit.lie
+shape_of-data c = ap length c.scatter.ensures ∙ scatter_length _ _ _ (valid _ _ (valid-of (goal.at.shape_of-data c).Else-not-is_valid)).fit.lie
 
 pub returns : goal.returns
-returns c = carried_out_lem _ _ _ _ (copies_true _ _ _ (valid-of c.before.before.before.before.before.before) (rw c.len.ensures at c.if-slice-len.false)) c.scatter.ensures
+returns c = let k = carried_out_lem _ _ _ _ (copies_true _ _ _ (valid-of (goal.at.returns c).Else-not-is_valid) (rw c.len.ensures at c.if-slice-len.false)) c.scatter.ensures in
+    record { outcome = k.0; bytes = k.1 }

@@ -18,31 +18,31 @@ pub loop-i-init : goal.loop-i-init
 loop-i-init c = gather_start _ _ _ (vector_wide _) c.requires
 
 pub overflow_add-to : goal.overflow_add-to
-overflow_add-to c = omega (arith, fits c.before)
+overflow_add-to c = omega (arith, fits (goal.at.overflow_add-to c).After-segment_at-p)
 
 pub overflow_add-next : goal.overflow_add-next
-overflow_add-next c = omega (arith, fits c.before.before)
+overflow_add-next c = omega (arith, fits (goal.at.overflow_add-next c).After-segment_at-p)
 
 pub slice_bounds-copy_bytes-count : goal.slice_bounds-copy_bytes-count
-slice_bounds-copy_bytes-count c = omega (arith, fits c.before.before)
+slice_bounds-copy_bytes-count c = omega (arith, fits (goal.at.slice_bounds-copy_bytes-count c).After-segment_at-p)
 
 pub slice_bounds-copy_bytes-start : goal.slice_bounds-copy_bytes-start
-slice_bounds-copy_bytes-start c = omega (arith, fits c.before.before)
+slice_bounds-copy_bytes-start c = omega (arith, fits (goal.at.slice_bounds-copy_bytes-start c).After-segment_at-p)
 
 pub slice_bounds-copy_bytes-end : goal.slice_bounds-copy_bytes-end
-slice_bounds-copy_bytes-end c = omega (arith, fits c.before.before)
+slice_bounds-copy_bytes-end c = omega (arith, fits (goal.at.slice_bounds-copy_bytes-end c).After-segment_at-p)
 
 pub slice_bounds-copy_bytes-count-in-loop-i : goal.slice_bounds-copy_bytes-count-in-loop-i
-slice_bounds-copy_bytes-count-in-loop-i c = omega (arith, fits c.before.before.before)
+slice_bounds-copy_bytes-count-in-loop-i c = omega (arith, fits (goal.at.slice_bounds-copy_bytes-count-in-loop-i c).After-segment_at-p)
 
 pub slice_bounds-copy_bytes-start-in-loop-i : goal.slice_bounds-copy_bytes-start-in-loop-i
-slice_bounds-copy_bytes-start-in-loop-i c = omega (arith, fits c.before.before.before)
+slice_bounds-copy_bytes-start-in-loop-i c = omega (arith, fits (goal.at.slice_bounds-copy_bytes-start-in-loop-i c).After-segment_at-p)
 
 pub slice_bounds-copy_bytes-end-in-loop-i : goal.slice_bounds-copy_bytes-end-in-loop-i
-slice_bounds-copy_bytes-end-in-loop-i c = omega (arith, fits c.before.before.before)
+slice_bounds-copy_bytes-end-in-loop-i c = omega (arith, fits (goal.at.slice_bounds-copy_bytes-end-in-loop-i c).After-segment_at-p)
 
 pub overflow_add-i : goal.overflow_add-i
-overflow_add-i c = omega (arith, fits c.before.before.before.before.before.before.before)
+overflow_add-i c = omega (arith, fits (goal.at.overflow_add-i c).After-segment_at-p)
 
 pub loop-i-smaller : goal.loop-i-smaller
 loop-i-smaller c = omega (arith, c.loop-i-test.true)
@@ -51,8 +51,8 @@ pub loop-i-preserved : goal.loop-i-preserved
 loop-i-preserved c = let l = c.loop-i in
     let a = c.args in
     let p = c.segment_at-p.result in
-    let f = fits c.before.before.before.before.before.before.before in
-    rw (copied_back l.slice a.«data».now l.filled p.length p.start c.copy_bytes.new.0 (omega arith) (omega arith) c.copy_bytes.ensures, c.segment_at-p.ensures)
+    let f = fits (goal.at.loop-i-preserved c).After-segment_at-p in
+    rw (copied_back l.slice a.«data».now l.filled p.length p.start c.copy_bytes.new.part (omega arith) (omega arith) c.copy_bytes.ensures, c.segment_at-p.ensures)
     (gather_step _ _ _ _ _ l.invariant (rw c.buffer_count-n.ensures at c.loop-i-test.true))
 
 pub shape_of-slice : goal.shape_of-slice

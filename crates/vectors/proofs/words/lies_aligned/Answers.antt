@@ -24,10 +24,10 @@ pub overflow_add-address : goal.overflow_add-address
 overflow_add-address c = omega arith
 
 pub returns-then-not-is_multiple : goal.returns-then-not-is_multiple
-returns-then-not-is_multiple c = past_start _ _ _ _ _ _ c.loop-i.invariant c.loop-i-test.true c.segment_at-segment.result c.segment_at-segment.ensures (fit c.before.before) (sym c.is_multiple.ensures ∙ c.if-not-is_multiple.true)
+returns-then-not-is_multiple c = past_start _ _ _ _ _ _ c.loop-i.invariant c.loop-i-test.true c.segment_at-segment.result c.segment_at-segment.ensures (fit (goal.at.returns-then-not-is_multiple c).Else-address-segment) (sym c.is_multiple.ensures ∙ c.if-not-is_multiple.true)
 
 pub returns-then-not-is_multiple-2 : goal.returns-then-not-is_multiple-2
-returns-then-not-is_multiple-2 c = past_length _ _ _ _ _ _ c.loop-i.invariant c.loop-i-test.true c.segment_at-segment.result c.segment_at-segment.ensures (fit c.before.before.before.before) (sym c.is_multiple.ensures ∙ c.if-not-is_multiple.false) (sym c.is_multiple-in-loop-i.ensures ∙ c.if-not-is_multiple-2.true)
+returns-then-not-is_multiple-2 c = past_length _ _ _ _ _ _ c.loop-i.invariant c.loop-i-test.true c.segment_at-segment.result c.segment_at-segment.ensures (fit (goal.at.returns-then-not-is_multiple-2 c).Else-address-segment) (sym c.is_multiple.ensures ∙ c.if-not-is_multiple.false) (sym c.is_multiple-in-loop-i.ensures ∙ c.if-not-is_multiple-2.true)
 
 pub overflow_add-i : goal.overflow_add-i
 overflow_add-i c = omega (arith, c.loop-i-test.true, c.loop-i.invariant.most)
@@ -36,7 +36,7 @@ pub loop-i-smaller : goal.loop-i-smaller
 loop-i-smaller c = omega (arith, c.loop-i-test.true)
 
 pub loop-i-preserved : goal.loop-i-preserved
-loop-i-preserved c = tested_next _ _ _ _ _ _ c.loop-i.invariant c.loop-i-test.true c.segment_at-segment.result c.segment_at-segment.ensures (fit c.before.before.before.before) (sym c.is_multiple.ensures ∙ c.if-not-is_multiple.false) (sym c.is_multiple-in-loop-i.ensures ∙ c.if-not-is_multiple-2.false)
+loop-i-preserved c = tested_next _ _ _ _ _ _ c.loop-i.invariant c.loop-i-test.true c.segment_at-segment.result c.segment_at-segment.ensures (fit (goal.at.loop-i-preserved c).Else-address-segment) (sym c.is_multiple.ensures ∙ c.if-not-is_multiple.false) (sym c.is_multiple-in-loop-i.ensures ∙ c.if-not-is_multiple-2.false)
 
 pub returns : goal.returns
 returns c = tested_end _ _ _ _ _ _ c.loop-i.invariant c.loop-i-test.false

@@ -11,7 +11,7 @@ use Rattle.vectors.proofs.words.put_words.Goals as goal
 
 pub loop-i-init : goal.loop-i-init
 loop-i-init c = let w = c.args.words.now in
-    let v = c.args.t2 in
+    let v = c.args.v in
     let m : length v.segments ≡ 16 = search (rules, array_long) in
     let k = vector_width v m in
     let one = like_more (vector_words v) w 0 1 c.size_word.result 0 refl (omega arith) (c.requires ∙ sym k, refl) c.size_word.ensures in
@@ -22,7 +22,7 @@ bounds-words-i-in-loop-i c = simp length-set (search rules)
 
 pub loop-i-preserved : goal.loop-i-preserved
 loop-i-preserved c = let l = c.loop-i in
-    let v = c.args.t2 in
+    let v = c.args.v in
     let i = l.i in
     let first = like_more (vector_words v) l.words (2 + 2 * i) (3 + 2 * i) c.size_word-in-loop-i.result 0 (omega arith) (search rules) l.invariant.2 (c.size_word-in-loop-i.ensures ∙ vector_start v i) in
     (search rules, l.invariant.1, like_more (vector_words v) _ (3 + 2 * i) (2 + 2 * (i + 1)) c.size_word-in-loop-i-2.result 0 (omega arith) (search rules) first (c.size_word-in-loop-i-2.ensures ∙ vector_length v i))
@@ -31,4 +31,4 @@ pub shape_of-words : goal.shape_of-words
 shape_of-words c = c.loop-i.invariant.2.0 ∙ c.loop-i.invariant.1 ∙ sym c.requires
 
 pub returns : goal.returns
-returns c = like_all (vector_words c.args.t2) c.loop-i.words (2 + 2 * c.loop-i.i) (omega arith) c.loop-i.invariant.2
+returns c = like_all (vector_words c.args.v) c.loop-i.words (2 + 2 * c.loop-i.i) (omega arith) c.loop-i.invariant.2

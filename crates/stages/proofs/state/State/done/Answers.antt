@@ -59,10 +59,3 @@ pub returns-in-SecondRead : goal.returns-in-SecondRead
 returns-in-SecondRead c = let a = c.args in
     in-case a.settings a.self _ c.in-SecondRead.is (ap Stays c.set_phase-in-SecondRead.ensures)
 
--- TODO returns-in-BouncedWrite (arm ['match', 'keys3'] at At-match-keys3 ['in-BouncedWrite', 1, [['in-BouncedWrite-own', 'match', []]]]):
--- returns-3 : tie.Need-returns-3
--- returns-3 c = let a = c.before.before.args in c.end-stage.ensures ∙ lasts a.settings a.self a.self.phase c.before.match.keys3
-
--- TODO returns-in-Free (arm ['match', 'keys4'] at At-match-keys4 ['in-Free', 1, [['in-Free-own', 'match', []]]]):
--- returns-4 : tie.Need-returns-4
--- returns-4 c = let a = c.before.before.args in c.ends.ensures ∙ onlies a.settings a.self a.self.phase c.before.match.keys4

@@ -25,27 +25,24 @@ by c x e q = let a = c.args in zeroes_by_lem a.settings a.self.job a.self.range 
 pub returns-then-settings-n : goal.returns-then-settings-n
 returns-then-settings-n c = let a = c.args in
     let h : a.settings.bounce < size_of a.part = rw c.size-n.ensures at c.if-settings-n.true in
-    by c.before.before.before (Direct c.in-Direct.field-0) c.in-Direct.is (zeroes_too_long a.settings a.self.job a.self.range a.self.middle a.course a.part c.in-Direct.field-0 h)
+    by (goal.at.returns-then-settings-n c).After-plan_transfer-transfer (Direct c.in-Direct.field-0) c.in-Direct.is (zeroes_too_long a.settings a.self.job a.self.range a.self.middle a.course a.part c.in-Direct.field-0 h)
 
 pub returns-in-Direct : goal.returns-in-Direct
 returns-in-Direct c = let a = c.args in
     let h : size_of a.part ≤ a.settings.bounce = rw c.size-n.ensures at c.if-settings-n.false in
-    by c.before.before.before.before.before (Direct c.in-Direct.field-0) c.in-Direct.is (zeroes_direct a.settings a.self.job a.self.range a.self.middle a.course a.part c.in-Direct.field-0 _ h (ap Started c.set_stage.ensures) c.direct_stage.ensures)
+    by (goal.at.returns-in-Direct c).After-plan_transfer-transfer (Direct c.in-Direct.field-0) c.in-Direct.is (zeroes_direct a.settings a.self.job a.self.range a.self.middle a.course a.part c.in-Direct.field-0 _ h (ap Started c.set_stage.ensures) c.direct_stage.ensures)
 
--- TODO returns-in_default-transfer (arm ['match', 'keys2'] at At-match-keys2 ['in_default', 1, [['in_default-own', 'match', []]]]):
--- returns-3 : tie.Need-returns-3
--- returns-3 c =
---     let d = c.before.before.before in
---     by d (NoTransfer _) (refused_is _ c.before.before.match.keys2 c.before.match2.keys2) (ap Refused c.refusal.ensures)
+pub returns-in_default-transfer : goal.returns-in_default-transfer
+returns-in_default-transfer c = by (goal.at.returns-in_default-transfer c).After-plan_transfer-transfer (NoTransfer _) (refused_is _ c.in_default.not-Direct c.in_default-transfer.not-Bounced) (ap Refused c.refusal.ensures)
 
 pub returns-then-settings-s : goal.returns-then-settings-s
-returns-then-settings-s c = by c.before.before.before.before.before (Bounced c.in-Bounced.s) c.in-Bounced.is (too_long c.args.settings c.in-Bounced.s _ c.if-settings-s.true)
+returns-then-settings-s c = by (goal.at.returns-then-settings-s c).After-plan_transfer-transfer (Bounced c.in-Bounced.s) c.in-Bounced.is (too_long c.args.settings c.in-Bounced.s _ c.if-settings-s.true)
 
 pub padded_stage-stage-requires : goal.padded_stage-stage-requires
 padded_stage-stage-requires c = let a = c.args in
-    holds (bounced a.settings.align a.part.start (size_of a.part) _ c.in-Bounced.s (sym (transfer-is c.before.before.before.before.before) ∙ c.in-Bounced.is))
+    holds (bounced a.settings.align a.part.start (size_of a.part) _ c.in-Bounced.s (sym (transfer-is (goal.at.padded_stage-stage-requires c).After-plan_transfer-transfer) ∙ c.in-Bounced.is))
 
 pub returns : goal.returns
-returns c = by c.before.before.before.before.before.before.before.before (Bounced c.in-Bounced.s) c.in-Bounced.is
+returns c = by (goal.at.returns c).After-plan_transfer-transfer (Bounced c.in-Bounced.s) c.in-Bounced.is
     (in_bounce_lem c.args.settings c.in-Bounced.s _ c.if-settings-s.false
     (padded_parts first_phase _ _ _ _ _ _ c.in-Bounced.s _ _ _ _ (ap Started c.set_stage-2.ensures) refl refl c.padded_stage-stage.ensures refl c.first_phase.ensures))

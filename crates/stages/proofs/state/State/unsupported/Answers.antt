@@ -52,8 +52,3 @@ pub returns-in-DiscardRequest : goal.returns-in-DiscardRequest
 returns-in-DiscardRequest c = let a = c.args in
     in-case a.settings a.self DiscardRequest c.in-DiscardRequest.is c.ends.ensures
 
--- TODO returns-in-Free (arm ['match', 'keys3'] at At-match-keys3 ['in-Free', 1, [['in-Free-own', 'match', []]]]):
--- returns-3 : tie.Need-returns-3
--- returns-3 c =
---     let a = c.before.before.before.args in
---     c.ends2.ensures ∙ others a.settings a.self a.self.phase c.before.match.keys3

@@ -16,16 +16,19 @@ valid-of : (c : Else-not-is_valid) → is_valid (length c.args.«data».now) c.a
 valid-of c = sym c.is_valid.ensures ∙ c.if-not-is_valid.false
 
 pub returns-then-not-is_valid : goal.returns-then-not-is_valid
-returns-then-not-is_valid c = refused _ _ _ (copies_invalid _ _ _ (sym c.is_valid.ensures ∙ c.if-not-is_valid.true))
+returns-then-not-is_valid c = let k = refused _ _ _ (copies_invalid _ _ _ (sym c.is_valid.ensures ∙ c.if-not-is_valid.true)) in
+    record { outcome = k.0; bytes = k.1 }
 
 pub returns-then-slice-self : goal.returns-then-slice-self
-returns-then-slice-self c = refused _ _ _ (copies_other _ _ _ c.if-slice-self.true)
+returns-then-slice-self c = let k = refused _ _ _ (copies_other _ _ _ c.if-slice-self.true) in
+    record { outcome = k.0; bytes = k.1 }
 
 pub scatter-requires : goal.scatter-requires
-scatter-requires c = copies_true _ _ _ (valid-of c.before.before.before) c.if-slice-self.false
+scatter-requires c = copies_true _ _ _ (valid-of (goal.at.scatter-requires c).Else-not-is_valid) c.if-slice-self.false
 
 pub shape_of-data : goal.shape_of-data
-shape_of-data c = ap length c.scatter.ensures ∙ scatter_length _ _ _ (valid _ _ (valid-of c.before.before.before.before.before.before)).fit.lie
+shape_of-data c = ap length c.scatter.ensures ∙ scatter_length _ _ _ (valid _ _ (valid-of (goal.at.shape_of-data c).Else-not-is_valid)).fit.lie
 
 pub returns : goal.returns
-returns c = carried_out_lem _ _ _ _ (copies_true _ _ _ (valid-of c.before.before.before.before.before.before) c.if-slice-self.false) c.scatter.ensures
+returns c = let k = carried_out_lem _ _ _ _ (copies_true _ _ _ (valid-of (goal.at.returns c).Else-not-is_valid) c.if-slice-self.false) c.scatter.ensures in
+    record { outcome = k.0; bytes = k.1 }

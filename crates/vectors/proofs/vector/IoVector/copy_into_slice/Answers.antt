@@ -14,16 +14,19 @@ valid-of : (c : Else-not-is_valid) → is_valid (length c.args.«data».now) c.a
 valid-of c = sym c.is_valid.ensures ∙ c.if-not-is_valid.false
 
 pub returns-then-not-is_valid : goal.returns-then-not-is_valid
-returns-then-not-is_valid c = refused _ _ _ (copies_invalid _ _ _ (sym c.is_valid.ensures ∙ c.if-not-is_valid.true))
+returns-then-not-is_valid c = let k = refused _ _ _ (copies_invalid _ _ _ (sym c.is_valid.ensures ∙ c.if-not-is_valid.true)) in
+    record { outcome = k.0; bytes = k.1 }
 
 pub returns-then-slice-self : goal.returns-then-slice-self
-returns-then-slice-self c = refused _ _ _ (copies_other _ _ _ c.if-slice-self.true)
+returns-then-slice-self c = let k = refused _ _ _ (copies_other _ _ _ c.if-slice-self.true) in
+    record { outcome = k.0; bytes = k.1 }
 
 pub gather-requires : goal.gather-requires
-gather-requires c = copies_true _ _ _ (valid-of c.before.before.before) c.if-slice-self.false
+gather-requires c = copies_true _ _ _ (valid-of (goal.at.gather-requires c).Else-not-is_valid) c.if-slice-self.false
 
 pub shape_of-slice : goal.shape_of-slice
-shape_of-slice c = ap length c.gather.ensures ∙ bytes_total _ _ (valid-of c.before.before.before.before.before.before) ∙ sym c.if-slice-self.false
+shape_of-slice c = ap length c.gather.ensures ∙ bytes_total _ _ (valid-of (goal.at.shape_of-slice c).Else-not-is_valid) ∙ sym c.if-slice-self.false
 
 pub returns : goal.returns
-returns c = carried_out_lem _ _ _ _ (copies_true _ _ _ (valid-of c.before.before.before.before.before.before) c.if-slice-self.false) c.gather.ensures
+returns c = let k = carried_out_lem _ _ _ _ (copies_true _ _ _ (valid-of (goal.at.returns c).Else-not-is_valid) c.if-slice-self.false) c.gather.ensures in
+    record { outcome = k.0; bytes = k.1 }

@@ -18,16 +18,16 @@ before_end : (c : Else-self-mid) → c.args.mid < c.args.self.total
 before_end c = omega (arith, c.if-self-mid.false)
 
 pub returns-then-self-mid : goal.returns-then-self-mid
-returns-then-self-mid c = c.meet.ensures ∙ past_end _ (wide_of c.before.before) c.requires _ (omega (arith, c.if-self-mid.true))
+returns-then-self-mid c = c.meet.ensures ∙ past_end _ (wide_of (goal.at.returns-then-self-mid c).Start) c.requires _ (omega (arith, c.if-self-mid.true))
 
 pub overflow_sub-self : goal.overflow_sub-self
-overflow_sub-self c = omega (arith, before_end c)
+overflow_sub-self c = omega (arith, before_end (goal.at.overflow_sub-self c).Else-self-mid)
 
 pub overflow_sub-rest : goal.overflow_sub-rest
-overflow_sub-rest c = omega (arith, before_end c.before)
+overflow_sub-rest c = omega (arith, before_end (goal.at.overflow_sub-rest c).Else-self-mid)
 
 pub loop-rest-init : goal.loop-rest-init
-loop-rest-init c = back_start _ _ (wide_of c.before.before) c.requires (before_end c.before) (omega (arith, c.if-self-mid-2.true))
+loop-rest-init c = back_start _ _ (wide_of (goal.at.loop-rest-init c).Start) c.requires (before_end (goal.at.loop-rest-init c).Else-self-mid) (omega (arith, c.if-self-mid-2.true))
 
 pub overflow_sub-i : goal.overflow_sub-i
 overflow_sub-i c = (back_few _ _ _ _ c.loop-rest.invariant).0
@@ -54,7 +54,7 @@ pub returns-then-self-mid-2 : goal.returns-then-self-mid-2
 returns-then-self-mid-2 c = c.meet-split.ensures ∙ back_here _ _ _ _ c.loop-rest.invariant (omega (arith, c.if-rest-length.true))
 
 pub loop-rest-2-init : goal.loop-rest-2-init
-loop-rest-2-init c = forth_start _ _ (wide_of c.before.before) c.requires (before_end c.before) (omega (arith, c.if-self-mid-2.false))
+loop-rest-2-init c = forth_start _ _ (wide_of (goal.at.loop-rest-2-init c).Start) c.requires (before_end (goal.at.loop-rest-2-init c).Else-self-mid) (omega (arith, c.if-self-mid-2.false))
 
 pub offset_bounds-self-i-in-loop-rest-2 : goal.offset_bounds-self-i-in-loop-rest-2
 offset_bounds-self-i-in-loop-rest-2 c = omega (arith, forth_few _ _ _ _ c.loop-rest-2.invariant)

@@ -16,13 +16,15 @@ valid-of : (c : Else-not-is_valid) → is_valid (length c.args.«data».now) c.a
 valid-of c = sym c.is_valid.ensures ∙ c.if-not-is_valid.false
 
 pub returns-then-not-is_valid : goal.returns-then-not-is_valid
-returns-then-not-is_valid c = refused _ _ _ (sym c.is_valid.ensures ∙ c.if-not-is_valid.true)
+returns-then-not-is_valid c = let k = refused _ _ _ (sym c.is_valid.ensures ∙ c.if-not-is_valid.true) in
+    record { outcome = k.0; bytes = k.1 }
 
 pub fill_segments-requires : goal.fill_segments-requires
-fill_segments-requires c = valid-of c.before
+fill_segments-requires c = valid-of (goal.at.fill_segments-requires c).Else-not-is_valid
 
 pub shape_of-data : goal.shape_of-data
-shape_of-data c = ap length c.fill_segments.ensures ∙ fill_length _ _ _ (valid _ _ (valid-of c.before.before.before.before)).fit.lie
+shape_of-data c = ap length c.fill_segments.ensures ∙ fill_length _ _ _ (valid _ _ (valid-of (goal.at.shape_of-data c).Else-not-is_valid)).fit.lie
 
 pub returns : goal.returns
-returns c = carried_out_lem _ _ _ _ (valid-of c.before.before.before.before) c.fill_segments.ensures
+returns c = let k = carried_out_lem _ _ _ _ (valid-of (goal.at.returns c).Else-not-is_valid) c.fill_segments.ensures in
+    record { outcome = k.0; bytes = k.1 }

@@ -41,7 +41,7 @@ loop-i-smaller c = omega (arith, fill_fits _ _ _ _ _ c.loop-i.invariant c.loop-i
 pub loop-i-preserved : goal.loop-i-preserved
 loop-i-preserved c = let l = c.loop-i in
     let a = c.args in
-    rw (filled_back l.«data» (nth a.self l.i).start (nth a.self l.i).length a.value c.fill_bytes.new.0 (omega (arith, fill_fits _ _ _ _ _ c.loop-i.invariant c.loop-i-test.true)) c.fill_bytes.ensures)
+    rw (filled_back l.«data» (nth a.self l.i).start (nth a.self l.i).length a.value c.fill_bytes.new.part (omega (arith, fill_fits _ _ _ _ _ c.loop-i.invariant c.loop-i-test.true)) c.fill_bytes.ensures)
     (fill_step _ _ _ _ _ l.invariant c.loop-i-test.true)
 
 pub shape_of-data : goal.shape_of-data

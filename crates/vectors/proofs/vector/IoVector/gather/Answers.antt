@@ -54,7 +54,7 @@ loop-i-smaller c = omega (arith, gather_fits _ _ _ _ _ c.loop-i.invariant c.loop
 pub loop-i-preserved : goal.loop-i-preserved
 loop-i-preserved c = let l = c.loop-i in
     let a = c.args in
-    rw (copied_back l.slice a.«data».now l.filled (nth a.self l.i).length (nth a.self l.i).start c.copy_bytes.new.0 (omega (arith, gather_fits _ _ _ _ _ c.loop-i.invariant c.loop-i-test.true)) (omega (arith, gather_fits _ _ _ _ _ c.loop-i.invariant c.loop-i-test.true)) c.copy_bytes.ensures)
+    rw (copied_back l.slice a.«data».now l.filled (nth a.self l.i).length (nth a.self l.i).start c.copy_bytes.new.part (omega (arith, gather_fits _ _ _ _ _ c.loop-i.invariant c.loop-i-test.true)) (omega (arith, gather_fits _ _ _ _ _ c.loop-i.invariant c.loop-i-test.true)) c.copy_bytes.ensures)
     (gather_step _ _ _ _ _ l.invariant c.loop-i-test.true)
 
 pub shape_of-slice : goal.shape_of-slice

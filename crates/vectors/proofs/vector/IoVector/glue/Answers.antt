@@ -18,16 +18,16 @@ pub last_touches-requires : goal.last_touches-requires
 last_touches-requires c = c.requires.few
 
 pub lengthen-requires : goal.lengthen-requires
-lengthen-requires c = record { asked = c.requires; touching = touching c }
+lengthen-requires c = record { asked = c.requires; touching = touching (goal.at.lengthen-requires c).Then-last_touches }
 
 pub returns-then-last_touches : goal.returns-then-last_touches
-returns-then-last_touches c = glue_touching c.args.self c.args.segment c.requires (touching c.before) c.lengthen.result c.lengthen.ensures
+returns-then-last_touches c = glue_touching c.args.self c.args.segment c.requires (touching (goal.at.returns-then-last_touches c).Then-last_touches) c.lengthen.result c.lengthen.ensures
 
 pub returns-then-self-eq-MAX_COUNT : goal.returns-then-self-eq-MAX_COUNT
-returns-then-self-eq-MAX_COUNT c = glue_full c.args.self c.args.segment c.requires (apart c.before.before) c.if-self-eq-MAX_COUNT.true
+returns-then-self-eq-MAX_COUNT c = glue_full c.args.self c.args.segment c.requires (apart (goal.at.returns-then-self-eq-MAX_COUNT c).Else-last_touches) c.if-self-eq-MAX_COUNT.true
 
 pub add-requires : goal.add-requires
-add-requires c = glue_room c.args.self c.args.segment c.requires (apart c.before.before) c.if-self-eq-MAX_COUNT.false
+add-requires c = glue_room c.args.self c.args.segment c.requires (apart (goal.at.add-requires c).Else-last_touches) c.if-self-eq-MAX_COUNT.false
 
 pub returns : goal.returns
-returns c = glue_added c.args.self c.args.segment c.requires (apart c.before.before.before) c.if-self-eq-MAX_COUNT.false c.add.result c.add.ensures
+returns c = glue_added c.args.self c.args.segment c.requires (apart (goal.at.returns c).Else-last_touches) c.if-self-eq-MAX_COUNT.false c.add.result c.add.ensures

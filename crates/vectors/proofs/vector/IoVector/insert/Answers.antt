@@ -27,39 +27,39 @@ returns-then-not-is_asked c = c.refuse.ensures ∙ insert_not c.args.data_len c.
     (sym (tests_are (leb c.args.index c.args.self.count) c.is_valid.ensures c.lies_in.ensures) ∙ c.if-not-is_asked.true)
 
 pub overflow_sub-self : goal.overflow_sub-self
-overflow_sub-self c = let v = insert_valid c.args.data_len c.args.self c.args.index c.args.segment (wide_of c.before.before.before.before) (asked_of c.before) in
+overflow_sub-self c = let v = insert_valid c.args.data_len c.args.self c.args.index c.args.segment (wide_of (goal.at.overflow_sub-self c).Start) (asked_of (goal.at.overflow_sub-self c).Else-not-is_asked) in
     omega (arith, v.total, v.fit.small)
 
 pub returns-then-self-segment : goal.returns-then-self-segment
-returns-then-self-segment c = c.refuse-then-self-segment.ensures ∙ insert_long c.args.data_len c.args.self c.args.index c.args.segment (wide_of c.before.before.before.before.before.before) (asked_of c.before.before.before) c.if-self-segment.true
+returns-then-self-segment c = c.refuse-then-self-segment.ensures ∙ insert_long c.args.data_len c.args.self c.args.index c.args.segment (wide_of (goal.at.returns-then-self-segment c).Start) (asked_of (goal.at.returns-then-self-segment c).Else-not-is_asked) c.if-self-segment.true
 
 pub join-requires : goal.join-requires
-join-requires c = insert_first c.args.data_len c.args.self c.args.index c.args.segment (wide_of c.before.before.before.before.before.before) (asked_of c.before.before.before) c.if-self-segment.false c.new.result c.new.ensures
+join-requires c = insert_first c.args.data_len c.args.self c.args.index c.args.segment (wide_of (goal.at.join-requires c).Start) (asked_of (goal.at.join-requires c).Else-not-is_asked) c.if-self-segment.false c.new.result c.new.ensures
 
 pub glue-front-requires : goal.glue-front-requires
-glue-front-requires c = insert_glues c.args.data_len c.args.self c.args.index c.args.segment (wide_of c.before.before.before.before.before.before.before) (asked_of c.before.before.before.before) c.if-self-segment.false c.join.result (grown [] _ c.new.ensures c.join.ensures)
+glue-front-requires c = insert_glues c.args.data_len c.args.self c.args.index c.args.segment (wide_of (goal.at.glue-front-requires c).Start) (asked_of (goal.at.glue-front-requires c).Else-not-is_asked) c.if-self-segment.false c.join.result (grown [] _ c.new.ensures c.join.ensures)
 
 pub returns-then-not-front : goal.returns-then-not-front
-returns-then-not-front c = c.refuse-then-not-front.ensures ∙ insert_full c.args.data_len c.args.self c.args.index c.args.segment (wide_of c.before.before.before.before.before.before.before.before.before.before.before) (asked_of c.before.before.before.before.before.before.before.before) c.if-self-segment.false
+returns-then-not-front c = c.refuse-then-not-front.ensures ∙ insert_full c.args.data_len c.args.self c.args.index c.args.segment (wide_of (goal.at.returns-then-not-front c).Start) (asked_of (goal.at.returns-then-not-front c).Else-not-is_asked) c.if-self-segment.false
     c.join.result (grown [] _ c.new.ensures c.join.ensures)
-    c.glue-front.result c.glue-front.ensures (c.if-not-front.true)
+    c.glue-front.result c.glue-front.ensures (not-true _ c.if-not-front.true)
 
 pub overflow_sub-n : goal.overflow_sub-n
-overflow_sub-n c = insert_reach c.args.data_len c.args.self c.args.index c.args.segment (wide_of c.before.before.before.before.before.before.before.before.before.before.before) (asked_of c.before.before.before.before.before.before.before.before)
+overflow_sub-n c = insert_reach c.args.data_len c.args.self c.args.index c.args.segment (wide_of (goal.at.overflow_sub-n c).Start) (asked_of (goal.at.overflow_sub-n c).Else-not-is_asked)
 
 pub glue_all-whole-requires : goal.glue_all-whole-requires
-glue_all-whole-requires c = insert_rest c.args.data_len c.args.self c.args.index c.args.segment (wide_of c.before.before.before.before.before.before.before.before.before.before.before) (asked_of c.before.before.before.before.before.before.before.before) c.if-self-segment.false
+glue_all-whole-requires c = insert_rest c.args.data_len c.args.self c.args.index c.args.segment (wide_of (goal.at.glue_all-whole-requires c).Start) (asked_of (goal.at.glue_all-whole-requires c).Else-not-is_asked) c.if-self-segment.false
     c.join.result (grown [] _ c.new.ensures c.join.ensures)
-    c.glue-front.result c.glue-front.ensures (c.if-not-front.false)
+    c.glue-front.result c.glue-front.ensures (not-false _ c.if-not-front.false)
 
 pub returns-then-not-whole : goal.returns-then-not-whole
-returns-then-not-whole c = c.refuse-then-not-whole.ensures ∙ insert_over c.args.data_len c.args.self c.args.index c.args.segment (wide_of c.before.before.before.before.before.before.before.before.before.before.before.before.before.before.before) (asked_of c.before.before.before.before.before.before.before.before.before.before.before.before) c.if-self-segment.false
+returns-then-not-whole c = c.refuse-then-not-whole.ensures ∙ insert_over c.args.data_len c.args.self c.args.index c.args.segment (wide_of (goal.at.returns-then-not-whole c).Start) (asked_of (goal.at.returns-then-not-whole c).Else-not-is_asked) c.if-self-segment.false
     c.join.result (grown [] _ c.new.ensures c.join.ensures)
-    c.glue-front.result c.glue-front.ensures (c.if-not-front.false)
-    c.glue_all-whole.result c.glue_all-whole.ensures (c.if-not-whole.true)
+    c.glue-front.result c.glue-front.ensures (not-false _ c.if-not-front.false)
+    c.glue_all-whole.result c.glue_all-whole.ensures (not-true _ c.if-not-whole.true)
 
 pub returns : goal.returns
-returns c = insert_done c.args.data_len c.args.self c.args.index c.args.segment (wide_of c.before.before.before.before.before.before.before.before.before.before.before.before.before.before.before) (asked_of c.before.before.before.before.before.before.before.before.before.before.before.before) c.if-self-segment.false
+returns c = insert_done c.args.data_len c.args.self c.args.index c.args.segment (wide_of (goal.at.returns c).Start) (asked_of (goal.at.returns c).Else-not-is_asked) c.if-self-segment.false
     c.join.result (grown [] _ c.new.ensures c.join.ensures)
-    c.glue-front.result c.glue-front.ensures (c.if-not-front.false)
-    c.glue_all-whole.result c.glue_all-whole.ensures (c.if-not-whole.false)
+    c.glue-front.result c.glue-front.ensures (not-false _ c.if-not-front.false)
+    c.glue_all-whole.result c.glue_all-whole.ensures (not-false _ c.if-not-whole.false)

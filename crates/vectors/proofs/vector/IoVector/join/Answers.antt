@@ -9,7 +9,7 @@ use Rattle.vectors.proofs.Building.{with_room, Joining, join_start, join_end, jo
 use Rattle.vectors.proofs.vector.IoVector.join.Goals as goal
 
 pub loop-i-init : goal.loop-i-init
-loop-i-init c = let w : length c.args.t2.segments ≡ 16 = search (rules, array_long) in join_start c.args.self c.args.t2 c.args.start c.args.n w c.requires
+loop-i-init c = let w : length c.args.other.segments ≡ 16 = search (rules, array_long) in join_start c.args.self c.args.other c.args.start c.args.n w c.requires
 
 pub overflow_add-p : goal.overflow_add-p
 overflow_add-p c = omega (arith, reads _ _ _ _ _ _ c.loop-i.invariant c.loop-i-test.true)

@@ -12,13 +12,13 @@ wide_of : (c : Start) → length c.args.self.segments ≡ 16
 wide_of c = search (rules, array_long)
 
 pub overflow_sub-end : goal.overflow_sub-end
-overflow_sub-end c = some_left c.args.self c.args.next (wide_of c) c.requires
+overflow_sub-end c = some_left c.args.self c.args.next (wide_of (goal.at.overflow_sub-end c).Start) c.requires
 
 pub overflow_add-self : goal.overflow_add-self
-overflow_add-self c = omega (arith, last_length c.args.self c.args.next (wide_of c.before.before.before) c.requires, c.requires.asked.small)
+overflow_add-self c = omega (arith, last_length c.args.self c.args.next (wide_of (goal.at.overflow_add-self c).Start) c.requires, c.requires.asked.small)
 
 pub overflow_add-self-2 : goal.overflow_add-self-2
 overflow_add-self-2 c = omega (arith, c.requires.asked.small)
 
 pub returns : goal.returns
-returns c = lengthened c.args.self c.args.next (wide_of c.before.before.before) c.requires
+returns c = lengthened c.args.self c.args.next (wide_of (goal.at.returns c).Start) c.requires

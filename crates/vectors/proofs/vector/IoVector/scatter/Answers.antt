@@ -54,7 +54,7 @@ loop-i-smaller c = omega (arith, scatter_fits _ _ _ _ _ _ c.loop-i.invariant c.l
 pub loop-i-preserved : goal.loop-i-preserved
 loop-i-preserved c = let l = c.loop-i in
     let a = c.args in
-    rw (copied_back l.«data» a.slice.now (nth a.self l.i).start (nth a.self l.i).length l.taken c.copy_bytes.new.0 (omega (arith, scatter_fits _ _ _ _ _ _ c.loop-i.invariant c.loop-i-test.true)) (omega (arith, scatter_fits _ _ _ _ _ _ c.loop-i.invariant c.loop-i-test.true)) c.copy_bytes.ensures)
+    rw (copied_back l.«data» a.slice.now (nth a.self l.i).start (nth a.self l.i).length l.taken c.copy_bytes.new.part (omega (arith, scatter_fits _ _ _ _ _ _ c.loop-i.invariant c.loop-i-test.true)) (omega (arith, scatter_fits _ _ _ _ _ _ c.loop-i.invariant c.loop-i-test.true)) c.copy_bytes.ensures)
     (scatter_step _ _ _ _ _ _ l.invariant c.loop-i-test.true)
 
 pub shape_of-data : goal.shape_of-data

@@ -36,13 +36,13 @@ pub returns-then-not-is_valid : goal.returns-then-not-is_valid
 returns-then-not-is_valid c = split_refused _ _ _ _ (sym c.is_valid.ensures ∙ c.if-not-is_valid.true) c.new.ensures
 
 pub do_split_at-split-requires : goal.do_split_at-split-requires
-do_split_at-split-requires c = record { over = _; is = valid-of c }
+do_split_at-split-requires c = record { over = _; is = valid-of (goal.at.do_split_at-split-requires c).Else-not-is_valid }
 
 pub head_to-requires : goal.head_to-requires
-head_to-requires c = cut c.before _ (head_is c.before)
+head_to-requires c = cut (goal.at.head_to-requires c).After-do_split_at-split _ (head_is (goal.at.head_to-requires c).After-do_split_at-split)
 
 pub tail_from-requires : goal.tail_from-requires
-tail_from-requires c = cut c.before.before.before _ (tail_is c.before.before.before)
+tail_from-requires c = cut (goal.at.tail_from-requires c).After-do_split_at-split _ (tail_is (goal.at.tail_from-requires c).After-do_split_at-split)
 
 pub returns : goal.returns
-returns c = split_done _ _ c.args.mid _ _ _ (valid-of c.before.before.before.before.before) c.do_split_at-split.ensures c.head_to.ensures c.tail_from.ensures
+returns c = split_done _ _ c.args.mid _ _ _ (valid-of (goal.at.returns c).Else-not-is_valid) c.do_split_at-split.ensures c.head_to.ensures c.tail_from.ensures

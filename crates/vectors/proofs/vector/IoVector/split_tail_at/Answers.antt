@@ -25,10 +25,10 @@ pub returns-then-not-is_valid : goal.returns-then-not-is_valid
 returns-then-not-is_valid c = tail_refused _ _ c.args.mid (sym c.is_valid.ensures ∙ c.if-not-is_valid.true)
 
 pub do_split_at-split-requires : goal.do_split_at-split-requires
-do_split_at-split-requires c = record { over = _; is = valid-of c }
+do_split_at-split-requires c = record { over = _; is = valid-of (goal.at.do_split_at-split-requires c).Else-not-is_valid }
 
 pub tail_from-requires : goal.tail_from-requires
-tail_from-requires c = let w : length c.args.self.segments ≡ 16 = search (rules, array_long) in cut_of _ _ _ _ w (search rules) (valid _ _ (valid-of c.before.before)) (tail_is c.before)
+tail_from-requires c = let w : length c.args.self.segments ≡ 16 = search (rules, array_long) in cut_of _ _ _ _ w (search rules) (valid _ _ (valid-of (goal.at.tail_from-requires c).Else-not-is_valid)) (tail_is (goal.at.tail_from-requires c).After-do_split_at-split)
 
 pub returns : goal.returns
-returns c = tail_done _ _ c.args.mid _ _ (valid-of c.before.before.before) c.do_split_at-split.ensures c.tail_from.ensures
+returns c = tail_done _ _ c.args.mid _ _ (valid-of (goal.at.returns c).Else-not-is_valid) c.do_split_at-split.ensures c.tail_from.ensures

@@ -20,19 +20,19 @@ joined : (c : After-join-tail) → c.join-tail.result ≡ vector_of (take (c.arg
 joined c = grown [] _ c.new.ensures c.join-tail.ensures
 
 pub join-tail-requires : goal.join-tail-requires
-join-tail-requires c = tail_joins _ c.args.position (wide_of c.before.before) c.requires c.new.result c.new.ensures
+join-tail-requires c = tail_joins _ c.args.position (wide_of (goal.at.join-tail-requires c).Start) c.requires c.new.result c.new.ensures
 
 pub returns-then-inside-eq0 : goal.returns-then-inside-eq0
-returns-then-inside-eq0 c = tail_clean _ c.args.position (wide_of c.before.before.before.before) c.requires _ c.if-inside-eq0.true (joined c.before)
+returns-then-inside-eq0 c = tail_clean _ c.args.position (wide_of (goal.at.returns-then-inside-eq0 c).Start) c.requires _ c.if-inside-eq0.true (joined (goal.at.returns-then-inside-eq0 c).After-join-tail)
 
 pub overflow_add-start : goal.overflow_add-start
-overflow_add-start c = omega (arith, (tail_ends _ _ (wide_of c.before.before.before.before.before.before) c.requires c.if-inside-eq0.false _ (joined c.before.before.before)).0)
+overflow_add-start c = omega (arith, (tail_ends _ _ (wide_of (goal.at.overflow_add-start c).Start) c.requires c.if-inside-eq0.false _ (joined (goal.at.overflow_add-start c).After-join-tail)).0)
 
 pub overflow_sub-length : goal.overflow_sub-length
-overflow_sub-length c = (tail_ends _ _ (wide_of c.before.before.before.before.before.before.before) c.requires c.if-inside-eq0.false _ (joined c.before.before.before.before)).1
+overflow_sub-length c = (tail_ends _ _ (wide_of (goal.at.overflow_sub-length c).Start) c.requires c.if-inside-eq0.false _ (joined (goal.at.overflow_sub-length c).After-join-tail)).1
 
 pub overflow_sub-tail : goal.overflow_sub-tail
-overflow_sub-tail c = (tail_ends _ _ (wide_of c.before.before.before.before.before.before.before) c.requires c.if-inside-eq0.false _ (joined c.before.before.before.before)).2
+overflow_sub-tail c = (tail_ends _ _ (wide_of (goal.at.overflow_sub-tail c).Start) c.requires c.if-inside-eq0.false _ (joined (goal.at.overflow_sub-tail c).After-join-tail)).2
 
 pub returns : goal.returns
-returns c = tail_inner _ _ (wide_of c.before.before.before.before.before.before.before) c.requires c.if-inside-eq0.false _ (joined c.before.before.before.before)
+returns c = tail_inner _ _ (wide_of (goal.at.returns c).Start) c.requires c.if-inside-eq0.false _ (joined (goal.at.returns c).After-join-tail)
