@@ -1,0 +1,6 @@
+-- `tables::table::refuse` meets its contract. Assumes nothing.
+use borrow.Author.Rules.{rules}
+use Rattle.tables.proofs.table.refuse.Goals as goal
+
+pub returns : goal.returns
+returns c = rw c.make_rows-rows.ensures
