@@ -1,0 +1,27 @@
+-- `dock::begin::is_aligned` meets its contract: any answer of `IoVector::is_aligned` but one is no alignment. Assumes nothing.
+-- an answer that is not `Aligned`
+use mathlib.Core.Path.{◌≡◌, refl, sym, ap, ◌∙◌}
+use mathlib.Core.Bool.{false}
+use mathlib.Core.List.{[], ◌∷◌}
+use mathlib.Core.Logic.{⊎_elim}
+use native.Mathlib.Omega.{arith}
+use types.Run.{OneOf}
+use denote.Enum.Declared.{declared, tag_of}
+use Rattle.vectors.specs.declared.vector.Alignment.{Alignment}
+use Rattle.vectors.specs.declared.vector.Alignment.TheVariants.{Aligned, Unaligned, Refused as NotAsked}
+use Rattle.vectors.specs.contracts.vector.Alignment.{enum}
+use Rattle.dock.specs.Begin.{is_aligned}
+use borrow.Author.Rules.{rules}
+use Rattle.dock.proofs.begin.is_aligned.Goals as goal
+
+not_aligned : (x : Alignment) → OneOf (1 ∷ 2 ∷ []) (tag_of (declared enum) x) → false ≡ is_aligned x
+not_aligned Aligned k = absurd (⊎_elim (λ e. omega arith) (λ e. omega arith) k)
+not_aligned Unaligned k = refl
+not_aligned (NotAsked r) k = refl
+
+-- TODO returns-in_default (arm ['match', 'keys2'] at At-match-keys2 ['in_default', 1, [['in_default-own', 'match', []]]]):
+-- returns : tie.Need-returns
+-- returns c = not_aligned c.before.is-aligned.result c.match.keys2 ∙ ap is_aligned c.before.is-aligned.ensures
+
+pub returns : goal.returns
+returns c = simp (sym c.is_aligned-answer.ensures ∙ c.in-Aligned.is)

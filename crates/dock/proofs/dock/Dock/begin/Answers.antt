@@ -1,0 +1,64 @@
+-- `dock::dock::Dock::begin` meets its contract: the loop finds whether the vector meets another; what the slot's begin leaves is stored where it is admitted. Assumes nothing.
+use mathlib.Core.Path.{◌≡◌, ◌∙◌}
+use mathlib.Core.Bool.{◌||◌}
+use mathlib.Core.List.{[], ◌∷◌}
+use mathlib.Core.Logic.{◌≢◌, ⊎_elim}
+use types.Run.{OneOf}
+use denote.Enum.Declared.{declared, tag_of}
+use Prim.Native.Nat.{ℕ, ◌-◌, ◌<◌, ◌≤◌}
+use native.Mathlib.Omega.{arith}
+use lib.ListN.{length}
+use Rattle.arithmetic.specs.Loops.{any_below}
+use Rattle.dock.specs.declared.begin.Begun.{Begun}
+use Rattle.dock.specs.declared.begin.Begun.TheVariants.{Done as NoRequest, Admitted, Refused}
+use Rattle.dock.specs.contracts.begin.Begun.{enum}
+use Rattle.dock.specs.Dock.{meets_at, meets_itself}
+use Rattle.dock.specs.SlotLaws.{met_none, met_more, met_all}
+use Rattle.dock.proofs.Steps.{decided_in_share, admitted_at, begin_admitted, begin_not_admitted}
+use borrow.Author.Rules.{rules}
+use Rattle.dock.proofs.dock.Dock.begin.Goals as goal
+use Rattle.dock.proofs.dock.Dock.begin.Goals.{After-loop-i, After-state-1}
+
+-- an answer of another kind is no slot
+admit_none : (b : Begun) (p : ℕ) → OneOf (0 ∷ 2 ∷ []) (tag_of (declared enum) b) → b ≢ Admitted p
+admit_none (Admitted q) p k e = ⊎_elim (λ e. omega arith) (λ e. omega arith) k
+admit_none NoRequest p k e = let z : ◌≡◌ {A = ℕ} 0 1 = cc in omega arith
+admit_none (Refused r) p k e = let z : ◌≡◌ {A = ℕ} 0 1 = cc in omega arith
+
+last : (c : After-loop-i) → c.loop-i.i ≡ 8
+last c = search rules
+
+-- the slot that was found free is one of the eight
+slot : (c : After-state-1) → c.in-Admitted.slot < 8
+slot c =
+    let a = c.args in
+    admitted_at a.self.blockers a.self.settings.bounce c.select_vector-v.result a.«data».now a.scratch.now c.check_lent-lent.result c.is_valid.result c.plan_asked-first.result c.loop-i.met c.first_free-free.result c.decide-plan.result c.decide-plan.ensures _ _ c.admit-admission.ensures _ c.in-Admitted.is
+
+pub loop-i-init : goal.loop-i-init
+loop-i-init c = let a = c.args in (search rules, c.meets_itself-met.ensures ∙ met_none (meets_itself a.asked.job c.select_vector-v.result) (meets_at a.self.states a.self.vectors a.asked.job c.select_vector-v.result))
+
+pub loop-i-preserved : goal.loop-i-preserved
+unfolding meets_at
+loop-i-preserved c = let a = c.args in let l = c.loop-i in (search rules, met_more _ _ l.i (meets_itself a.asked.job c.select_vector-v.result) (meets_at a.self.states a.self.vectors a.asked.job c.select_vector-v.result) l.invariant.1 c.meets-met.ensures)
+
+pub admit-admission-requires : goal.admit-admission-requires
+admit-admission-requires c = let a = c.args in decided_in_share a.asked.job a.self.settings a.self.buffers a.asked.offset a.asked.length a.asked.vector (length a.«data».now) (length a.scratch.now) _ c.check_lent-lent.ensures _ _ c.plan_asked-first.ensures _ _ _ c.decide-plan.ensures
+
+-- TODO returns-in_default (arm ['match', 'keys2'] at At-match-keys2 ['in_default', 1, [['in_default-own', 'match', []]]]):
+-- returns : tie.Need-returns invariant-loop decreases-loop
+-- returns c = let k = c.before.before.before.before.before.before.before.before.before.before.before in let a = k.before.before.before.before.before.before.before.before.before.args in begin_not_admitted a.t1 a.asked a.«data».now a.scratch.now _ k.before.before.before.before.select-vector.ensures _ (met_all a.t1.states a.t1.vectors a.asked.job k.before.before.before.before.select-vector.result _ k.before.before.loop.i (last k.before) k.before.before.loop.invariant.1) _ k.check-lent.ensures _ c.before.before.before.before.before.before.before.before.before.first-free.ensures _ c.before.before.before.before.before.before.before.before.plan-asked.ensures _ c.before.before.before.before.before.before.before.is-valid.ensures _ c.before.before.before.before.before.before.decide.ensures _ _ c.before.before.before.admit.ensures (λ p e. admit_none _ p c.match.keys2 e)
+
+pub offset_bounds-self-slot : goal.offset_bounds-self-slot
+offset_bounds-self-slot c = omega (arith, slot (goal.at.offset_bounds-self-slot c).After-state-1)
+
+pub bounds-self-slot : goal.bounds-self-slot
+bounds-self-slot c = slot (goal.at.bounds-self-slot c).After-state-1
+
+pub offset_bounds-self-slot-2 : goal.offset_bounds-self-slot-2
+offset_bounds-self-slot-2 c = omega (arith, slot (goal.at.offset_bounds-self-slot-2 c).After-state-1)
+
+pub bounds-self-slot-2 : goal.bounds-self-slot-2
+bounds-self-slot-2 c = slot (goal.at.bounds-self-slot-2 c).After-state-1
+
+pub returns : goal.returns
+returns c = let a = c.args in begin_admitted a.self a.asked a.«data».now a.scratch.now _ c.select_vector-v.ensures _ (met_all a.self.states a.self.vectors a.asked.job c.select_vector-v.result _ c.loop-i.i (last (goal.at.returns c).After-loop-i) c.loop-i.invariant.1) _ c.check_lent-lent.ensures _ c.first_free-free.ensures _ c.plan_asked-first.ensures _ c.is_valid.ensures _ c.decide-plan.ensures _ _ c.admit-admission.ensures _ c.in-Admitted.is
