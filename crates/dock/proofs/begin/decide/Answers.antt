@@ -23,15 +23,6 @@ module _ (lent : Outcome) (valid : Bool) (plan : Plan) (met : Bool) (free : ℕ)
   invalid : valid ≡ false → Refused Segment ≡ decided_of lent valid plan met free
   invalid t = simp (l, t)
 
-  -- a plan that is not started stays
-  unstarted : valid ≡ true → OneOf (0 ∷ 2 ∷ []) (tag_of (declared enum) plan) → plan ≡ decided_of lent valid plan met free
-  unstarted t k = go plan k ∙ simp (l, t)
-    where
-      go : (q : Plan) → OneOf (0 ∷ 2 ∷ []) (tag_of (declared enum) q) → q ≡ allowed_by q met free
-      go NothingToDo k = refl
-      go (Refused r) k = refl
-      go (Started x) k = absurd (⊎_elim (λ e. omega arith) (λ e. omega arith) k)
-
   module _ (t : valid ≡ true) (x : State) (p : plan ≡ Started x) where
     overlaps : met ≡ true → Refused Overlap ≡ decided_of lent valid plan met free
     overlaps m = simp (l, t, p, m)
@@ -48,10 +39,6 @@ returns-in-Refused c = let a = c.args in sym (ap (λ (o : Outcome). decided_of o
 
 pub returns-then-not-valid : goal.returns-then-not-valid
 returns-then-not-valid c = let a = c.args in invalid a.lent a.valid a.plan a.met a.free c.in_default.is (c.if-not-valid.true)
-
--- TODO returns-in_default-plan (arm ['match2', 'keys2'] at At-match2-keys2 ['in_default-plan', 1, [['in_default-plan-own', 'match2', []]]]):
--- returns-3 : tie.Need-returns-3
--- returns-3 c = let a = c.before.before.before.before.args in unstarted a.lent a.valid a.plan a.met a.free c.before.before.enum_told.given.1 (not-false _ c.before.if1.false) c.match2.keys2
 
 pub returns-then-met : goal.returns-then-met
 returns-then-met c = let a = c.args in overlaps a.lent a.valid a.plan a.met a.free c.in_default.is (c.if-not-valid.false) _ c.in-Started.is c.if-met.true

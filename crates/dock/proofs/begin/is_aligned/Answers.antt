@@ -14,14 +14,5 @@ use Rattle.dock.specs.Begin.{is_aligned}
 use borrow.Author.Rules.{rules}
 use Rattle.dock.proofs.begin.is_aligned.Goals as goal
 
-not_aligned : (x : Alignment) → OneOf (1 ∷ 2 ∷ []) (tag_of (declared enum) x) → false ≡ is_aligned x
-not_aligned Aligned k = absurd (⊎_elim (λ e. omega arith) (λ e. omega arith) k)
-not_aligned Unaligned k = refl
-not_aligned (NotAsked r) k = refl
-
--- TODO returns-in_default (arm ['match', 'keys2'] at At-match-keys2 ['in_default', 1, [['in_default-own', 'match', []]]]):
--- returns : tie.Need-returns
--- returns c = not_aligned c.before.is-aligned.result c.match.keys2 ∙ ap is_aligned c.before.is-aligned.ensures
-
 pub returns : goal.returns
 returns c = simp (sym c.is_aligned-answer.ensures ∙ c.in-Aligned.is)

@@ -6,7 +6,7 @@ use borrow.Author.Rules.{rules}
 use Rattle.dock.proofs.open.open_by.Goals as goal
 
 pub returns-in-Of : goal.returns-in-Of
-returns-in-Of c = simp c.in-Of.is (goal.at.returns-in-Of c).After-open.«open».ensures
+returns-in-Of c = simp c.in-Of.is c.«open».ensures
 
 pub returns-in-Refused : goal.returns-in-Refused
 returns-in-Refused c = simp c.in-Refused.is (ap (λ (d : Dock). record { dock = d; outcome = Refused c.in-Refused.r }) c.make_fresh-dock.ensures)

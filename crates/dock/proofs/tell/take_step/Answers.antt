@@ -4,22 +4,17 @@ use Rattle.dock.specs.Tell.{stepped_at}
 use borrow.Author.Rules.{rules}
 use Rattle.dock.proofs.tell.take_step.Goals as goal
 
--- TODO stays-requires (past start):
--- stays-requires : tie.Need-stays-requires
--- stays-requires c κs = rw c.before.before.before.step.given.1 at c.before.before.before.before.before.before.before.requires.1
+pub stays-requires : goal.stays-requires
+stays-requires c = rw c.in-Stays.is at c.requires.1
 
--- TODO enters-requires (past start):
--- enters-requires : tie.Need-enters-requires
--- enters-requires c κs = rw c.before.before.before.step3.given.1 at c.before.before.before.before.before.before.before.requires.1
+pub enters-requires : goal.enters-requires
+enters-requires c = rw c.in-Enters.is at c.requires.1
 
--- TODO returns-in-Stays (past start):
--- returns : tie.Need-returns
--- returns c = let a = c.before.before.before.before.before.before.before.before.before.before.args in c.before.before.stays.ensures ∙ sym (ap (λ q. stepped_at a.b a.slot a.share a.x a.code a.v a.«data».now a.scratch.now q) c.before.before.before.before.before.before.step.given.1)
+pub returns-in-Stays : goal.returns-in-Stays
+returns-in-Stays c = let a = c.args in c.stays.ensures ∙ sym (ap (λ q. stepped_at a.b a.slot a.share a.x a.code a.v a.«data».now a.scratch.now q) c.in-Stays.is)
 
--- TODO returns-in-Ends (past start):
--- returns-2 : tie.Need-returns-2
--- returns-2 c = let a = c.before.before.before.before.before.before.before.before.before.before.args in c.before.before.ends.ensures ∙ sym (ap (λ q. stepped_at a.b a.slot a.share a.x a.code a.v a.«data».now a.scratch.now q) c.before.before.before.before.before.before.step2.given.1)
+pub returns-in-Ends : goal.returns-in-Ends
+returns-in-Ends c = let a = c.args in c.ends.ensures ∙ sym (ap (λ q. stepped_at a.b a.slot a.share a.x a.code a.v a.«data».now a.scratch.now q) c.in-Ends.is)
 
--- TODO returns-in-Enters (past start):
--- returns-3 : tie.Need-returns-3
--- returns-3 c = let a = c.before.before.before.before.before.before.before.before.before.before.args in c.before.before.enters.ensures ∙ sym (ap (λ q. stepped_at a.b a.slot a.share a.x a.code a.v a.«data».now a.scratch.now q) c.before.before.before.before.before.before.step3.given.1)
+pub returns-in-Enters : goal.returns-in-Enters
+returns-in-Enters c = let a = c.args in c.enters.ensures ∙ sym (ap (λ q. stepped_at a.b a.slot a.share a.x a.code a.v a.«data».now a.scratch.now q) c.in-Enters.is)

@@ -7,10 +7,22 @@ use borrow.Author.Tests.{not-true, not-false}
 use Rattle.sheets.specs.Sheets.{writes_in}
 use Rattle.sheets.proofs.Words.{writes_length}
 use Rattle.sheets.specs.SheetLaws.{top}
-use Rattle.sheets.proofs.Sweep.{Packing, packing_none, out_long, rows_long, packing_past, its_room, its_most, its_lies}
+use Rattle.sheets.proofs.Sweep.{Taken, Packing, packing_none, out_long, rows_long, packing_past, its_room, its_most, its_lies}
 use Rattle.sheets.proofs.Sweep.{packing_new, packing_on, its_row, packing_over, packing_all, count_most}
 use borrow.Author.Rules.{rules}
 use Rattle.sheets.proofs.joining.pack.Goals as goal
+use Rattle.sheets.proofs.joining.pack.Goals.{Joined-not-open, then-not-open, else-not-open}
+
+-- whether a range goes on or a new one begins, the stretch is taken into it
+taken : (c : Joined-not-open) → Taken (writes_in c.args.writes.now) c.if-not-open.count c.if-not-open.first c.if-not-open.place c.loop-at.at c.look-s.result.end
+taken c =
+    let p = c.loop-at.invariant.1 in
+    let o = c.look-s.ensures in
+    let h : c.look-s.result.owner < length (writes_in c.args.writes.now) = search rules in
+    elim c.if-not-open.branch [
+      | then-not-open w ↦ packing_new p _ o h w.if-not-open.true w.count-is w.first-is w.place-is
+      | else-not-open w ↦ packing_on p _ o h w.if-not-open.false w.count-is w.first-is w.place-is
+    ]
 
 pub loop-at-init : goal.loop-at-init
 loop-at-init c = (writes_length _, packing_none _ _ _ _ c.requires.fit c.requires.room c.requires.wide)
@@ -40,36 +52,21 @@ pub overflow_sub-range : goal.overflow_sub-range
 overflow_sub-range c = let p = c.loop-at.invariant.1 in
     let o = c.look-s.ensures in
     let h : c.look-s.result.owner < length (writes_in c.args.writes.now) = search rules in
-    let t =
-    ⊎_elim
-    (λ x. packing_new p _ o h (not-true _ x.0.taken) x.1 x.2 x.3)
-    (λ x. packing_on p _ o h (not-false _ x.0.left) x.1 x.2 x.3)
-    c.if-not-open.branch
-    in
+    let t = taken (goal.at.overflow_sub-range c).Joined-not-open in
     search (rules, t)
 
 pub overflow_sub-count : goal.overflow_sub-count
 overflow_sub-count c = let p = c.loop-at.invariant.1 in
     let o = c.look-s.ensures in
     let h : c.look-s.result.owner < length (writes_in c.args.writes.now) = search rules in
-    let t =
-    ⊎_elim
-    (λ x. packing_new p _ o h (not-true _ x.0.taken) x.1 x.2 x.3)
-    (λ x. packing_on p _ o h (not-false _ x.0.left) x.1 x.2 x.3)
-    c.if-not-open.branch
-    in
+    let t = taken (goal.at.overflow_sub-count c).Joined-not-open in
     search (rules, its_row p _ o h t)
 
 pub put_write-requires : goal.put_write-requires
 put_write-requires c = let p = c.loop-at.invariant.1 in
     let o = c.look-s.ensures in
     let h : c.look-s.result.owner < length (writes_in c.args.writes.now) = search rules in
-    let t =
-    ⊎_elim
-    (λ x. packing_new p _ o h (not-true _ x.0.taken) x.1 x.2 x.3)
-    (λ x. packing_on p _ o h (not-false _ x.0.left) x.1 x.2 x.3)
-    c.if-not-open.branch
-    in
+    let t = taken (goal.at.put_write-requires c).Joined-not-open in
     (its_row p _ o h t).1
 
 pub loop-at-smaller-after-not-open : goal.loop-at-smaller-after-not-open
@@ -79,12 +76,7 @@ pub loop-at-preserved-after-not-open : goal.loop-at-preserved-after-not-open
 loop-at-preserved-after-not-open c = let p = c.loop-at.invariant.1 in
     let o = c.look-s.ensures in
     let h : c.look-s.result.owner < length (writes_in c.args.writes.now) = search rules in
-    let t =
-    ⊎_elim
-    (λ x. packing_new p _ o h (not-true _ x.0.taken) x.1 x.2 x.3)
-    (λ x. packing_on p _ o h (not-false _ x.0.left) x.1 x.2 x.3)
-    c.if-not-open.branch
-    in
+    let t = taken (goal.at.loop-at-preserved-after-not-open c).Joined-not-open in
     (c.loop-at.invariant.0, packing_over p _ o h t _ c.get_write-w.ensures _ _ c.carry.ensures c.put_write.ensures)
 
 pub loop-at-smaller : goal.loop-at-smaller

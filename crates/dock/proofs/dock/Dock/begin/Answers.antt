@@ -19,12 +19,6 @@ use borrow.Author.Rules.{rules}
 use Rattle.dock.proofs.dock.Dock.begin.Goals as goal
 use Rattle.dock.proofs.dock.Dock.begin.Goals.{After-loop-i, After-state-1}
 
--- an answer of another kind is no slot
-admit_none : (b : Begun) (p : ℕ) → OneOf (0 ∷ 2 ∷ []) (tag_of (declared enum) b) → b ≢ Admitted p
-admit_none (Admitted q) p k e = ⊎_elim (λ e. omega arith) (λ e. omega arith) k
-admit_none NoRequest p k e = let z : ◌≡◌ {A = ℕ} 0 1 = cc in omega arith
-admit_none (Refused r) p k e = let z : ◌≡◌ {A = ℕ} 0 1 = cc in omega arith
-
 last : (c : After-loop-i) → c.loop-i.i ≡ 8
 last c = search rules
 
@@ -44,9 +38,13 @@ loop-i-preserved c = let a = c.args in let l = c.loop-i in (search rules, met_mo
 pub admit-admission-requires : goal.admit-admission-requires
 admit-admission-requires c = let a = c.args in decided_in_share a.asked.job a.self.settings a.self.buffers a.asked.offset a.asked.length a.asked.vector (length a.«data».now) (length a.scratch.now) _ c.check_lent-lent.ensures _ _ c.plan_asked-first.ensures _ _ _ c.decide-plan.ensures
 
--- TODO returns-in_default (arm ['match', 'keys2'] at At-match-keys2 ['in_default', 1, [['in_default-own', 'match', []]]]):
--- returns : tie.Need-returns invariant-loop decreases-loop
--- returns c = let k = c.before.before.before.before.before.before.before.before.before.before.before in let a = k.before.before.before.before.before.before.before.before.before.args in begin_not_admitted a.t1 a.asked a.«data».now a.scratch.now _ k.before.before.before.before.select-vector.ensures _ (met_all a.t1.states a.t1.vectors a.asked.job k.before.before.before.before.select-vector.result _ k.before.before.loop.i (last k.before) k.before.before.loop.invariant.1) _ k.check-lent.ensures _ c.before.before.before.before.before.before.before.before.before.first-free.ensures _ c.before.before.before.before.before.before.before.before.plan-asked.ensures _ c.before.before.before.before.before.before.before.is-valid.ensures _ c.before.before.before.before.before.before.decide.ensures _ _ c.before.before.before.admit.ensures (λ p e. admit_none _ p c.match.keys2 e)
+pub returns-in_default : goal.returns-in_default
+returns-in_default c =
+    let a = c.args in
+    begin_not_admitted a.self a.asked a.«data».now a.scratch.now _ c.select_vector-v.ensures _
+    (met_all a.self.states a.self.vectors a.asked.job c.select_vector-v.result _ c.loop-i.i (last (goal.at.returns-in_default c).After-loop-i) c.loop-i.invariant.1)
+    _ c.check_lent-lent.ensures _ c.first_free-free.ensures _ c.plan_asked-first.ensures _ c.is_valid.ensures _ c.decide-plan.ensures _ _ c.admit-admission.ensures
+    (λ p e. c.in_default.not-Admitted p e)
 
 pub offset_bounds-self-slot : goal.offset_bounds-self-slot
 offset_bounds-self-slot c = omega (arith, slot (goal.at.offset_bounds-self-slot c).After-state-1)
