@@ -2,6 +2,8 @@
 // The list was made by `oracle fixed` (oracle/README.md, "The fixed list").
 #![tactic(auto)]
 
-fn main() {
-    replay_run::replay_input();
+use std::io;
+
+fn main(rt: HostRuntime) -> io::Result<()> {
+    replay_run::replay_input(&rt)
 }

@@ -1,152 +1,168 @@
 // Prints what requests become on an aligned drive: document 01's traced jobs, as far as they follow from the arithmetic.
 // A line a job: what is asked, and the requests that are made, each as offset+length.
 #![tactic(auto)]
+
 use arithmetic::offsets::{Range, StoreOffset};
 use arithmetic::padding::{Reads, Span, Transfer};
 use arithmetic::refusals::Refusal;
 use arithmetic::settings::{Alignments, Profile, Settings};
 use arithmetic::zeroes::{Chunk, Cut, DiscardCut, ZeroCut};
-use libc::STDOUT_FILENO;
+use std::io;
 
-fn text(bytes: &[u8]) {
-    io::write_all(STDOUT_FILENO, bytes);
+fn text(rt: &impl Print, bytes: &[u8]) -> io::Result<()> {
+    rt.write_all(bytes)
 }
 
-fn number(n: u64) {
-    io::print_decimal(STDOUT_FILENO, n);
+fn number(rt: &impl Print, n: u64) -> io::Result<()> {
+    rt.print(n)
 }
 
 // offset+length
-fn extent(at: u64, length: u64) {
-    number(at);
-    text(b"+");
-    number(length);
+fn extent(rt: &impl Print, at: u64, length: u64) -> io::Result<()> {
+    number(rt, at)?;
+    text(rt, b"+")?;
+    number(rt, length)
 }
 
-fn range(r: Range) {
+fn range(rt: &impl Print, r: Range) -> io::Result<()> {
     let start = r.start;
     let end = r.end;
     if start.0 <= end.0 {
-        extent(start.0, end.0 - start.0);
+        extent(rt, start.0, end.0 - start.0)?;
     }
+    Ok(())
 }
 
-fn refused(r: Refusal) {
-    text(b" refused ");
-    number(r.number() as u64);
+fn refused(rt: &impl Print, r: Refusal) -> io::Result<()> {
+    text(rt, b" refused ")?;
+    number(rt, r.number() as u64)
 }
 
-fn job(kind: &[u8], length: u64, at: u64) {
-    text(kind);
-    text(b" ");
-    number(length);
-    text(b" at ");
-    number(at);
-    text(b":");
+fn job(rt: &impl Print, kind: &[u8], length: u64, at: u64) -> io::Result<()> {
+    text(rt, kind)?;
+    text(rt, b" ")?;
+    number(rt, length)?;
+    text(rt, b" at ")?;
+    number(rt, at)?;
+    text(rt, b":")
 }
 
-fn read_of(start: u64, length: u64) {
-    text(b" read ");
-    extent(start, length);
-    text(b",");
+fn read_of(rt: &impl Print, start: u64, length: u64) -> io::Result<()> {
+    text(rt, b" read ")?;
+    extent(rt, start, length)?;
+    text(rt, b",")
 }
 
 // The reads of a padded write, in order.
-fn reads(s: Span) {
+fn reads(rt: &impl Print, s: Span) -> io::Result<()> {
     let start = s.start;
     let end = s.end;
     let what = s.reads();
     match what {
         Reads::Nothing => {}
-        Reads::Whole => read_of(start.0, s.length),
-        Reads::Head(h) => read_of(start.0, h),
+        Reads::Whole => read_of(rt, start.0, s.length)?,
+        Reads::Head(h) => read_of(rt, start.0, h)?,
         Reads::Tail(t) => {
             if t <= end.0 {
-                read_of(end.0 - t, t);
+                read_of(rt, end.0 - t, t)?;
             }
         }
         Reads::HeadThenTail(h, t) => {
-            read_of(start.0, h);
+            read_of(rt, start.0, h)?;
             if t <= end.0 {
-                read_of(end.0 - t, t);
+                read_of(rt, end.0 - t, t)?;
             }
         }
     }
+    Ok(())
 }
 
-fn write(at: u64, length: u64, aligned: bool, align: Alignments) {
-    job(b"write", length, at);
+fn write(
+    rt: &impl Print,
+    at: u64,
+    length: u64,
+    aligned: bool,
+    align: Alignments,
+) -> io::Result<()> {
+    job(rt, b"write", length, at)?;
     match arithmetic::padding::plan_transfer(StoreOffset(at), length, aligned, align) {
         Transfer::Direct(r) => {
-            text(b" write ");
-            range(r);
-            text(b" (direct)");
+            text(rt, b" write ")?;
+            range(rt, r)?;
+            text(rt, b" (direct)")?;
         }
         Transfer::Bounced(s) => {
             let start = s.start;
-            reads(s);
-            text(b" write ");
-            extent(start.0, s.length);
+            reads(rt, s)?;
+            text(rt, b" write ")?;
+            extent(rt, start.0, s.length)?;
         }
-        Transfer::Refused(r) => refused(r),
+        Transfer::Refused(r) => refused(rt, r)?,
     }
-    text(b"\n");
+    text(rt, b"\n")
 }
 
-fn part(r: Range) {
+fn part(rt: &impl Print, r: Range) -> io::Result<()> {
     let start = r.start;
     let end = r.end;
     if start.0 < end.0 {
-        text(b", zeroes ");
-        range(r);
+        text(rt, b", zeroes ")?;
+        range(rt, r)?;
     }
+    Ok(())
 }
 
-fn split(c: Cut) {
-    text(b" zero ");
-    range(c.middle);
-    part(c.head);
-    part(c.tail);
+fn split(rt: &impl Print, c: Cut) -> io::Result<()> {
+    text(rt, b" zero ")?;
+    range(rt, c.middle)?;
+    part(rt, c.head)?;
+    part(rt, c.tail)
 }
 
-fn zero(at: u64, length: u64, align: Alignments) {
-    job(b"zero", length, at);
+fn zero(rt: &impl Print, at: u64, length: u64, align: Alignments) -> io::Result<()> {
+    job(rt, b"zero", length, at)?;
     match arithmetic::zeroes::zero_cut(StoreOffset(at), length, align) {
-        ZeroCut::Nothing => text(b" done"),
+        ZeroCut::Nothing => text(rt, b" done")?,
         ZeroCut::Whole(r) => {
-            text(b" zeroes ");
-            range(r);
+            text(rt, b" zeroes ")?;
+            range(rt, r)?;
         }
-        ZeroCut::Split(c) => split(c),
-        ZeroCut::Refused(r) => refused(r),
+        ZeroCut::Split(c) => split(rt, c)?,
+        ZeroCut::Refused(r) => refused(rt, r)?,
     }
-    text(b"\n");
+    text(rt, b"\n")
 }
 
-fn discard(at: u64, length: u64, align: Alignments) {
-    job(b"discard", length, at);
+fn discard(rt: &impl Print, at: u64, length: u64, align: Alignments) -> io::Result<()> {
+    job(rt, b"discard", length, at)?;
     match arithmetic::zeroes::discard_cut(StoreOffset(at), length, align) {
-        DiscardCut::Nothing => text(b" done"),
+        DiscardCut::Nothing => text(rt, b" done")?,
         DiscardCut::Middle(r) => {
-            text(b" discard ");
-            range(r);
+            text(rt, b" discard ")?;
+            range(rt, r)?;
         }
-        DiscardCut::Refused(r) => refused(r),
+        DiscardCut::Refused(r) => refused(rt, r)?,
     }
-    text(b"\n");
+    text(rt, b"\n")
 }
 
 // What write_full_zeroes writes where the store answers 1: at most `most` chunks are shown.
-fn fallback(at: u64, length: u64, settings: Settings, most: u64) {
-    job(b"zero, told 1,", length, at);
+fn fallback(
+    rt: &impl Print,
+    at: u64,
+    length: u64,
+    settings: Settings,
+    most: u64,
+) -> io::Result<()> {
+    job(rt, b"zero, told 1,", length, at)?;
     if length <= 0xffff_ffff_ffff_ffff - at {
         let end = at + length;
-        chunks(at, end, settings, most);
+        chunks(rt, at, end, settings, most)?;
     }
-    text(b"\n");
+    text(rt, b"\n")
 }
 
-fn chunks(at: u64, end: u64, settings: Settings, most: u64) {
+fn chunks(rt: &impl Print, at: u64, end: u64, settings: Settings, most: u64) -> io::Result<()> {
     let mut from = at;
     let mut i = 0;
     while i < most {
@@ -155,57 +171,61 @@ fn chunks(at: u64, end: u64, settings: Settings, most: u64) {
             end: StoreOffset(end),
         };
         let Chunk::Next(r) = arithmetic::zeroes::next_chunk(rest, settings) else {
-            return;
+            return Ok(());
         };
         if 0 < i {
-            text(b",");
+            text(rt, b",")?;
         }
-        text(b" zeroes ");
-        range(r);
+        text(rt, b" zeroes ")?;
+        range(rt, r)?;
         let to = r.end;
         from = to.0;
         i += 1;
     }
+    Ok(())
 }
 
 // Drive profile 1, bounce buffer 4096; every address is a multiple of 1, so a vector is aligned where each length is a multiple of 512.
-fn row_one(align: Alignments) {
-    write(100, 10, true, align);
-    write(100, 412, true, align);
-    write(512, 512, true, align);
-    write(512, 512, false, align);
-    write(100, 900, true, align);
-    write(100, 1500, true, align);
-    zero(100, 1000, align);
+fn row_one(rt: &impl Print, align: Alignments) -> io::Result<()> {
+    write(rt, 100, 10, true, align)?;
+    write(rt, 100, 412, true, align)?;
+    write(rt, 512, 512, true, align)?;
+    write(rt, 512, 512, false, align)?;
+    write(rt, 100, 900, true, align)?;
+    write(rt, 100, 1500, true, align)?;
+    zero(rt, 100, 1000, align)?;
     let settings = Settings {
         align,
         bounce: 4096,
     };
-    fallback(100, 1000, settings, 4);
-    zero(1, 1022, align);
-    discard(100, 400, align);
-    discard(18446744073709551105, 0, align);
-    discard(18446744073709551104, 0, align);
-    write(18446744073709551104, 1, true, align);
-    write(18446744073709551103, 1, true, align);
-    write(18446744073709551615, 1, true, align);
+    fallback(rt, 100, 1000, settings, 4)?;
+    zero(rt, 1, 1022, align)?;
+    discard(rt, 100, 400, align)?;
+    discard(rt, 18446744073709551105, 0, align)?;
+    discard(rt, 18446744073709551104, 0, align)?;
+    write(rt, 18446744073709551104, 1, true, align)?;
+    write(rt, 18446744073709551103, 1, true, align)?;
+    write(rt, 18446744073709551615, 1, true, align)
 }
 
-fn main() {
-    text(b"drive profile 1, bounce buffer 4096\n");
+fn main(rt: HostRuntime) -> io::Result<()> {
+    text(&rt, b"drive profile 1, bounce buffer 4096\n")?;
     let Profile::Of(one) = arithmetic::settings::drive_profile(1) else {
-        return;
+        return Ok(());
     };
-    row_one(one);
-    text(b"drive profile 4, bounce buffer 12288, segment off 4096\n");
+    row_one(&rt, one)?;
+    text(
+        &rt,
+        b"drive profile 4, bounce buffer 12288, segment off 4096\n",
+    )?;
     let Profile::Of(four) = arithmetic::settings::drive_profile(4) else {
-        return;
+        return Ok(());
     };
-    write(700, 10, false, four);
-    text(b"drive profile 6\n");
+    write(&rt, 700, 10, false, four)?;
+    text(&rt, b"drive profile 6\n")?;
     let Profile::Refused(r) = arithmetic::settings::drive_profile(6) else {
-        return;
+        return Ok(());
     };
-    refused(r);
-    text(b"\n");
+    refused(&rt, r)?;
+    text(&rt, b"\n")
 }

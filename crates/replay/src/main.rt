@@ -2,6 +2,8 @@
 // crates/replay_run/src/lib.rt.
 #![tactic(auto)]
 
-fn main() {
-    replay_run::replay_input();
+use std::io;
+
+fn main(rt: HostRuntime) -> io::Result<()> {
+    replay_run::replay_input(&rt)
 }

@@ -20,10 +20,12 @@
 // and one that was out before, `waiting`, or `answer` and the final answer. A request is its kind, offset+length on the store
 // and where its pieces lie, as start+length of the data or the scratch. Last come the sums of the store's and the data's
 // bytes modulo 65536.
-// A program has no exit status, so the last line tells: `ok` where the script ran to its end; `error: line N: ..` where line
-// N is neither event nor comment, and the run stops there; `error: ..` for a script of more than 65535 bytes, which is not run.
+// The exit status is 0 whatever the script has, so the last line tells: `ok` where the script ran to its end; `error: line N: ..`
+// where line N is neither event nor comment, and the run stops there; `error: ..` for a script of more than 65535 bytes, which
+// is not run. Where a read or a write fails the program ends there, with that error on standard error and status 1.
 #![tactic(auto)]
-ghost use Rattle.std.specs.Prelude.{◌<◌, ◌≤◌, length};
+
+ghost use Rattle.std.specs.Prelude.{◌<◌, ◌≤◌, length, IfOk};
 
 use arithmetic::offsets::StoreOffset;
 use arithmetic::refusals::Outcome;
@@ -33,11 +35,12 @@ use dock::dock::Dock;
 use dock::next::Due;
 use dock::open::Opened;
 use dock::tell::Telling;
-use libc::STDIN_FILENO;
 use replay_store::{Act, CarryOutcome};
 use replay_text::script::{Event, Verb, Verdict};
 use replay_text::trace::text;
 use replay_text::{marks, script, trace};
+use std::io;
+use std::io::Read;
 use vectors::vector::{Changed, IoVector};
 
 // What a line is.
@@ -76,12 +79,18 @@ fn start(data_len: usize, scratch_len: usize) -> Dock {
 }
 
 // Opens another dock, which has no request.
-fn reopen(e: Event, marks: &mut [u64], data_len: usize, scratch_len: usize) -> Dock {
+fn reopen(
+    rt: &impl Print,
+    e: Event,
+    marks: &mut [u64],
+    data_len: usize,
+    scratch_len: usize,
+) -> io::Result<Dock> {
     let o = open(e.number(0), e.number(1), data_len, scratch_len);
     marks::forget_all(marks);
     let answer = o.outcome;
-    trace::outcome(answer);
-    o.dock
+    trace::outcome(rt, answer)?;
+    Ok(o.dock)
 }
 
 // The vector of the first so many segments of an event, up to the first that is refused.
@@ -127,28 +136,35 @@ fn ask_for(e: Event, vector: IoVector) -> Asked {
 }
 
 // Begins a job; a vector that is refused begins none.
-fn begin(dock: Dock, e: Event, data: &[u8], scratch: &mut [u8]) -> Dock {
+fn begin(
+    rt: &impl Print,
+    dock: Dock,
+    e: Event,
+    data: &[u8],
+    scratch: &mut [u8],
+) -> io::Result<Dock> {
     let v = vector_of(e, segments(e), data.len());
     let fit = v.outcome;
     if let Outcome::Refused(r) = fit {
-        trace::refused(r);
-        return dock;
+        trace::refused(rt, r)?;
+        return Ok(dock);
     }
     let b = dock.begin(ask_for(e, v.vector), data, scratch);
     let answer = b.answer;
-    trace::begun(answer);
-    b.dock
+    trace::begun(rt, answer)?;
+    Ok(b.dock)
 }
 
-fn next(dock: Dock, e: Event, data: &[u8], scratch: &[u8]) {
+fn next(rt: &impl Print, dock: Dock, e: Event, data: &[u8], scratch: &[u8]) -> io::Result<()> {
     let slot = e.number(0) as usize;
     trace::due(
+        rt,
         dock,
         slot,
         dock.next(slot, data, scratch),
         data.len(),
         scratch.len(),
-    );
+    )
 }
 
 // Whether a code may be told: an answer to a request that is out is the code that the store carried it out with.
@@ -163,36 +179,37 @@ fn may_tell(dock: Dock, slot: usize, code: u8, marks: &[u64], data: &[u8], scrat
 }
 
 // An accepted tell ends the request: the next one of its slot is new.
-fn report_tell(t: Telling, slot: usize, marks: &mut [u64]) -> Dock {
+fn report_tell(rt: &impl Print, t: Telling, slot: usize, marks: &mut [u64]) -> io::Result<Dock> {
     let answer = t.outcome;
-    trace::outcome(answer);
+    trace::outcome(rt, answer)?;
     if let Outcome::Refused(_) = answer {
-        return t.dock;
+        return Ok(t.dock);
     }
     marks::forget(marks, slot);
-    t.dock
+    Ok(t.dock)
 }
 
 fn tell(
+    rt: &impl Print,
     dock: Dock,
     slot: usize,
     code: u8,
     marks: &mut [u64],
     data: &mut [u8],
     scratch: &mut [u8],
-) -> Dock {
+) -> io::Result<Dock> {
     if !may_tell(dock, slot, code, marks, data, scratch) {
-        text(b" not the code of its carry");
-        return dock;
+        text(rt, b" not the code of its carry")?;
+        return Ok(dock);
     }
-    report_tell(dock.tell(slot, code, data, scratch), slot, marks)
+    report_tell(rt, dock.tell(slot, code, data, scratch), slot, marks)
 }
 
-fn collect(dock: Dock, e: Event, data: &[u8], scratch: &[u8]) -> Dock {
+fn collect(rt: &impl Print, dock: Dock, e: Event, data: &[u8], scratch: &[u8]) -> io::Result<Dock> {
     let c = dock.collect(e.number(0) as usize, data, scratch);
     let answer = c.answer;
-    trace::collected(answer);
-    c.dock
+    trace::collected(rt, answer)?;
+    Ok(c.dock)
 }
 
 // Number i of an event, which the script's reader found to be at most 255.
@@ -211,97 +228,108 @@ fn act_of(e: Event) -> Act {
 
 // Carries out the request that is out in `slot`, once, and notes the code.
 fn carry(
+    rt: &impl Print,
     dock: Dock,
     e: Event,
     marks: &mut [u64],
     store: &mut [u8],
     data: &mut [u8],
     scratch: &mut [u8],
-) {
+) -> io::Result<()> {
     let slot = e.number(0) as usize;
     if marks::is_carried(marks, slot) {
-        text(b" carried out already");
-        return;
+        return text(rt, b" carried out already");
     }
     let act = act_of(e);
     match replay_store::carry(dock, slot, act, store, data, scratch) {
         CarryOutcome::Done => {
             marks::carry(marks, slot, act.code);
-            text(b" done");
+            text(rt, b" done")
         }
-        CarryOutcome::NoRequest => text(b" no request is out"),
+        CarryOutcome::NoRequest => text(rt, b" no request is out"),
     }
 }
 
-fn fill(bytes: &mut [u8], e: Event) {
+fn fill(rt: &impl Print, bytes: &mut [u8], e: Event) -> io::Result<()> {
     replay_store::fill(bytes, e.number(0), e.number(1), byte(e, 2));
-    text(b" done");
+    text(rt, b" done")
 }
 
-fn show(store: &[u8], e: Event) {
-    trace::bytes(store, e.number(0), e.number(1));
+fn show(rt: &impl Print, store: &[u8], e: Event) -> io::Result<()> {
+    trace::bytes(rt, store, e.number(0), e.number(1))
 }
 
 // Performs an event that leaves the dock as it is, and prints its answer; no other event.
 fn perform_keeping_dock(
+    rt: &impl Print,
     dock: Dock,
     e: Event,
     marks: &mut [u64],
     store: &mut [u8],
     data: &mut [u8],
     scratch: &mut [u8],
-) {
+) -> io::Result<()> {
     let verb = e.verb;
     match verb {
-        Verb::Store => fill(store, e),
-        Verb::Data => fill(data, e),
-        Verb::Show => show(store, e),
-        Verb::Next => next(dock, e, data, scratch),
-        Verb::Carry => carry(dock, e, marks, store, data, scratch),
-        _ => {}
+        Verb::Store => fill(rt, store, e),
+        Verb::Data => fill(rt, data, e),
+        Verb::Show => show(rt, store, e),
+        Verb::Next => next(rt, dock, e, data, scratch),
+        Verb::Carry => carry(rt, dock, e, marks, store, data, scratch),
+        _ => Ok(()),
     }
 }
 
 // Performs an event that changes the dock, and prints its answer; any other leaves the dock as it is.
 fn perform_changing_dock(
+    rt: &impl Print,
     dock: Dock,
     e: Event,
     marks: &mut [u64],
     data: &mut [u8],
     scratch: &mut [u8],
-) -> Dock {
+) -> io::Result<Dock> {
     let verb = e.verb;
     match verb {
         Verb::Open => {
-            return reopen(e, marks, data.len(), scratch.len());
+            return reopen(rt, e, marks, data.len(), scratch.len());
         }
         Verb::Tell => {
-            return tell(dock, e.number(0) as usize, byte(e, 1), marks, data, scratch);
+            return tell(
+                rt,
+                dock,
+                e.number(0) as usize,
+                byte(e, 1),
+                marks,
+                data,
+                scratch,
+            );
         }
         Verb::Collect => {
-            return collect(dock, e, data, scratch);
+            return collect(rt, dock, e, data, scratch);
         }
         Verb::Read | Verb::Write | Verb::Zero | Verb::Alloc | Verb::Discard => {
-            return begin(dock, e, data, scratch);
+            return begin(rt, dock, e, data, scratch);
         }
         _ => {}
     }
-    dock
+    Ok(dock)
 }
 
 // Performs an event: its answer, and what the dock then needs.
 fn perform(
+    rt: &impl Print,
     mut dock: Dock,
     e: Event,
     marks: &mut [u64],
     store: &mut [u8],
     data: &mut [u8],
     scratch: &mut [u8],
-) -> Dock {
-    perform_keeping_dock(dock, e, marks, store, data, scratch);
-    dock = perform_changing_dock(dock, e, marks, data, scratch);
-    trace::state(dock, marks, store, data, scratch);
-    dock
+) -> io::Result<Dock> {
+    perform_keeping_dock(rt, dock, e, marks, store, data, scratch)?;
+    dock = perform_changing_dock(rt, dock, e, marks, data, scratch)?;
+    trace::state(rt, dock, marks, store, data, scratch)?;
+    Ok(dock)
 }
 
 fn is_comment(line: &[u8]) -> bool {
@@ -312,28 +340,28 @@ fn is_comment(line: &[u8]) -> bool {
 }
 
 // Copies line `number`, where it is a comment, or an event, whose answer is to follow; says of any other what is wrong with it.
-fn report_line(number: u64, line: &[u8], verdict: Verdict) -> Form {
+fn report_line(rt: &impl Print, number: u64, line: &[u8], verdict: Verdict) -> io::Result<Form> {
     if is_comment(line) {
-        text(line);
-        text(b"\n");
-        return Form::Comment;
+        text(rt, line)?;
+        text(rt, b"\n")?;
+        return Ok(Form::Comment);
     }
     if let Verdict::Bad(f) = verdict {
-        trace::malformed(number, line, f);
-        return Form::Malformed;
+        trace::malformed(rt, number, line, f)?;
+        return Ok(Form::Malformed);
     }
-    text(line);
-    text(b":");
-    Form::Event
+    text(rt, line)?;
+    text(rt, b":")?;
+    Ok(Form::Event)
 }
 
 // What line `number` says, once it is copied or its flaw is printed.
-fn read(number: u64, line: &[u8]) -> Line {
+fn read(rt: &impl Print, number: u64, line: &[u8]) -> io::Result<Line> {
     let parsed = script::parse(line);
     let verdict = parsed.verdict;
-    let form = report_line(number, line, verdict);
+    let form = report_line(rt, number, line, verdict)?;
     let event = parsed.event;
-    Line { form, event }
+    Ok(Line { form, event })
 }
 
 // Where the line that starts at `at` ends: at its newline, or the text's end.
@@ -361,31 +389,32 @@ fn next_line(at: usize, end: usize, n: usize) -> usize
 
 // Plays the lines, in order, up to the first that is malformed. Whether there was one.
 fn run(
+    rt: &impl Print,
     script: &[u8],
     marks: &mut [u64],
     store: &mut [u8],
     data: &mut [u8],
     scratch: &mut [u8],
-) -> bool {
+) -> io::Result<bool> {
     let mut dock = start(data.len(), scratch.len());
     let n = script.len();
     let mut number = 0u64;
     let mut at = 0usize;
     while at < n {
         let end = line_end(script, at);
-        number = std::num::wrapping_add_u64(number, 1);
-        let line = read(number, &script[at..end]);
+        number = number.wrapping_add(1);
+        let line = read(rt, number, &script[at..end])?;
         at = next_line(at, end, n);
         let form = line.form;
         if let Form::Malformed = form {
-            return true;
+            return Ok(true);
         }
         if let Form::Comment = form {
             continue;
         }
-        dock = perform(dock, line.event, marks, store, data, scratch);
+        dock = perform(rt, dock, line.event, marks, store, data, scratch)?;
     }
-    false
+    Ok(false)
 }
 
 fn store_bytes() -> [u8; 8192] {
@@ -402,24 +431,38 @@ fn scratch_bytes() -> [u8; 131072] {
 }
 
 // Runs a whole script, and says at the end that it was whole.
-fn replay(script: &[u8]) {
+fn replay(rt: &impl Print, script: &[u8]) -> io::Result<()> {
     let mut store = store_bytes();
     let mut data = data_bytes();
     let mut scratch = scratch_bytes();
     let mut marks = [0u64; 8];
-    if run(script, &mut marks, &mut store, &mut data, &mut scratch) {
-        return;
+    if run(rt, script, &mut marks, &mut store, &mut data, &mut scratch)? {
+        return Ok(());
     }
-    text(b"ok\n");
+    text(rt, b"ok\n")
+}
+
+// Reads until the buffer is full or the input ends, and returns how many bytes it put at the buffer's start.
+fn read_full(reader: &mut impl Read, buffer: &mut [u8]) -> io::Result<usize>
+    ensures { IfOk result (λ n. n ≤ length buffer.new) }
+{
+    let mut done = 0usize;
+    while done < buffer.len() {
+        let n = reader.read(&mut buffer[done..])?;
+        if n == 0 {
+            break;
+        }
+        done += n;
+    }
+    Ok(done)
 }
 
 // Reads a script on standard input, and replays it.
-pub fn replay_input() {
-    let mut script = io::large_buffer();
-    let n = io::read_full(STDIN_FILENO, &mut script);
+pub fn replay_input(rt: &(impl Print + Input)) -> io::Result<()> {
+    let mut script = [0u8; 65536];
+    let n = read_full(&mut rt.reader(), &mut script)?;
     if n == script.len() {
-        trace::too_long();
-        return;
+        return trace::too_long(rt);
     }
-    replay(&script[..n]);
+    replay(rt, &script[..n])
 }

@@ -2,6 +2,7 @@
 // What a code leaves open, the choice of its carry decides by the offset o on the store: bit o mod 64 says whether the byte
 // there is new, byte o mod 8, the lowest first, what it is where it may be anything.
 #![tactic(auto)]
+
 use arithmetic::offsets::{LARGEST, Sum};
 use dock::dock::Dock;
 use dock::next::Due;

@@ -1,17 +1,32 @@
 // Validity, push, insert, append.
 use crate::show;
+use std::io;
 use vectors::vector::{IoVector, Segment};
 
-fn push(label: &[u8], v: IoVector, start: usize, length: usize, data_len: usize) {
-    show::changed(label, v.push(Segment { start, length }, data_len));
+fn push(
+    rt: &impl Print,
+    label: &[u8],
+    v: IoVector,
+    start: usize,
+    length: usize,
+    data_len: usize,
+) -> io::Result<()> {
+    show::changed(rt, label, v.push(Segment { start, length }, data_len))
 }
 
-fn insert(label: &[u8], v: IoVector, index: usize, start: usize, length: usize) {
-    show::changed(label, v.insert(index, Segment { start, length }, 100));
+fn insert(
+    rt: &impl Print,
+    label: &[u8],
+    v: IoVector,
+    index: usize,
+    start: usize,
+    length: usize,
+) -> io::Result<()> {
+    show::changed(rt, label, v.insert(index, Segment { start, length }, 100))
 }
 
-fn append(label: &[u8], v: IoVector, other: IoVector) {
-    show::changed(label, v.append(other, 2000000));
+fn append(rt: &impl Print, label: &[u8], v: IoVector, other: IoVector) -> io::Result<()> {
+    show::changed(rt, label, v.append(other, 2000000))
 }
 
 // n pushes of one byte, each behind the one before it: one segment.
@@ -36,90 +51,99 @@ fn downward(n: usize) -> IoVector {
     v
 }
 
-pub fn first() {
+pub fn first(rt: &impl Print) -> io::Result<()> {
     let v = IoVector::new();
-    show::vector_line(b"new", v);
-    show::yes_no(b"new is empty", v.is_empty());
-    show::yes_no(b"new is valid over no data", v.is_valid(0));
+    show::vector_line(rt, b"new", v)?;
+    show::yes_no(rt, b"new is empty", v.is_empty())?;
+    show::yes_no(rt, b"new is valid over no data", v.is_valid(0))?;
     let w = show::one(3, 5);
-    show::vector_line(b"one of 5 bytes", w);
-    show::number_line(b"its length", w.len());
-    show::number_line(b"its buffers", w.buffer_count() as u64);
-    show::yes_no(b"it is empty", w.is_empty());
+    show::vector_line(rt, b"one of 5 bytes", w)?;
+    show::number_line(rt, b"its length", w.len())?;
+    show::number_line(rt, b"its buffers", w.buffer_count() as u64)?;
+    show::yes_no(rt, b"it is empty", w.is_empty())
 }
 
-pub fn segment_limits() {
+pub fn segment_limits(rt: &impl Print) -> io::Result<()> {
     let v = show::one(0, 2);
-    push(b"push one short of the end of 8", v, 6, 1, 8);
-    push(b"push up to the end of 8", v, 7, 1, 8);
-    push(b"push one past the end of 8", v, 7, 2, 8);
-    push(b"push behind the end of 8", v, 8, 1, 8);
-    push(b"push an empty one", v, 4, 0, 8);
+    push(rt, b"push one short of the end of 8", v, 6, 1, 8)?;
+    push(rt, b"push up to the end of 8", v, 7, 1, 8)?;
+    push(rt, b"push one past the end of 8", v, 7, 2, 8)?;
+    push(rt, b"push behind the end of 8", v, 8, 1, 8)?;
+    push(rt, b"push an empty one", v, 4, 0, 8)?;
     push(
+        rt,
         b"push one whose end is past 2^64 - 1",
         v,
         18446744073709551615,
         1,
         8,
-    );
-    push(b"push to a vector outside of 1 byte", v, 0, 1, 1);
+    )?;
+    push(rt, b"push to a vector outside of 1 byte", v, 0, 1, 1)
 }
 
-pub fn count_limits() {
+pub fn count_limits(rt: &impl Print) -> io::Result<()> {
     let v = downward(15);
-    show::vector_line(b"15 segments", v);
-    push(b"push the 16th", v, 15, 1, 100);
+    show::vector_line(rt, b"15 segments", v)?;
+    push(rt, b"push the 16th", v, 15, 1, 100)?;
     let w = show::more(v, 15, 1);
-    push(b"push the 17th", w, 17, 1, 100);
-    insert(b"insert the 16th", v, 0, 15, 1);
-    insert(b"insert the 17th", w, 0, 16, 1);
-    push(b"push to the 16th", w, 16, 1, 100);
-    push(b"push an empty one to the 16th", w, 16, 0, 100);
-    insert(b"insert into 16, touching one", w, 15, 1, 1);
-    insert(b"insert into 16, touching two", w, 15, 1, 14);
+    push(rt, b"push the 17th", w, 17, 1, 100)?;
+    insert(rt, b"insert the 16th", v, 0, 15, 1)?;
+    insert(rt, b"insert the 17th", w, 0, 16, 1)?;
+    push(rt, b"push to the 16th", w, 16, 1, 100)?;
+    push(rt, b"push an empty one to the 16th", w, 16, 0, 100)?;
+    insert(rt, b"insert into 16, touching one", w, 15, 1, 1)?;
+    insert(rt, b"insert into 16, touching two", w, 15, 1, 14)
 }
 
-pub fn total_limits() {
+pub fn total_limits(rt: &impl Print) -> io::Result<()> {
     let v = IoVector::new();
-    push(b"push 1048575 bytes", v, 0, 1048575, 2000000);
-    push(b"push 1048576 bytes", v, 0, 1048576, 2000000);
-    push(b"push 1048577 bytes", v, 0, 1048577, 2000000);
+    push(rt, b"push 1048575 bytes", v, 0, 1048575, 2000000)?;
+    push(rt, b"push 1048576 bytes", v, 0, 1048576, 2000000)?;
+    push(rt, b"push 1048577 bytes", v, 0, 1048577, 2000000)?;
     let w = show::one(0, 1048575);
-    push(b"push 1 byte more", w, 7, 1, 2000000);
-    push(b"push 2 bytes more", w, 7, 2, 2000000);
+    push(rt, b"push 1 byte more", w, 7, 1, 2000000)?;
+    push(rt, b"push 2 bytes more", w, 7, 2, 2000000)
 }
 
-pub fn inserts() {
+pub fn inserts(rt: &impl Print) -> io::Result<()> {
     let v = show::more(show::one(10, 1), 20, 2);
-    insert(b"insert at 0", v, 0, 30, 3);
-    insert(b"insert at 1", v, 1, 30, 3);
-    insert(b"insert at the count", v, 2, 30, 3);
-    insert(b"insert past the count", v, 3, 30, 3);
-    insert(b"insert an empty one", v, 1, 30, 0);
+    insert(rt, b"insert at 0", v, 0, 30, 3)?;
+    insert(rt, b"insert at 1", v, 1, 30, 3)?;
+    insert(rt, b"insert at the count", v, 2, 30, 3)?;
+    insert(rt, b"insert past the count", v, 3, 30, 3)?;
+    insert(rt, b"insert an empty one", v, 1, 30, 0)
 }
 
 // Segments that touch become one.
-pub fn joins() {
-    show::vector_line(b"40 pushes side by side", side_by_side(40));
+pub fn joins(rt: &impl Print) -> io::Result<()> {
+    show::vector_line(rt, b"40 pushes side by side", side_by_side(40))?;
     let v = show::one(4, 2);
-    push(b"push where the last ends", v, 6, 3, 100);
-    push(b"push one behind the last", v, 7, 3, 100);
-    push(b"push from inside the last", v, 5, 3, 100);
-    push(b"push up to the last", v, 0, 4, 100);
-    push(b"push an empty one where the last ends", v, 6, 0, 100);
+    push(rt, b"push where the last ends", v, 6, 3, 100)?;
+    push(rt, b"push one behind the last", v, 7, 3, 100)?;
+    push(rt, b"push from inside the last", v, 5, 3, 100)?;
+    push(rt, b"push up to the last", v, 0, 4, 100)?;
+    push(rt, b"push an empty one where the last ends", v, 6, 0, 100)?;
     let full = show::one(4, 1048575);
     push(
+        rt,
         b"push up to 1048576 bytes in one",
         full,
         1048579,
         1,
         2000000,
-    );
-    push(b"push past 1048576 bytes in one", full, 1048579, 2, 2000000);
+    )?;
+    push(
+        rt,
+        b"push past 1048576 bytes in one",
+        full,
+        1048579,
+        2,
+        2000000,
+    )
 }
 
 // At the last numbers.
-pub fn high_joins() {
+pub fn high_joins(rt: &impl Print) -> io::Result<()> {
     let high = IoVector::new()
         .push(
             Segment {
@@ -130,66 +154,77 @@ pub fn high_joins() {
         )
         .vector;
     push(
+        rt,
         b"push up to 2^64 - 1",
         high,
         18446744073709551614,
         1,
         18446744073709551615,
-    );
+    )?;
     push(
+        rt,
         b"push past 2^64 - 1",
         high,
         18446744073709551614,
         2,
         18446744073709551615,
-    );
+    )
 }
 
 // On either side of an insert.
-pub fn insert_joins() {
+pub fn insert_joins(rt: &impl Print) -> io::Result<()> {
     let v = show::more(show::one(10, 2), 16, 4);
-    insert(b"insert where the first ends", v, 1, 12, 1);
-    insert(b"insert up to the second", v, 1, 15, 1);
-    insert(b"insert between the two", v, 1, 12, 4);
-    insert(b"insert one short of the second", v, 1, 12, 3);
-    insert(b"insert up to the first", v, 0, 9, 1);
-    insert(b"insert where the last ends", v, 2, 20, 5);
-    insert(b"insert an empty one where the first ends", v, 1, 12, 0);
+    insert(rt, b"insert where the first ends", v, 1, 12, 1)?;
+    insert(rt, b"insert up to the second", v, 1, 15, 1)?;
+    insert(rt, b"insert between the two", v, 1, 12, 4)?;
+    insert(rt, b"insert one short of the second", v, 1, 12, 3)?;
+    insert(rt, b"insert up to the first", v, 0, 9, 1)?;
+    insert(rt, b"insert where the last ends", v, 2, 20, 5)?;
+    insert(rt, b"insert an empty one where the first ends", v, 1, 12, 0)?;
     let mut hand = v;
     hand.segments[1] = Segment {
         start: 12,
         length: 4,
     };
-    insert(b"insert before two that touch", hand, 0, 30, 1);
+    insert(rt, b"insert before two that touch", hand, 0, 30, 1)
 }
 
-pub fn appends() {
+pub fn appends(rt: &impl Print) -> io::Result<()> {
     let eight = downward(8);
     let half = show::one(0, 524288);
-    append(b"append nothing", half, IoVector::new());
-    append(b"append to nothing", IoVector::new(), half);
-    append(b"append 8 to 8", eight, eight);
-    append(b"append 9 to 8", eight, downward(9));
+    append(rt, b"append nothing", half, IoVector::new())?;
+    append(rt, b"append to nothing", IoVector::new(), half)?;
+    append(rt, b"append 8 to 8", eight, eight)?;
+    append(rt, b"append 9 to 8", eight, downward(9))?;
     let nine = show::one(1, 1).append(eight, 100).vector;
-    append(b"append 9 to 8, the last of which it touches", eight, nine);
-    append(b"append up to 1048576 bytes", half, half);
-    append(b"append one byte more", half, show::one(0, 524289));
-    show::changed(b"append one outside of the data", eight.append(half, 100));
+    append(
+        rt,
+        b"append 9 to 8, the last of which it touches",
+        eight,
+        nine,
+    )?;
+    append(rt, b"append up to 1048576 bytes", half, half)?;
+    append(rt, b"append one byte more", half, show::one(0, 524289))?;
+    show::changed(
+        rt,
+        b"append one outside of the data",
+        eight.append(half, 100),
+    )
 }
 
 // Values of the type that no call returns.
-pub fn values() {
+pub fn values(rt: &impl Print) -> io::Result<()> {
     let v = show::more(show::one(0, 2), 4, 3);
-    show::yes_no(b"valid over 7", v.is_valid(7));
-    show::yes_no(b"valid over 6", v.is_valid(6));
+    show::yes_no(rt, b"valid over 7", v.is_valid(7))?;
+    show::yes_no(rt, b"valid over 6", v.is_valid(6))?;
     let mut total = v;
     total.total = 6;
-    show::yes_no(b"valid with a total one over", total.is_valid(7));
+    show::yes_no(rt, b"valid with a total one over", total.is_valid(7))?;
     let mut hidden = v;
     hidden.count = 3;
-    show::yes_no(b"valid with an empty segment", hidden.is_valid(7));
+    show::yes_no(rt, b"valid with an empty segment", hidden.is_valid(7))?;
     let mut count = v;
     count.count = 17;
-    show::yes_no(b"valid with 17 segments", count.is_valid(100));
-    push(b"push to 17 segments", count, 0, 1, 100);
+    show::yes_no(rt, b"valid with 17 segments", count.is_valid(100))?;
+    push(rt, b"push to 17 segments", count, 0, 1, 100)
 }

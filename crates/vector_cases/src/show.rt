@@ -1,137 +1,138 @@
 // One line a case: a label, then the answer.
 use arithmetic::refusals::Outcome;
-use libc::STDOUT_FILENO;
+use std::io;
 use vectors::vector::{Alignment, Changed, Halves, IoVector, Segment, Tail};
 
-pub fn text(bytes: &[u8]) {
-    io::write_all(STDOUT_FILENO, bytes);
+pub fn text(rt: &impl Print, bytes: &[u8]) -> io::Result<()> {
+    rt.write_all(bytes)
 }
 
-pub fn number(n: u64) {
-    io::print_decimal(STDOUT_FILENO, n);
+pub fn number(rt: &impl Print, n: u64) -> io::Result<()> {
+    rt.print(n)
 }
 
 fn widen(x: u8) -> u64 {
     x as u64
 }
 
-pub fn outcome(o: Outcome) {
+pub fn outcome(rt: &impl Print, o: Outcome) -> io::Result<()> {
     let n = o.number();
     if n == 0 {
-        text(b"done");
+        text(rt, b"done")
     } else {
-        number(widen(n));
+        number(rt, widen(n))
     }
 }
 
-fn segment(p: Segment) {
-    text(b" ");
-    number(p.start as u64);
-    text(b"+");
-    number(p.length as u64);
+fn segment(rt: &impl Print, p: Segment) -> io::Result<()> {
+    text(rt, b" ")?;
+    number(rt, p.start as u64)?;
+    text(rt, b"+")?;
+    number(rt, p.length as u64)
 }
 
 // Count, total, and each segment as start+length.
-fn vector(v: IoVector) {
-    number(v.count as u64);
-    text(b" segments, ");
-    number(v.total);
-    text(b" bytes");
-    segments(v);
+fn vector(rt: &impl Print, v: IoVector) -> io::Result<()> {
+    number(rt, v.count as u64)?;
+    text(rt, b" segments, ")?;
+    number(rt, v.total)?;
+    text(rt, b" bytes")?;
+    segments(rt, v)
 }
 
-fn segments(v: IoVector) {
+fn segments(rt: &impl Print, v: IoVector) -> io::Result<()> {
     let n = v.count;
     let mut i = 0usize;
     while i < 16 {
         if i < n {
             let p = v.segments[i];
-            segment(p);
+            segment(rt, p)?;
         }
         i += 1;
     }
+    Ok(())
 }
 
-pub fn vector_line(label: &[u8], v: IoVector) {
-    text(label);
-    text(b": ");
-    vector(v);
-    text(b"\n");
+pub fn vector_line(rt: &impl Print, label: &[u8], v: IoVector) -> io::Result<()> {
+    text(rt, label)?;
+    text(rt, b": ")?;
+    vector(rt, v)?;
+    text(rt, b"\n")
 }
 
-pub fn changed(label: &[u8], c: Changed) {
-    text(label);
-    text(b": ");
+pub fn changed(rt: &impl Print, label: &[u8], c: Changed) -> io::Result<()> {
+    text(rt, label)?;
+    text(rt, b": ")?;
     let o = c.outcome;
-    outcome(o);
-    text(b", ");
+    outcome(rt, o)?;
+    text(rt, b", ")?;
     let v = c.vector;
-    vector(v);
-    text(b"\n");
+    vector(rt, v)?;
+    text(rt, b"\n")
 }
 
-pub fn halves(mid: u64, h: Halves) {
-    text(b"split at ");
-    number(mid);
-    text(b": ");
+pub fn halves(rt: &impl Print, mid: u64, h: Halves) -> io::Result<()> {
+    text(rt, b"split at ")?;
+    number(rt, mid)?;
+    text(rt, b": ")?;
     let o = h.outcome;
-    outcome(o);
-    text(b", ");
+    outcome(rt, o)?;
+    text(rt, b", ")?;
     let head = h.head;
-    vector(head);
-    text(b" | ");
+    vector(rt, head)?;
+    text(rt, b" | ")?;
     let tail = h.tail;
-    vector(tail);
-    looked(h.looked);
+    vector(rt, tail)?;
+    looked(rt, h.looked)
 }
 
-pub fn tail(t: Tail) {
-    text(b": ");
+pub fn tail(rt: &impl Print, t: Tail) -> io::Result<()> {
+    text(rt, b": ")?;
     let o = t.outcome;
-    outcome(o);
-    text(b", ");
+    outcome(rt, o)?;
+    text(rt, b", ")?;
     let v = t.vector;
-    vector(v);
-    looked(t.looked);
+    vector(rt, v)?;
+    looked(rt, t.looked)
 }
 
-fn looked(n: usize) {
-    text(b", ");
-    number(n as u64);
-    text(b" looked at\n");
+fn looked(rt: &impl Print, n: usize) -> io::Result<()> {
+    text(rt, b", ")?;
+    number(rt, n as u64)?;
+    text(rt, b" looked at\n")
 }
 
-pub fn yes_no(label: &[u8], b: bool) {
-    text(label);
+pub fn yes_no(rt: &impl Print, label: &[u8], b: bool) -> io::Result<()> {
+    text(rt, label)?;
     if b {
-        text(b": yes\n");
+        text(rt, b": yes\n")
     } else {
-        text(b": no\n");
+        text(rt, b": no\n")
     }
 }
 
-pub fn number_line(label: &[u8], n: u64) {
-    text(label);
-    text(b": ");
-    number(n);
-    text(b"\n");
+pub fn number_line(rt: &impl Print, label: &[u8], n: u64) -> io::Result<()> {
+    text(rt, label)?;
+    text(rt, b": ")?;
+    number(rt, n)?;
+    text(rt, b"\n")
 }
 
-pub fn bytes(label: &[u8], o: Outcome, bytes: &[u8]) {
-    text(label);
-    text(b": ");
-    outcome(o);
-    text(b", ");
-    text(bytes);
-    text(b"\n");
+pub fn bytes(rt: &impl Print, label: &[u8], o: Outcome, bytes: &[u8]) -> io::Result<()> {
+    text(rt, label)?;
+    text(rt, b": ")?;
+    outcome(rt, o)?;
+    text(rt, b", ")?;
+    text(rt, bytes)?;
+    text(rt, b"\n")
 }
 
-pub fn alignment(label: &[u8], a: Alignment) {
-    text(label);
+pub fn alignment(rt: &impl Print, label: &[u8], a: Alignment) -> io::Result<()> {
+    text(rt, label)?;
     match a {
-        Alignment::Aligned => text(b": aligned\n"),
-        Alignment::Unaligned => text(b": unaligned\n"),
-        Alignment::Refused(r) => number_line(b"", widen(r.number())),
+        Alignment::Aligned => text(rt, b": aligned\n"),
+        Alignment::Unaligned => text(rt, b": unaligned\n"),
+        Alignment::Refused(r) => number_line(rt, b"", widen(r.number())),
     }
 }
 
