@@ -1,0 +1,21 @@
+-- `dock_words::begun_words::admit_started` meets its contract: 208 where the blocker cannot enter; filled, and where that was done it enters and the job is stored. Assumes nothing.
+use mathlib.Core.Path.{refl, sym, ◌∙◌}
+use Prim.Native.Nat.{◌*◌}
+use borrow.Author.Tests.{not-true, not-false}
+use Rattle.dock.specs.SlotLaws.{filled_share_lem}
+use Rattle.dock_words.proofs.Begun.{admit_not, admit_refused, admit_done}
+use Rattle.dock_words.specs.CallWordsLaws.{same_words, done_words}
+use borrow.Author.Rules.{rules}
+use Rattle.dock_words.proofs.begun_words.admit_started.Goals as goal
+
+pub returns-then-not-may_enter : goal.returns-then-not-may_enter
+returns-then-not-may_enter c = let k = ((let a = c.args in admit_not a.blockers.now a.states.now a.vectors.now a.slot (a.slot * a.settings.bounce) a.x a.v a.«data».now a.scratch.now (sym c.may_enter.ensures ∙ c.if-not-may_enter.true)), (same_words _ _, same_words _ _, same_words _ _)) in
+    record { dock = k.0; words = k.1 }
+
+pub returns-in-Refused : goal.returns-in-Refused
+returns-in-Refused c = let k = ((let a = c.args in admit_refused a.blockers.now a.states.now a.vectors.now a.slot (a.slot * a.settings.bounce) a.x a.v a.«data».now a.scratch.now (sym c.may_enter.ensures ∙ c.if-not-may_enter.false) _ _ (c.fill_share-filled.ensures ∙ filled_share_lem a.slot a.settings a.buffers a.x a.v a.«data».now a.scratch.now c.requires.4) _ c.in-Refused.is), (same_words _ _, same_words _ _, same_words _ _)) in
+    record { dock = k.0; words = k.1 }
+
+pub returns : goal.returns
+returns c = let k = ((let a = c.args in admit_done a.blockers.now a.states.now a.vectors.now a.slot (a.slot * a.settings.bounce) a.x a.v a.«data».now a.scratch.now (sym c.may_enter.ensures ∙ c.if-not-may_enter.false) _ _ (c.fill_share-filled.ensures ∙ filled_share_lem a.slot a.settings a.buffers a.x a.v a.«data».now a.scratch.now c.requires.4) c.in_default.is _ _ _ c.enter_blocker-entered.ensures.1 c.put_state_at.ensures c.put_vector_at.ensures), (done_words _ _ _ refl, done_words _ _ _ refl, done_words _ _ _ refl)) in
+    record { dock = k.0; words = k.1 }

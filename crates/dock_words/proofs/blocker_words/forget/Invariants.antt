@@ -1,0 +1,26 @@
+-- `dock_words::blocker_words::forget` meets its contract: after i turns the first i slots have forgotten `slot`, and the others are as they were. Assumes nothing.
+-- the slots after i turns
+use borrow.Author.Rules.{rules}
+use native.Mathlib.Omega.{arith}
+use Prim.Native.Nat.{ℕ, ◌+◌, ◌*◌, ◌≤◌, ◌<◌, ◌-◌}
+use mathlib.Core.Path.{◌≡◌, sym, ap, ◌∙◌}
+use mathlib.Core.List.{List, map}
+use lib.ListN.{length, set, length-map, length-set}
+use Rattle.blockers.specs.Blockers.{blocker_at, nowhere, forgetting}
+use Rattle.blockers.specs.declared.Blockers.{Blockers}
+use Rattle.arithmetic.specs.Rows.{rows_length}
+use Rattle.dock_words.specs.View.{blocker_of, blockers_of}
+use Rattle.dock_words.specs.Laws.{note_cleared}
+use Rattle.arithmetic.specs.Loops.{Mapped, mapped_none, mapped_more, like_all}
+use Rattle.dock_words.proofs.blocker_words.forget.Given as goal
+
+pub record Forgot (p : ℕ) (w₀ w : List ℕ) (i : ℕ) : Type 0 where
+  pub turns : i ≤ 8
+  pub words : length w ≡ 88
+  pub done : Mapped (forgetting p) nowhere (blockers_of w₀).slots (blockers_of w).slots i
+
+abbrev pub invariant-loop-i : goal.invariant-loop-i
+invariant-loop-i l = Forgot l.slot l.initial.all l.all l.i
+
+abbrev pub decreases-loop-i : goal.decreases-loop-i
+decreases-loop-i l = 8 - l.i

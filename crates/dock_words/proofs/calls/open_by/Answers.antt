@@ -1,0 +1,11 @@
+-- `dock_words::calls::open_by` meets its contract: each profile is its case of the definition. Assumes nothing.
+use mathlib.Core.Path.{refl}
+use Rattle.dock_words.specs.CallWordsLaws.{not_opened, same_words}
+use borrow.Author.Rules.{rules}
+use Rattle.dock_words.proofs.calls.open_by.Goals as goal
+
+pub returns-in-Of : goal.returns-in-Of
+returns-in-Of c = simp c.in-Of.is (goal.at.returns-in-Of c).After-open.«open».ensures
+
+pub returns-in-Refused : goal.returns-in-Refused
+returns-in-Refused c = simp c.in-Refused.is (refl, (not_opened _ _ _ refl, same_words _ _, (same_words _ _, same_words _ _, same_words _ _)))
