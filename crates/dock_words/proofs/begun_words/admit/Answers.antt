@@ -13,13 +13,10 @@ pub admit_started-requires : goal.admit_started-requires
 admit_started-requires c = let a = c.args in let w = rw c.in-Started.is at c.requires.3 in (c.requires.0, c.requires.1, c.requires.2, sound_slot a.slot _ a.settings a.buffers _ w, w)
 
 pub returns-in-Done : goal.returns-in-Done
-returns-in-Done c = let k = ((let a = c.args in sym (ap (λ (q : Plan). stored_job (blockers_of a.blockers.now) (states_of a.states.now) (vectors_of a.vectors.now) a.v (admit_at (blockers_of a.blockers.now) a.slot a.settings.bounce a.v a.«data».now a.scratch.now q)) c.in-Done.is)), (same_words _ _, same_words _ _, same_words _ _)) in
-    record { dock = k.0; words = k.1 }
+returns-in-Done c = record { dock = (let a = c.args in sym (ap (λ (q : Plan). stored_job (blockers_of a.blockers.now) (states_of a.states.now) (vectors_of a.vectors.now) a.v (admit_at (blockers_of a.blockers.now) a.slot a.settings.bounce a.v a.«data».now a.scratch.now q)) c.in-Done.is)); words = (same_words _ _, same_words _ _, same_words _ _) }
 
 pub returns-in-Refused : goal.returns-in-Refused
-returns-in-Refused c = let k = ((let a = c.args in sym (ap (λ (q : Plan). stored_job (blockers_of a.blockers.now) (states_of a.states.now) (vectors_of a.vectors.now) a.v (admit_at (blockers_of a.blockers.now) a.slot a.settings.bounce a.v a.«data».now a.scratch.now q)) c.in-Refused.is)), (same_words _ _, same_words _ _, same_words _ _)) in
-    record { dock = k.0; words = k.1 }
+returns-in-Refused c = record { dock = (let a = c.args in sym (ap (λ (q : Plan). stored_job (blockers_of a.blockers.now) (states_of a.states.now) (vectors_of a.vectors.now) a.v (admit_at (blockers_of a.blockers.now) a.slot a.settings.bounce a.v a.«data».now a.scratch.now q)) c.in-Refused.is)); words = (same_words _ _, same_words _ _, same_words _ _) }
 
 pub returns-in-Started : goal.returns-in-Started
-returns-in-Started c = let k = ((let a = c.args in c.admit_started.ensures.dock ∙ sym (ap (λ (q : Plan). stored_job (blockers_of a.blockers.now) (states_of a.states.now) (vectors_of a.vectors.now) a.v (admit_at (blockers_of a.blockers.now) a.slot a.settings.bounce a.v a.«data».now a.scratch.now q)) c.in-Started.is)), c.admit_started.ensures.words) in
-    record { dock = k.0; words = k.1 }
+returns-in-Started c = record { dock = (let a = c.args in c.admit_started.ensures.dock ∙ sym (ap (λ (q : Plan). stored_job (blockers_of a.blockers.now) (states_of a.states.now) (vectors_of a.vectors.now) a.v (admit_at (blockers_of a.blockers.now) a.slot a.settings.bounce a.v a.«data».now a.scratch.now q)) c.in-Started.is)); words = c.admit_started.ensures.words }

@@ -9,13 +9,10 @@ use borrow.Author.Rules.{rules}
 use Rattle.dock_words.proofs.begun_words.admit_started.Goals as goal
 
 pub returns-then-not-may_enter : goal.returns-then-not-may_enter
-returns-then-not-may_enter c = let k = ((let a = c.args in admit_not a.blockers.now a.states.now a.vectors.now a.slot (a.slot * a.settings.bounce) a.x a.v a.«data».now a.scratch.now (sym c.may_enter.ensures ∙ c.if-not-may_enter.true)), (same_words _ _, same_words _ _, same_words _ _)) in
-    record { dock = k.0; words = k.1 }
+returns-then-not-may_enter c = record { dock = (let a = c.args in admit_not a.blockers.now a.states.now a.vectors.now a.slot (a.slot * a.settings.bounce) a.x a.v a.«data».now a.scratch.now (sym c.may_enter.ensures ∙ c.if-not-may_enter.true)); words = (same_words _ _, same_words _ _, same_words _ _) }
 
 pub returns-in-Refused : goal.returns-in-Refused
-returns-in-Refused c = let k = ((let a = c.args in admit_refused a.blockers.now a.states.now a.vectors.now a.slot (a.slot * a.settings.bounce) a.x a.v a.«data».now a.scratch.now (sym c.may_enter.ensures ∙ c.if-not-may_enter.false) _ _ (c.fill_share-filled.ensures ∙ filled_share_lem a.slot a.settings a.buffers a.x a.v a.«data».now a.scratch.now c.requires.4) _ c.in-Refused.is), (same_words _ _, same_words _ _, same_words _ _)) in
-    record { dock = k.0; words = k.1 }
+returns-in-Refused c = record { dock = (let a = c.args in admit_refused a.blockers.now a.states.now a.vectors.now a.slot (a.slot * a.settings.bounce) a.x a.v a.«data».now a.scratch.now (sym c.may_enter.ensures ∙ c.if-not-may_enter.false) _ _ (c.fill_share-filled.ensures ∙ filled_share_lem a.slot a.settings a.buffers a.x a.v a.«data».now a.scratch.now c.requires.4) _ c.in-Refused.is); words = (same_words _ _, same_words _ _, same_words _ _) }
 
 pub returns : goal.returns
-returns c = let k = ((let a = c.args in admit_done a.blockers.now a.states.now a.vectors.now a.slot (a.slot * a.settings.bounce) a.x a.v a.«data».now a.scratch.now (sym c.may_enter.ensures ∙ c.if-not-may_enter.false) _ _ (c.fill_share-filled.ensures ∙ filled_share_lem a.slot a.settings a.buffers a.x a.v a.«data».now a.scratch.now c.requires.4) c.in_default.is _ _ _ c.enter_blocker-entered.ensures.1 c.put_state_at.ensures c.put_vector_at.ensures), (done_words _ _ _ refl, done_words _ _ _ refl, done_words _ _ _ refl)) in
-    record { dock = k.0; words = k.1 }
+returns c = record { dock = (let a = c.args in admit_done a.blockers.now a.states.now a.vectors.now a.slot (a.slot * a.settings.bounce) a.x a.v a.«data».now a.scratch.now (sym c.may_enter.ensures ∙ c.if-not-may_enter.false) _ _ (c.fill_share-filled.ensures ∙ filled_share_lem a.slot a.settings a.buffers a.x a.v a.«data».now a.scratch.now c.requires.4) c.in_default.is _ _ _ c.enter_blocker-entered.ensures.1 c.put_state_at.ensures c.put_vector_at.ensures); words = (done_words _ _ _ refl, done_words _ _ _ refl, done_words _ _ _ refl) }

@@ -8,5 +8,4 @@ pub admit-requires : goal.admit-requires
 admit-requires c = let a = c.args in (c.requires.1, c.requires.2, c.requires.3, decided_sound a.asked.job _ _ a.asked.offset a.asked.length a.asked.vector _ _ _ c.check_lent-lent.ensures _ _ c.plan_asked-first.ensures _ _ _ c.decide-plan.ensures)
 
 pub returns : goal.returns
-returns c = let k = ((let a = c.args in begin_there a.settings.now a.blockers.now a.states.now a.vectors.now a.asked a.«data».now a.scratch.now _ c.get_settings-s.ensures _ c.get_buffers-b.ensures _ c.select_vector-v.ensures _ c.overlaps-met.ensures _ c.check_lent-lent.ensures _ c.first_free-free.ensures _ c.plan_asked-first.ensures _ c.is_valid.ensures _ c.decide-plan.ensures _ _ _ _ _ c.admit.ensures.dock), c.admit.ensures.words) in
-    record { dock = k.0; words = k.1 }
+returns c = record { dock = (let a = c.args in begin_there a.settings.now a.blockers.now a.states.now a.vectors.now a.asked a.«data».now a.scratch.now _ c.get_settings-s.ensures _ c.get_buffers-b.ensures _ c.select_vector-v.ensures _ c.overlaps-met.ensures _ c.check_lent-lent.ensures _ c.first_free-free.ensures _ c.plan_asked-first.ensures _ c.is_valid.ensures _ c.decide-plan.ensures _ _ _ _ _ c.admit.ensures.dock); words = c.admit.ensures.words }

@@ -38,16 +38,13 @@ module _ (d : Dock) (p m n : ℕ) where
     collected c h e i = simp (f, lt-ltb p 8 h, e) (refl, i)
 
 pub returns-then-not-lent_fits : goal.returns-then-not-lent_fits
-returns-then-not-lent_fits c = let k = ((let a = c.args in unlent (dock_of a.settings.now a.blockers.now a.states.now a.vectors.now) a.slot a.data_len a.scratch_len (rw (← c.get_buffers-lent.ensures) (sym c.lent_fits.ensures ∙ c.if-not-lent_fits.true))), (same_words _ _, same_words _ _)) in
-    record { dock = k.0; words = k.1 }
+returns-then-not-lent_fits c = record { dock = (let a = c.args in unlent (dock_of a.settings.now a.blockers.now a.states.now a.vectors.now) a.slot a.data_len a.scratch_len (rw (← c.get_buffers-lent.ensures) (sym c.lent_fits.ensures ∙ c.if-not-lent_fits.true))); words = (same_words _ _, same_words _ _) }
 
 pub returns-then-slot-ge-SLOTS : goal.returns-then-slot-ge-SLOTS
-returns-then-slot-ge-SLOTS c = let k = ((let a = c.args in no_slot (dock_of a.settings.now a.blockers.now a.states.now a.vectors.now) a.slot a.data_len a.scratch_len (rw (← c.get_buffers-lent.ensures) (sym c.lent_fits.ensures ∙ c.if-not-lent_fits.false)) c.if-slot-ge-SLOTS.true), (same_words _ _, same_words _ _)) in
-    record { dock = k.0; words = k.1 }
+returns-then-slot-ge-SLOTS c = record { dock = (let a = c.args in no_slot (dock_of a.settings.now a.blockers.now a.states.now a.vectors.now) a.slot a.data_len a.scratch_len (rw (← c.get_buffers-lent.ensures) (sym c.lent_fits.ensures ∙ c.if-not-lent_fits.false)) c.if-slot-ge-SLOTS.true); words = (same_words _ _, same_words _ _) }
 
 pub returns-then-not-has_ended : goal.returns-then-not-has_ended
-returns-then-not-has_ended c = let k = ((let a = c.args in not-ended (dock_of a.settings.now a.blockers.now a.states.now a.vectors.now) a.slot a.data_len a.scratch_len (rw (← c.get_buffers-lent.ensures) (sym c.lent_fits.ensures ∙ c.if-not-lent_fits.false)) c.if-slot-ge-SLOTS.false (rw (← c.state_at-x.ensures) (sym c.has_ended.ensures ∙ c.if-not-has_ended.true))), (same_words _ _, same_words _ _)) in
-    record { dock = k.0; words = k.1 }
+returns-then-not-has_ended c = record { dock = (let a = c.args in not-ended (dock_of a.settings.now a.blockers.now a.states.now a.vectors.now) a.slot a.data_len a.scratch_len (rw (← c.get_buffers-lent.ensures) (sym c.lent_fits.ensures ∙ c.if-not-lent_fits.false)) c.if-slot-ge-SLOTS.false (rw (← c.state_at-x.ensures) (sym c.has_ended.ensures ∙ c.if-not-has_ended.true))); words = (same_words _ _, same_words _ _) }
 
 pub put_state_at-requires : goal.put_state_at-requires
 put_state_at-requires c = (c.requires.2, c.if-slot-ge-SLOTS.false)
@@ -56,5 +53,4 @@ pub put_vector_at-requires : goal.put_vector_at-requires
 put_vector_at-requires c = (c.requires.3, c.if-slot-ge-SLOTS.false)
 
 pub returns : goal.returns
-returns c = let k = ((let a = c.args in let x = c.state_at-x in let r = collected (dock_of a.settings.now a.blockers.now a.states.now a.vectors.now) a.slot a.data_len a.scratch_len (rw (← c.get_buffers-lent.ensures) (sym c.lent_fits.ensures ∙ c.if-not-lent_fits.false)) (dock_of a.settings.now a.blockers.now c.put_state_at.new.states c.put_vector_at.new.vectors) c.if-slot-ge-SLOTS.false (rw (← x.ensures) (sym c.has_ended.ensures ∙ c.if-not-has_ended.false)) (rw (c.put_state_at.ensures, c.put_vector_at.ensures, c.make_vacant.ensures, c.new.ensures)) in (ap (λ (y : State). Final y.answer) x.ensures ∙ r.0, r.1)), (done_words _ _ _ refl, done_words _ _ _ refl)) in
-    record { dock = k.0; words = k.1 }
+returns c = record { dock = (let a = c.args in let x = c.state_at-x in let r = collected (dock_of a.settings.now a.blockers.now a.states.now a.vectors.now) a.slot a.data_len a.scratch_len (rw (← c.get_buffers-lent.ensures) (sym c.lent_fits.ensures ∙ c.if-not-lent_fits.false)) (dock_of a.settings.now a.blockers.now c.put_state_at.new.states c.put_vector_at.new.vectors) c.if-slot-ge-SLOTS.false (rw (← x.ensures) (sym c.has_ended.ensures ∙ c.if-not-has_ended.false)) (rw (c.put_state_at.ensures, c.put_vector_at.ensures, c.make_vacant.ensures, c.new.ensures)) in (ap (λ (y : State). Final y.answer) x.ensures ∙ r.0, r.1)); words = (done_words _ _ _ refl, done_words _ _ _ refl) }

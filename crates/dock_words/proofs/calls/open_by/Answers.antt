@@ -5,7 +5,7 @@ use borrow.Author.Rules.{rules}
 use Rattle.dock_words.proofs.calls.open_by.Goals as goal
 
 pub returns-in-Of : goal.returns-in-Of
-returns-in-Of c = simp c.in-Of.is (goal.at.returns-in-Of c).After-open.«open».ensures
+returns-in-Of c = simp c.in-Of.is c.before.before.before.before.before.before.before.before.«open».ensures
 
 pub returns-in-Refused : goal.returns-in-Refused
 returns-in-Refused c = simp c.in-Refused.is (refl, (not_opened _ _ _ refl, same_words _ _, (same_words _ _, same_words _ _, same_words _ _)))

@@ -7,16 +7,13 @@ use borrow.Author.Rules.{rules}
 use Rattle.dock_words.proofs.calls.tell.Goals as goal
 
 pub returns-then-not-lent_fits : goal.returns-then-not-lent_fits
-returns-then-not-lent_fits c = let k = ((let a = c.args in tell_not_lent a.settings.now a.blockers.now a.states.now a.vectors.now a.slot a.code a.«data».now a.scratch.now (rw (← c.get_buffers-b.ensures) (sym c.lent_fits.ensures ∙ c.if-not-lent_fits.true))), (same_words _ _, same_words _ _)) in
-    record { dock = k.0; words = k.1 }
+returns-then-not-lent_fits c = record { dock = (let a = c.args in tell_not_lent a.settings.now a.blockers.now a.states.now a.vectors.now a.slot a.code a.«data».now a.scratch.now (rw (← c.get_buffers-b.ensures) (sym c.lent_fits.ensures ∙ c.if-not-lent_fits.true))); words = (same_words _ _, same_words _ _) }
 
 pub returns-then-slot-ge-SLOTS : goal.returns-then-slot-ge-SLOTS
-returns-then-slot-ge-SLOTS c = let k = ((let a = c.args in tell_no_slot a.settings.now a.blockers.now a.states.now a.vectors.now a.slot a.code a.«data».now a.scratch.now (rw (← c.get_buffers-b.ensures) (sym c.lent_fits.ensures ∙ c.if-not-lent_fits.false)) c.if-slot-ge-SLOTS.true), (same_words _ _, same_words _ _)) in
-    record { dock = k.0; words = k.1 }
+returns-then-slot-ge-SLOTS c = record { dock = (let a = c.args in tell_no_slot a.settings.now a.blockers.now a.states.now a.vectors.now a.slot a.code a.«data».now a.scratch.now (rw (← c.get_buffers-b.ensures) (sym c.lent_fits.ensures ∙ c.if-not-lent_fits.false)) c.if-slot-ge-SLOTS.true); words = (same_words _ _, same_words _ _) }
 
 pub tell_slot-requires : goal.tell_slot-requires
 tell_slot-requires c = (c.requires.1, c.requires.2, c.requires.3, c.if-slot-ge-SLOTS.false, (sym c.lent_fits.ensures ∙ c.if-not-lent_fits.false))
 
 pub returns : goal.returns
-returns c = let k = ((let a = c.args in tell_there a.settings.now a.blockers.now a.states.now a.vectors.now a.slot a.code a.«data».now a.scratch.now (rw (← c.get_buffers-b.ensures) (sym c.lent_fits.ensures ∙ c.if-not-lent_fits.false)) c.if-slot-ge-SLOTS.false _ c.state_at-x.ensures _ c.get_settings-s.ensures _ c.get_buffers-b.ensures _ _ _ _ _ c.tell_slot.ensures.dock), c.tell_slot.ensures.words) in
-    record { dock = k.0; words = k.1 }
+returns c = record { dock = (let a = c.args in tell_there a.settings.now a.blockers.now a.states.now a.vectors.now a.slot a.code a.«data».now a.scratch.now (rw (← c.get_buffers-b.ensures) (sym c.lent_fits.ensures ∙ c.if-not-lent_fits.false)) c.if-slot-ge-SLOTS.false _ c.state_at-x.ensures _ c.get_settings-s.ensures _ c.get_buffers-b.ensures _ _ _ _ _ c.tell_slot.ensures.dock); words = c.tell_slot.ensures.words }

@@ -13,13 +13,10 @@ use borrow.Author.Rules.{rules}
 use Rattle.dock_words.proofs.told_words.ends.Goals as goal
 
 pub returns-then-not-may_leave : goal.returns-then-not-may_leave
-returns-then-not-may_leave c = let k = ((let a = c.args in ends_not a.blockers.now a.states.now a.slot (a.slot * a.settings.bounce) a.x a.code a.y (get_or (vectors_of a.vectors.now) a.slot no_vector) a.«data».now a.scratch.now (sym c.may_leave.ensures ∙ c.if-not-may_leave.true)), (same_words _ _, same_words _ _)) in
-    record { dock = k.0; words = k.1 }
+returns-then-not-may_leave c = record { dock = (let a = c.args in ends_not a.blockers.now a.states.now a.slot (a.slot * a.settings.bounce) a.x a.code a.y (get_or (vectors_of a.vectors.now) a.slot no_vector) a.«data».now a.scratch.now (sym c.may_leave.ensures ∙ c.if-not-may_leave.true)); words = (same_words _ _, same_words _ _) }
 
 pub returns-in_default : goal.returns-in_default
-returns-in_default c = let k = ((let a = c.args in ends_refused a.blockers.now a.states.now a.slot (a.slot * a.settings.bounce) a.x a.code a.y (get_or (vectors_of a.vectors.now) a.slot no_vector) a.«data».now a.scratch.now (sym c.may_leave.ensures ∙ c.if-not-may_leave.false) _ _ (c.hand_out-outcome.ensures ∙ handed_share_lem a.slot a.settings a.buffers a.x a.code (get_or (vectors_of a.vectors.now) a.slot no_vector) a.«data».now a.scratch.now c.requires.4) _ c.in_default.is), (same_words _ _, same_words _ _)) in
-    record { dock = k.0; words = k.1 }
+returns-in_default c = record { dock = (let a = c.args in ends_refused a.blockers.now a.states.now a.slot (a.slot * a.settings.bounce) a.x a.code a.y (get_or (vectors_of a.vectors.now) a.slot no_vector) a.«data».now a.scratch.now (sym c.may_leave.ensures ∙ c.if-not-may_leave.false) _ _ (c.hand_out-outcome.ensures ∙ handed_share_lem a.slot a.settings a.buffers a.x a.code (get_or (vectors_of a.vectors.now) a.slot no_vector) a.«data».now a.scratch.now c.requires.4) _ c.in_default.is); words = (same_words _ _, same_words _ _) }
 
 pub returns : goal.returns
-returns c = let k = ((let a = c.args in ends_done a.blockers.now a.states.now a.slot (a.slot * a.settings.bounce) a.x a.code a.y (get_or (vectors_of a.vectors.now) a.slot no_vector) a.«data».now a.scratch.now (sym c.may_leave.ensures ∙ c.if-not-may_leave.false) _ _ (c.hand_out-outcome.ensures ∙ handed_share_lem a.slot a.settings a.buffers a.x a.code (get_or (vectors_of a.vectors.now) a.slot no_vector) a.«data».now a.scratch.now c.requires.4) c.in-Done.is _ c.leave_blocker-left.ensures.0 _ _ c.leave_blocker-left.ensures.1 c.put_state_at.ensures), let e = ap is_done c.leave_blocker-left.ensures.0 ∙ sym c.may_leave.ensures ∙ c.if-not-may_leave.false in (done_words _ _ _ e, done_words _ _ _ e)) in
-    record { dock = k.0; words = k.1 }
+returns c = record { dock = (let a = c.args in ends_done a.blockers.now a.states.now a.slot (a.slot * a.settings.bounce) a.x a.code a.y (get_or (vectors_of a.vectors.now) a.slot no_vector) a.«data».now a.scratch.now (sym c.may_leave.ensures ∙ c.if-not-may_leave.false) _ _ (c.hand_out-outcome.ensures ∙ handed_share_lem a.slot a.settings a.buffers a.x a.code (get_or (vectors_of a.vectors.now) a.slot no_vector) a.«data».now a.scratch.now c.requires.4) c.in-Done.is _ c.leave_blocker-left.ensures.0 _ _ c.leave_blocker-left.ensures.1 c.put_state_at.ensures); words = let e = ap is_done c.leave_blocker-left.ensures.0 ∙ sym c.may_leave.ensures ∙ c.if-not-may_leave.false in (done_words _ _ _ e, done_words _ _ _ e) }

@@ -12,13 +12,10 @@ use borrow.Author.Rules.{rules}
 use Rattle.dock_words.proofs.told_words.enters.Goals as goal
 
 pub returns-then-not-may_change : goal.returns-then-not-may_change
-returns-then-not-may_change c = let k = ((let a = c.args in enters_not a.blockers.now a.states.now a.slot (a.slot * a.settings.bounce) a.x a.y (get_or (vectors_of a.vectors.now) a.slot no_vector) a.«data».now a.scratch.now (sym c.may_change.ensures ∙ c.if-not-may_change.true)), (same_words _ _, same_words _ _)) in
-    record { dock = k.0; words = k.1 }
+returns-then-not-may_change c = record { dock = (let a = c.args in enters_not a.blockers.now a.states.now a.slot (a.slot * a.settings.bounce) a.x a.y (get_or (vectors_of a.vectors.now) a.slot no_vector) a.«data».now a.scratch.now (sym c.may_change.ensures ∙ c.if-not-may_change.true)); words = (same_words _ _, same_words _ _) }
 
 pub returns-in_default : goal.returns-in_default
-returns-in_default c = let k = ((let a = c.args in enters_refused a.blockers.now a.states.now a.slot (a.slot * a.settings.bounce) a.x a.y (get_or (vectors_of a.vectors.now) a.slot no_vector) a.«data».now a.scratch.now (sym c.may_change.ensures ∙ c.if-not-may_change.false) _ _ (c.fill-outcome.ensures ∙ filled_share_lem a.slot a.settings a.buffers a.y (get_or (vectors_of a.vectors.now) a.slot no_vector) a.«data».now a.scratch.now c.requires.4) _ c.in_default.is), (same_words _ _, same_words _ _)) in
-    record { dock = k.0; words = k.1 }
+returns-in_default c = record { dock = (let a = c.args in enters_refused a.blockers.now a.states.now a.slot (a.slot * a.settings.bounce) a.x a.y (get_or (vectors_of a.vectors.now) a.slot no_vector) a.«data».now a.scratch.now (sym c.may_change.ensures ∙ c.if-not-may_change.false) _ _ (c.fill-outcome.ensures ∙ filled_share_lem a.slot a.settings a.buffers a.y (get_or (vectors_of a.vectors.now) a.slot no_vector) a.«data».now a.scratch.now c.requires.4) _ c.in_default.is); words = (same_words _ _, same_words _ _) }
 
 pub returns : goal.returns
-returns c = let k = ((let a = c.args in enters_done a.blockers.now a.states.now a.slot (a.slot * a.settings.bounce) a.x a.y (get_or (vectors_of a.vectors.now) a.slot no_vector) a.«data».now a.scratch.now (sym c.may_change.ensures ∙ c.if-not-may_change.false) _ _ (c.fill-outcome.ensures ∙ filled_share_lem a.slot a.settings a.buffers a.y (get_or (vectors_of a.vectors.now) a.slot no_vector) a.«data».now a.scratch.now c.requires.4) c.in-Done.is _ _ c.change_blocker.ensures c.put_state_at.ensures), (done_words _ _ _ refl, done_words _ _ _ refl)) in
-    record { dock = k.0; words = k.1 }
+returns c = record { dock = (let a = c.args in enters_done a.blockers.now a.states.now a.slot (a.slot * a.settings.bounce) a.x a.y (get_or (vectors_of a.vectors.now) a.slot no_vector) a.«data».now a.scratch.now (sym c.may_change.ensures ∙ c.if-not-may_change.false) _ _ (c.fill-outcome.ensures ∙ filled_share_lem a.slot a.settings a.buffers a.y (get_or (vectors_of a.vectors.now) a.slot no_vector) a.«data».now a.scratch.now c.requires.4) c.in-Done.is _ _ c.change_blocker.ensures c.put_state_at.ensures); words = (done_words _ _ _ refl, done_words _ _ _ refl) }

@@ -11,9 +11,7 @@ use borrow.Author.Rules.{rules}
 use Rattle.dock_words.proofs.told_words.stays.Goals as goal
 
 pub returns-in_default : goal.returns-in_default
-returns-in_default c = let k = ((let a = c.args in stays_refused a.blockers.now a.states.now a.slot (a.slot * a.settings.bounce) a.y (get_or (vectors_of a.vectors.now) a.slot no_vector) a.«data».now a.scratch.now _ _ (c.fill-outcome.ensures ∙ filled_share_lem a.slot a.settings a.buffers a.y (get_or (vectors_of a.vectors.now) a.slot no_vector) a.«data».now a.scratch.now c.requires.3) _ c.in_default.is), same_words _ _) in
-    record { dock = k.0; words = k.1 }
+returns-in_default c = record { dock = (let a = c.args in stays_refused a.blockers.now a.states.now a.slot (a.slot * a.settings.bounce) a.y (get_or (vectors_of a.vectors.now) a.slot no_vector) a.«data».now a.scratch.now _ _ (c.fill-outcome.ensures ∙ filled_share_lem a.slot a.settings a.buffers a.y (get_or (vectors_of a.vectors.now) a.slot no_vector) a.«data».now a.scratch.now c.requires.3) _ c.in_default.is); words = same_words _ _ }
 
 pub returns : goal.returns
-returns c = let k = ((let a = c.args in stays_done a.blockers.now a.states.now a.slot (a.slot * a.settings.bounce) a.y (get_or (vectors_of a.vectors.now) a.slot no_vector) a.«data».now a.scratch.now _ _ (c.fill-outcome.ensures ∙ filled_share_lem a.slot a.settings a.buffers a.y (get_or (vectors_of a.vectors.now) a.slot no_vector) a.«data».now a.scratch.now c.requires.3) c.in-Done.is _ c.put_state_at.ensures), done_words _ _ _ refl) in
-    record { dock = k.0; words = k.1 }
+returns c = record { dock = (let a = c.args in stays_done a.blockers.now a.states.now a.slot (a.slot * a.settings.bounce) a.y (get_or (vectors_of a.vectors.now) a.slot no_vector) a.«data».now a.scratch.now _ _ (c.fill-outcome.ensures ∙ filled_share_lem a.slot a.settings a.buffers a.y (get_or (vectors_of a.vectors.now) a.slot no_vector) a.«data».now a.scratch.now c.requires.3) c.in-Done.is _ c.put_state_at.ensures); words = done_words _ _ _ refl }

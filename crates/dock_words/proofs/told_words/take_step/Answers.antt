@@ -21,13 +21,10 @@ pub enters-requires : goal.enters-requires
 enters-requires c = (c.requires.0, c.requires.1, c.requires.2, c.requires.3, rw c.in-Enters.is at c.requires.4)
 
 pub returns-in-Stays : goal.returns-in-Stays
-returns-in-Stays c = let k = ((let a = c.args in c.stays.ensures.dock ∙ sym (ap (λ (q : Step). stored_words (blockers_of a.b.now) (states_of a.xs.now) a.slot (stepped_at (blockers_of a.b.now) a.slot (a.slot * a.s.bounce) a.x a.code (get_or (vectors_of a.vs.now) a.slot no_vector) a.«data».now a.scratch.now q)) c.in-Stays.is)), (same_words _ _, c.stays.ensures.words)) in
-    record { dock = k.0; words = k.1 }
+returns-in-Stays c = record { dock = (let a = c.args in c.stays.ensures.dock ∙ sym (ap (λ (q : Step). stored_words (blockers_of a.b.now) (states_of a.xs.now) a.slot (stepped_at (blockers_of a.b.now) a.slot (a.slot * a.s.bounce) a.x a.code (get_or (vectors_of a.vs.now) a.slot no_vector) a.«data».now a.scratch.now q)) c.in-Stays.is)); words = (same_words _ _, c.stays.ensures.words) }
 
 pub returns-in-Ends : goal.returns-in-Ends
-returns-in-Ends c = let k = ((let a = c.args in c.ends.ensures.dock ∙ sym (ap (λ (q : Step). stored_words (blockers_of a.b.now) (states_of a.xs.now) a.slot (stepped_at (blockers_of a.b.now) a.slot (a.slot * a.s.bounce) a.x a.code (get_or (vectors_of a.vs.now) a.slot no_vector) a.«data».now a.scratch.now q)) c.in-Ends.is)), c.ends.ensures.words) in
-    record { dock = k.0; words = k.1 }
+returns-in-Ends c = record { dock = (let a = c.args in c.ends.ensures.dock ∙ sym (ap (λ (q : Step). stored_words (blockers_of a.b.now) (states_of a.xs.now) a.slot (stepped_at (blockers_of a.b.now) a.slot (a.slot * a.s.bounce) a.x a.code (get_or (vectors_of a.vs.now) a.slot no_vector) a.«data».now a.scratch.now q)) c.in-Ends.is)); words = c.ends.ensures.words }
 
 pub returns-in-Enters : goal.returns-in-Enters
-returns-in-Enters c = let k = ((let a = c.args in c.enters.ensures.dock ∙ sym (ap (λ (q : Step). stored_words (blockers_of a.b.now) (states_of a.xs.now) a.slot (stepped_at (blockers_of a.b.now) a.slot (a.slot * a.s.bounce) a.x a.code (get_or (vectors_of a.vs.now) a.slot no_vector) a.«data».now a.scratch.now q)) c.in-Enters.is)), c.enters.ensures.words) in
-    record { dock = k.0; words = k.1 }
+returns-in-Enters c = record { dock = (let a = c.args in c.enters.ensures.dock ∙ sym (ap (λ (q : Step). stored_words (blockers_of a.b.now) (states_of a.xs.now) a.slot (stepped_at (blockers_of a.b.now) a.slot (a.slot * a.s.bounce) a.x a.code (get_or (vectors_of a.vs.now) a.slot no_vector) a.«data».now a.scratch.now q)) c.in-Enters.is)); words = c.enters.ensures.words }

@@ -11,20 +11,16 @@ use borrow.Author.Rules.{rules}
 use Rattle.dock_words.proofs.told_words.tell_slot.Goals as goal
 
 pub returns-then-not-is_out : goal.returns-then-not-is_out
-returns-then-not-is_out c = let k = ((let a = c.args in told_not_out a.b.now a.xs.now a.slot a.s a.l a.x (get_or (vectors_of a.vs.now) a.slot no_vector) a.code a.«data».now a.scratch.now (sym c.is_out.ensures ∙ c.if-not-is_out.true)), (same_words _ _, same_words _ _)) in
-    record { dock = k.0; words = k.1 }
+returns-then-not-is_out c = record { dock = (let a = c.args in told_not_out a.b.now a.xs.now a.slot a.s a.l a.x (get_or (vectors_of a.vs.now) a.slot no_vector) a.code a.«data».now a.scratch.now (sym c.is_out.ensures ∙ c.if-not-is_out.true)); words = (same_words _ _, same_words _ _) }
 
 pub returns-then-not-is_sound_in : goal.returns-then-not-is_sound_in
-returns-then-not-is_sound_in c = let k = ((let a = c.args in told_not_sound a.b.now a.xs.now a.slot a.s a.l a.x (get_or (vectors_of a.vs.now) a.slot no_vector) a.code a.«data».now a.scratch.now (sym c.is_out.ensures ∙ c.if-not-is_out.false) (sym c.is_sound_in.ensures ∙ c.if-not-is_sound_in.true)), (same_words _ _, same_words _ _)) in
-    record { dock = k.0; words = k.1 }
+returns-then-not-is_sound_in c = record { dock = (let a = c.args in told_not_sound a.b.now a.xs.now a.slot a.s a.l a.x (get_or (vectors_of a.vs.now) a.slot no_vector) a.code a.«data».now a.scratch.now (sym c.is_out.ensures ∙ c.if-not-is_out.false) (sym c.is_sound_in.ensures ∙ c.if-not-is_sound_in.true)); words = (same_words _ _, same_words _ _) }
 
 pub take_step-requires : goal.take_step-requires
 take_step-requires c = let a = c.args in (c.requires.0, c.requires.1, c.requires.2, c.requires.3, leads_sound a.slot a.s a.l a.x a.code (length a.«data».now) (length a.scratch.now) c.requires.3 c.requires.4 (sym c.is_sound_in.ensures ∙ c.if-not-is_sound_in.false) _ (sym c.interpret_code-answer.ensures ∙ c.in-Leads.is))
 
 pub returns-in-Refused : goal.returns-in-Refused
-returns-in-Refused c = let k = ((let a = c.args in told_no_answer a.b.now a.xs.now a.slot a.s a.l a.x (get_or (vectors_of a.vs.now) a.slot no_vector) a.code a.«data».now a.scratch.now (sym c.is_out.ensures ∙ c.if-not-is_out.false) (sym c.is_sound_in.ensures ∙ c.if-not-is_sound_in.false) _ c.interpret_code-answer.ensures _ c.in-Refused.is), (same_words _ _, same_words _ _)) in
-    record { dock = k.0; words = k.1 }
+returns-in-Refused c = record { dock = (let a = c.args in told_no_answer a.b.now a.xs.now a.slot a.s a.l a.x (get_or (vectors_of a.vs.now) a.slot no_vector) a.code a.«data».now a.scratch.now (sym c.is_out.ensures ∙ c.if-not-is_out.false) (sym c.is_sound_in.ensures ∙ c.if-not-is_sound_in.false) _ c.interpret_code-answer.ensures _ c.in-Refused.is); words = (same_words _ _, same_words _ _) }
 
 pub returns-in-Leads : goal.returns-in-Leads
-returns-in-Leads c = let k = ((let a = c.args in told_leads a.b.now a.xs.now a.slot a.s a.l a.x (get_or (vectors_of a.vs.now) a.slot no_vector) a.code a.«data».now a.scratch.now (sym c.is_out.ensures ∙ c.if-not-is_out.false) (sym c.is_sound_in.ensures ∙ c.if-not-is_sound_in.false) _ c.interpret_code-answer.ensures _ c.in-Leads.is _ c.take_step.ensures.dock), c.take_step.ensures.words) in
-    record { dock = k.0; words = k.1 }
+returns-in-Leads c = record { dock = (let a = c.args in told_leads a.b.now a.xs.now a.slot a.s a.l a.x (get_or (vectors_of a.vs.now) a.slot no_vector) a.code a.«data».now a.scratch.now (sym c.is_out.ensures ∙ c.if-not-is_out.false) (sym c.is_sound_in.ensures ∙ c.if-not-is_sound_in.false) _ c.interpret_code-answer.ensures _ c.in-Leads.is _ c.take_step.ensures.dock); words = c.take_step.ensures.words }
