@@ -1,0 +1,11 @@
+-- `dock_c::combined::dock_words_submit_write` meets its contract: what submit gives of what is asked. Assumes nothing.
+use borrow.Author.Rules.{rules}
+use Rattle.dock_c.proofs.combined.dock_words_submit_write.Goals as goal
+
+pub returns : goal.returns
+returns c =
+    record {
+      dock = rw (c.write-asked.ensures, c.vector_of.ensures) at c.submit.ensures.dock;
+      bytes = rw (c.write-asked.ensures, c.vector_of.ensures) at c.submit.ensures.bytes;
+      words = rw (c.write-asked.ensures, c.vector_of.ensures) at c.submit.ensures.words;
+    }
