@@ -1,5 +1,6 @@
 // Layer 1: alignments, offsets, padding, the cuts of zero and discard ranges, chunks, the planner.
 #![tactic(auto)]
+
 pub mod refusals; // the numbers 201 to 220
 pub mod offsets; // offsets on the store and in a bounce buffer, ranges, sums that fit, rounding
 pub mod settings; // alignments, drive profiles, what opening tests

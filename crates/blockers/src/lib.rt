@@ -1,6 +1,7 @@
 // Layer 3: weak and strong write blockers by slot (imago: storage/drivers.rs). A blocker is entered even while it waits, notes
 // the slots of those it must wait for, and waits exactly while one of them is still there.
 #![tactic(auto)]
+
 ghost use Rattle.std.specs.Prelude.{map, ◌≡◌, ◌<◌};
 ghost use Rattle.blockers.specs.Blockers.{overlaps, is_entered, conflict, notes, notes_of, vacant, no_blockers, forgetting, refused};
 ghost use Rattle.blockers.specs.Blockers.{entered_of, left_of, waits_of, strength};

@@ -6,7 +6,7 @@ use Rattle.std.proofs.Math.Bool.{or-true}
 use borrow.Author.Tests.{eq-eqb, ne_eqb, lt-ltb, le-ltb, ltb-false}
 use Rattle.arithmetic.specs.Rounding.{pick}
 use Rattle.records.specs.Records.{little_endian, length_field, kind_field, body_length, body_of, behind, is_cut, is_short, start_of}
-use Rattle.records.specs.Records.{end, broken, entry, form_with, form_in, form_of, two_bytes, record_bytes}
+use Rattle.records.specs.Records.{broken, entry, form_with, form_in, form_of, two_bytes, record_bytes}
 use Rattle.records.specs.declared.Header.{Header}
 use Rattle.records.specs.declared.Start.{Start}
 use Rattle.records.specs.declared.Start.TheVariants.{End, Broken, Record}

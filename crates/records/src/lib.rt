@@ -1,6 +1,7 @@
 // The house form of records (document 02, N3): bytes that are records one after the other, each a two-byte length of what follows, a
 // two-byte kind and the body, little-endian. Here is what bytes start with; who reads them knows the kinds.
 #![tactic(auto)]
+
 ghost use Rattle.std.specs.Prelude.{◌≡◌, [], ◌∷◌};
 ghost use Rattle.records.specs.Records.{little_endian, start_of};
 

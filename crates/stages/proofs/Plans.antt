@@ -1,12 +1,7 @@
 -- What each answer of the plans shows of the definition: a transfer or cut in hand, its plan is the definition's case. Assumes nothing.
 use mathlib.Core.Path.{◌≡◌, refl, sym, ap, ◌∙◌}
 use mathlib.Core.Bool.{Bool}
-use mathlib.Core.List.{[], ◌∷◌}
-use mathlib.Core.Logic.{⊎_elim}
 use Prim.Native.Nat.{ℕ, ◌<◌, ◌≤◌}
-use native.Mathlib.Omega.{arith}
-use types.Run.{OneOf}
-use denote.Enum.Declared.{declared, tag_of}
 use borrow.Author.Tests.{eq-eqb, ne_eqb, le-leb, lt-leb}
 use Rattle.arithmetic.specs.Rounding.{is_multiple}
 use Rattle.arithmetic.specs.Settings.{length_align}
@@ -20,7 +15,6 @@ use Rattle.arithmetic.specs.declared.padding.Span.{Span}
 use Rattle.arithmetic.specs.declared.padding.Transfer.{Transfer}
 use Rattle.arithmetic.specs.declared.padding.Transfer.TheVariants.{Direct, Bounced, Refused as NoTransfer}
 use Rattle.arithmetic.specs.declared.zeroes.ZeroCut.{ZeroCut}
-use Rattle.arithmetic.specs.contracts.padding.Transfer.{enum}
 use Rattle.stages.specs.Stages.{size_of, direct_stage, padded_stage, state_of, in_bounce, vector_by, vector_plan, zeroes_by, zeroes_plan, zero_job, zero_by, zero_plan}
 use Rattle.stages.specs.declared.state.Job.{Job}
 use Rattle.stages.specs.declared.state.Phase.{Phase}

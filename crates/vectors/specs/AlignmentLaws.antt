@@ -1,7 +1,7 @@
 -- The alignment of a vector over data whose addresses fit is that of its segments, of which each address fits. Assumes nothing.
 use Rattle.std.specs.Prelude.{◌≡◌, Bool, true, false, ◌&&◌, ◌||◌, ℕ, ◌+◌, ◌<◌, max, eqb}
 use Rattle.std.proofs.Math.Path.{refl}
-use Rattle.std.proofs.Common.{sym, ap, ◌∙◌, arith, eqb-true}
+use Rattle.std.proofs.Common.{sym, arith, eqb-true}
 use mathlib.Core.List.{List, [], ◌∷◌}
 use Rattle.std.proofs.Math.Nat.{mod-one}
 use Rattle.arithmetic.specs.Rounding.{pick, is_multiple}

@@ -1,5 +1,6 @@
 // Layer 2: I/O vectors over the lent data (imago: impl_io_vector! of io_buffers.rs), gather and scatter.
 #![tactic(auto)]
+
 pub mod vector; // segments, validity, push, insert, append
 pub mod split; // split_at, split_tail_at
 pub mod bytes; // copies into and out of a vector's segments, fill

@@ -1,6 +1,5 @@
 -- `blockers::conflicts` meets its contract: each arm returns the row of `conflict` for its two kinds. Assumes nothing.
 use Rattle.blockers.specs.Blockers.{conflict}
-use borrow.Author.Rules.{rules}
 use Rattle.blockers.proofs.conflicts.Goals as goal
 
 pub returns-in-Absent : goal.returns-in-Absent

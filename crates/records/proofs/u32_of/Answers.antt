@@ -1,7 +1,6 @@
 -- `records::u32_of` meets its contract. Assumes nothing.
 use native.Mathlib.Omega.{arith}
 use Rattle.records.specs.Records.{little_endian}
-use borrow.Author.Rules.{rules}
 use Rattle.records.proofs.u32_of.Goals as goal
 
 pub returns : goal.returns

@@ -3,7 +3,6 @@ use borrow.Author.Tests.{lt-ltb, le-ltb}
 use Prim.Native.Nat.{◌+◌, ◌^◌}
 use native.Mathlib.Omega.{arith}
 use Rattle.arithmetic.specs.Rounding.{sum_of, fits}
-use borrow.Author.Rules.{rules}
 use Rattle.arithmetic.proofs.offsets.add.Goals as goal
 
 pub returns-then-a-b : goal.returns-then-a-b

@@ -1,6 +1,5 @@
 -- `arithmetic::offsets::is_multiple` meets its contract: by definition. Assumes nothing.
 use Rattle.arithmetic.specs.Rounding.{is_multiple}
-use borrow.Author.Rules.{rules}
 use Rattle.arithmetic.proofs.offsets.is_multiple.Goals as goal
 
 pub returns : goal.returns

@@ -2,7 +2,6 @@
 use native.Mathlib.Nat.{mod-zero}
 use native.Mathlib.Omega.{arith}
 use Rattle.arithmetic.specs.PowerLaws as powers
-use borrow.Author.Rules.{rules}
 use Rattle.arithmetic.proofs.offsets.remainder.Goals as goal
 
 pub returns-then-r-eq0 : goal.returns-then-r-eq0

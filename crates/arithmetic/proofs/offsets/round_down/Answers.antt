@@ -1,8 +1,6 @@
 -- `arithmetic::offsets::round_down` meets its contract: a number less its remainder. Assumes nothing.
-use mathlib.Core.Path.{refl}
 use native.Mathlib.Nat.{mod-le}
 use Rattle.arithmetic.specs.Rounding.{round_down}
-use borrow.Author.Rules.{rules}
 use Rattle.arithmetic.proofs.offsets.round_down.Goals as goal
 
 pub overflow_sub-result : goal.overflow_sub-result

@@ -1,6 +1,5 @@
 -- `arithmetic::padding::is_direct` meets its contract: by definition. Assumes nothing.
 use Rattle.arithmetic.specs.Padding.{is_direct}
-use borrow.Author.Rules.{rules}
 use Rattle.arithmetic.proofs.padding.is_direct.Goals as goal
 
 pub returns : goal.returns

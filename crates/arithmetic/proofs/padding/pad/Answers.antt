@@ -1,12 +1,10 @@
 -- `arithmetic::padding::pad` meets its contract: past 201 the alignments are what `padded` asks. Assumes nothing.
 -- past the test the alignments fit
-use borrow.Author.Tests.{not-true, not-false}
 use mathlib.Core.Path.{◌≡◌, sym, ◌∙◌}
 use mathlib.Core.Bool.{true}
 use Rattle.arithmetic.specs.Settings.{alignments_fit}
 use Rattle.arithmetic.specs.SettingsLaws.{aligned}
 use Rattle.arithmetic.specs.Padding.{padding_of}
-use borrow.Author.Rules.{rules}
 use Rattle.arithmetic.proofs.padding.pad.Goals as goal
 use Rattle.arithmetic.proofs.padding.pad.Goals.{Else-not-is_fit}
 

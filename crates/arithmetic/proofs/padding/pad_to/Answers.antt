@@ -1,6 +1,5 @@
 -- `arithmetic::padding::pad_to` meets its contract: each sum that fits is the definition's, and the first that does not is its 207. Assumes nothing.
 -- ---- the four sums, each with what it was asked for
-use borrow.Author.Rules.{rules}
 use mathlib.Core.Path.{◌≡◌, ◌∙◌}
 use Prim.Native.Nat.{ℕ, ◌-◌, ◌<◌, ◌≤◌}
 use native.Mathlib.Omega.{arith}

@@ -1,6 +1,5 @@
 -- `arithmetic::padding::plan_transfer` meets its contract: 201, 207, direct, then as padded. Assumes nothing.
 -- past the first test the alignments fit
-use borrow.Author.Tests.{not-true, not-false}
 use mathlib.Core.Path.{◌≡◌, sym, ap, ◌∙◌}
 use mathlib.Core.Bool.{true}
 use Rattle.arithmetic.specs.Settings.{alignments_fit}
@@ -10,7 +9,6 @@ use Rattle.arithmetic.specs.RoundingLaws.{sum_fits, sum_over, Passed}
 use Rattle.arithmetic.specs.Padding.{transfer_of, bounced}
 use Rattle.arithmetic.specs.declared.padding.Padding.TheVariants.{Padded, Refused}
 use Prim.Native.Nat.{◌+◌}
-use borrow.Author.Rules.{rules}
 use Rattle.arithmetic.proofs.padding.plan_transfer.Goals as goal
 use Rattle.arithmetic.proofs.padding.plan_transfer.Goals.{Else-not-is_fit, In-Fits}
 

@@ -1,10 +1,7 @@
 -- `arithmetic::planner::check` meets its contract: 201, 210, 207. Assumes nothing.
 -- past the first test the settings fit
-use borrow.Author.Tests.{not-true, not-false}
 use mathlib.Core.Path.{◌≡◌, sym, ◌∙◌}
 use mathlib.Core.Bool.{true, ◌&&◌}
-use lib.Dec.{leb}
-use Prim.Native.Nat.{◌-◌}
 use Rattle.arithmetic.specs.Rounding.{is_multiple}
 use Rattle.arithmetic.specs.RoundingLaws.{room}
 use Rattle.arithmetic.specs.Settings.{settings_fit}

@@ -1,7 +1,7 @@
 -- `arithmetic::planner::chunk_at` meets its contract: a chunk that starts within the range, or the end. Assumes nothing.
 -- what is known of a chunk that starts within the range
 use native.Mathlib.Omega.{arith}
-use Prim.Native.Nat.{◌+◌, ◌*◌, ◌<◌, ◌^◌, ◌≤◌, ◌-◌}
+use Prim.Native.Nat.{◌+◌, ◌*◌, ◌<◌, ◌^◌, ◌≤◌}
 use native.Mathlib.Nat.{add_assoc}
 use Rattle.arithmetic.specs.RoundingLaws.{true_fits}
 use Rattle.arithmetic.specs.Planner.{planned_chunk}

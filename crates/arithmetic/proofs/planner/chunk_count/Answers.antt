@@ -3,7 +3,6 @@ use native.Mathlib.Omega.{arith}
 use native.Mathlib.Nat.{div-add-mod', mul-le-mul_left}
 use Prim.Native.Nat.{◌/◌, ◌≤◌}
 use Rattle.arithmetic.specs.PlannerLaws.{count_exact, count_more}
-use borrow.Author.Rules.{rules}
 use Rattle.arithmetic.proofs.planner.chunk_count.Goals as goal
 
 pub overflow_add-result : goal.overflow_add-result

@@ -5,7 +5,6 @@ use Rattle.arithmetic.specs.SettingsLaws.{accepted}
 use Rattle.arithmetic.specs.PlannerLaws.{plan_done}
 use Rattle.arithmetic.specs.Planner.{planned_of}
 use Rattle.arithmetic.specs.declared.refusals.Outcome.TheVariants.{Done, Refused}
-use borrow.Author.Rules.{rules}
 use Rattle.arithmetic.proofs.planner.plan_chunk.Goals as goal
 use Rattle.arithmetic.proofs.planner.plan_chunk.Goals.{In-Done}
 

@@ -1,10 +1,8 @@
 -- `arithmetic::settings::check_opening` meets its contract: 201, then 205. Assumes nothing.
 -- past the first test the settings fit
-use borrow.Author.Tests.{not-true, not-false}
 use mathlib.Core.Path.{◌≡◌, sym, ◌∙◌}
 use mathlib.Core.Bool.{true}
 use Rattle.arithmetic.specs.Settings.{opening_of, settings_fit}
-use borrow.Author.Rules.{rules}
 use Rattle.arithmetic.proofs.settings.check_opening.Goals as goal
 use Rattle.arithmetic.proofs.settings.check_opening.Goals.{Else-not-is_fit}
 

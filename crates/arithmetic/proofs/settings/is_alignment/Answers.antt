@@ -2,7 +2,6 @@
 use native.Mathlib.Omega.{arith}
 use Rattle.arithmetic.specs.Settings.{is_alignment}
 use Rattle.arithmetic.specs.PowerLaws.{test}
-use borrow.Author.Rules.{rules}
 use Rattle.arithmetic.proofs.settings.is_alignment.Goals as goal
 
 pub returns-then-x-eq0 : goal.returns-then-x-eq0

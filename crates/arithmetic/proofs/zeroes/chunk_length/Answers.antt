@@ -5,7 +5,6 @@ use native.Mathlib.Omega.{arith}
 use native.Mathlib.Nat.{mod-lt}
 use Rattle.arithmetic.specs.Rounding.{is_multiple}
 use Rattle.arithmetic.specs.Zeroes.{chunk_length}
-use borrow.Author.Rules.{rules}
 use Rattle.arithmetic.proofs.zeroes.chunk_length.Goals as goal
 
 pub returns-then-off-eq0 : goal.returns-then-off-eq0

@@ -3,7 +3,6 @@ use native.Mathlib.Omega.{arith}
 use Rattle.arithmetic.specs.Rounding.{round_up}
 use Rattle.arithmetic.specs.ZeroesLaws.{cut_sums}
 use Rattle.arithmetic.specs.Zeroes.{cut_of}
-use borrow.Author.Rules.{rules}
 use Rattle.arithmetic.proofs.zeroes.cut_at.Goals as goal
 
 pub overflow_add-last : goal.overflow_add-last

@@ -1,12 +1,10 @@
 -- `arithmetic::zeroes::discard_cut` meets its contract: 201, 207, then the cut. Assumes nothing.
 -- past the first test the alignments fit, past the second the sums
-use borrow.Author.Tests.{not-true, not-false}
 use mathlib.Core.Path.{◌≡◌, sym, ◌∙◌}
 use mathlib.Core.Bool.{true}
 use Rattle.arithmetic.specs.Settings.{alignments_fit}
 use Rattle.arithmetic.specs.SettingsLaws.{aligned}
 use Rattle.arithmetic.specs.Zeroes.{discard_cut_of, cut_fits, cut_of, has_middle}
-use borrow.Author.Rules.{rules}
 use Rattle.arithmetic.proofs.zeroes.discard_cut.Goals as goal
 use Rattle.arithmetic.proofs.zeroes.discard_cut.Goals.{Else-not-cut_fits, Else-not-is_fit}
 

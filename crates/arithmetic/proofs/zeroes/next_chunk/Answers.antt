@@ -1,6 +1,5 @@
 -- `arithmetic::zeroes::next_chunk` meets its contract: 201, an empty range, then the chunk, which lies within the range. Assumes nothing.
 -- past the first test the settings fit, past the second the range is not empty
-use borrow.Author.Tests.{not-true, not-false}
 use mathlib.Core.Path.{◌≡◌, sym, ◌∙◌}
 use mathlib.Core.Bool.{true}
 use borrow.Author.Tests.{ltb-true}
@@ -11,7 +10,6 @@ use Rattle.arithmetic.specs.Settings.{settings_fit}
 use Rattle.arithmetic.specs.SettingsLaws.{accepted}
 use Rattle.arithmetic.specs.Zeroes.{chunk_of}
 use Rattle.arithmetic.specs.ZeroesLaws.{chunk_within}
-use borrow.Author.Rules.{rules}
 use Rattle.arithmetic.proofs.zeroes.next_chunk.Goals as goal
 use Rattle.arithmetic.proofs.zeroes.next_chunk.Goals.{Else-not-has_bytes, Else-not-is_fit}
 

@@ -1,6 +1,5 @@
 -- `arithmetic::zeroes::zero_cut` meets its contract: 201, an empty job, 207, then the cut. Assumes nothing.
 -- past the first test the alignments fit, past the third the sums
-use borrow.Author.Tests.{not-true, not-false}
 use mathlib.Core.Path.{◌≡◌, sym, ◌∙◌}
 use mathlib.Core.Bool.{true}
 use borrow.Author.Tests.{eq-eqb, ne_eqb}
@@ -9,7 +8,6 @@ use Rattle.arithmetic.specs.Settings.{alignments_fit}
 use Rattle.arithmetic.specs.SettingsLaws.{aligned}
 use Rattle.arithmetic.specs.Zeroes.{zero_cut_of, cut_fits, cut_of, has_middle}
 use Rattle.arithmetic.specs.ZeroesLaws.{cut_sums}
-use borrow.Author.Rules.{rules}
 use Rattle.arithmetic.proofs.zeroes.zero_cut.Goals as goal
 use Rattle.arithmetic.proofs.zeroes.zero_cut.Goals.{Else-not-cut_fits, Else-not-is_fit}
 

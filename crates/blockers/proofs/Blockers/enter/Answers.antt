@@ -1,7 +1,6 @@
 -- `blockers::Blockers::enter` meets its contract: each way out is one of the laws on which calls are carried out. Assumes nothing.
 use mathlib.Core.Path.{sym, ◌∙◌}
 use Rattle.blockers.specs.Laws.{enter_done, enter_past, enter_taken}
-use borrow.Author.Rules.{rules}
 use Rattle.blockers.proofs.Blockers.enter.Goals as goal
 
 pub returns-then-slot-ge-SLOTS : goal.returns-then-slot-ge-SLOTS

@@ -1,10 +1,9 @@
 -- `blockers::Blockers::forget` meets its contract: after i turns the first i slots have forgotten `slot`. Assumes nothing.
 use borrow.Author.Rules.{rules}
 use native.Mathlib.Omega.{arith}
-use Prim.Native.Nat.{◌≤◌, ◌-◌}
 use mathlib.Core.Path.{◌≡◌}
 use lib.ListN.{length, length-map}
-use Rattle.arithmetic.specs.Loops.{Mapped, mapped_none, mapped_more, like_all}
+use Rattle.arithmetic.specs.Loops.{mapped_none, mapped_more, like_all}
 use Rattle.blockers.specs.Blockers.{forgetting, nowhere}
 use Rattle.blockers.proofs.Slots.{eight}
 use Rattle.blockers.proofs.Blockers.forget.Goals as goal

@@ -1,8 +1,6 @@
 -- `blockers::Blockers::leave` meets its contract: each way out is one of the laws on which calls are carried out. Assumes nothing.
-use borrow.Author.Tests.{not-true, not-false}
 use mathlib.Core.Path.{sym, ◌∙◌}
 use Rattle.blockers.specs.Laws.{leave_done, leave_past, leave_none}
-use borrow.Author.Rules.{rules}
 use Rattle.blockers.proofs.Blockers.leave.Goals as goal
 
 pub returns-then-slot-ge-SLOTS : goal.returns-then-slot-ge-SLOTS

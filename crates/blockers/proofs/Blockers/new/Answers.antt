@@ -1,6 +1,5 @@
 -- `blockers::Blockers::new` meets its contract: eight times what `vacant` ensures. Assumes nothing.
 use Rattle.blockers.specs.Blockers.{no_blockers}
-use borrow.Author.Rules.{rules}
 use Rattle.blockers.proofs.Blockers.new.Goals as goal
 
 pub returns : goal.returns

@@ -1,11 +1,7 @@
 -- `blockers::Blockers::notes` meets its contract: after i turns the first i notes are those of the first i slots. Assumes nothing.
-use borrow.Author.Rules.{rules}
-use native.Mathlib.Omega.{arith}
 use Prim.Native.Nat.{◌≤◌, ◌-◌}
-use mathlib.Core.Path.{◌≡◌, refl, sym, ◌∙◌}
-use lib.ListN.{length, length-map, get_or-map}
-use Rattle.arithmetic.specs.Loops.{Like, like_more, like_all}
-use Rattle.blockers.specs.Blockers.{notes, notes_of, nowhere}
+use Rattle.arithmetic.specs.Loops.{Like}
+use Rattle.blockers.specs.Blockers.{notes_of}
 use Rattle.blockers.proofs.Blockers.notes.Given as goal
 
 abbrev pub invariant-loop-i : goal.invariant-loop-i

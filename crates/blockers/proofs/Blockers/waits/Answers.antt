@@ -2,11 +2,10 @@
 use borrow.Author.Rules.{rules}
 use native.Mathlib.Omega.{arith}
 use borrow.Author.Count.{below_none, below_more}
-use Prim.Native.Nat.{ℕ, ◌≤◌, ◌<◌, ◌-◌}
-use mathlib.Core.Path.{◌≡◌, sym, ap, ◌∙◌}
-use mathlib.Core.Bool.{Bool, false, ◌&&◌}
+use mathlib.Core.Path.{sym, ap, ◌∙◌}
+use mathlib.Core.Bool.{Bool, ◌&&◌}
 use Rattle.arithmetic.specs.Loops.{any_here, any_none}
-use Rattle.blockers.specs.Blockers.{waits_of, is_entered, blocker_at, has_noted}
+use Rattle.blockers.specs.Blockers.{waits_of, has_noted}
 use Rattle.blockers.specs.Laws.{past_free}
 use Rattle.blockers.proofs.Slots.{eight}
 use Rattle.blockers.proofs.Blockers.waits.Goals as goal

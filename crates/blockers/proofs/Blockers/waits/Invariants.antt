@@ -1,13 +1,8 @@
 -- `blockers::Blockers::waits` meets its contract: the loop leaves at the first noted slot that is entered, and after i turns none of the first i is one. Assumes nothing.
-use borrow.Author.Rules.{rules}
-use native.Mathlib.Omega.{arith}
-use borrow.Author.Count.{below_none, below_more}
 use Prim.Native.Nat.{ℕ, ◌≤◌, ◌<◌, ◌-◌}
-use mathlib.Core.Path.{◌≡◌, sym, ap, ◌∙◌}
-use mathlib.Core.Bool.{Bool, false, ◌&&◌}
-use Rattle.arithmetic.specs.Loops.{any_here, any_none}
-use Rattle.blockers.specs.Blockers.{waits_of, is_entered, blocker_at, has_noted}
-use Rattle.blockers.specs.Laws.{past_free}
+use mathlib.Core.Path.{◌≡◌}
+use mathlib.Core.Bool.{false, ◌&&◌}
+use Rattle.blockers.specs.Blockers.{is_entered, blocker_at, has_noted}
 use Rattle.blockers.proofs.Blockers.waits.Given as goal
 
 abbrev pub invariant-loop-i : goal.invariant-loop-i

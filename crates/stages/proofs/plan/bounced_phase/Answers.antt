@@ -1,5 +1,5 @@
 -- `stages::plan::bounced_phase` meets its contract: every job but a read has a padded write's phase. Assumes nothing.
-use mathlib.Core.Path.{◌≡◌, refl, sym, ap, ◌∙◌}
+use mathlib.Core.Path.{◌≡◌, refl, sym, ap}
 use mathlib.Core.List.{[], ◌∷◌}
 use mathlib.Core.Logic.{⊎_elim}
 use native.Mathlib.Omega.{arith}
@@ -21,4 +21,3 @@ others Discard g k = refl
 
 pub returns-in-Read : goal.returns-in-Read
 returns-in-Read c = sym (ap (λ (j : Job). bounced_phase j c.args.g) c.in-Read.is)
-

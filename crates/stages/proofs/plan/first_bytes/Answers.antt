@@ -6,7 +6,6 @@ use Rattle.arithmetic.specs.Offsets.{store_at, on_store_at}
 use Rattle.arithmetic.specs.RoundingLaws.{fits_true}
 use Rattle.arithmetic.specs.declared.offsets.StoreOffset.{StoreOffset}
 use Rattle.arithmetic.specs.declared.offsets.OnStore.TheVariants.{At}
-use borrow.Author.Rules.{rules}
 use Rattle.stages.proofs.plan.first_bytes.Goals as goal
 use Rattle.stages.proofs.plan.first_bytes.Goals.{After-on_store}
 

@@ -1,15 +1,13 @@
 -- `stages::plan::plan_vector` meets its contract: each answer of the padding is its case of the definition. Assumes nothing.
 -- the plan by the call's transfer
-use mathlib.Core.Path.{◌≡◌, refl, sym, ap, ◌∙◌}
+use mathlib.Core.Path.{◌≡◌, refl, sym, ◌∙◌}
 use Rattle.arithmetic.specs.PaddingLaws.{Spans}
-use Rattle.arithmetic.specs.declared.padding.Span.{Span}
 use Rattle.arithmetic.specs.declared.padding.Transfer.{Transfer}
-use Rattle.arithmetic.specs.declared.padding.Transfer.TheVariants.{Direct, Bounced, Refused as NoTransfer}
+use Rattle.arithmetic.specs.declared.padding.Transfer.TheVariants.{Direct, Bounced}
 use Rattle.stages.specs.Stages.{bounced_phase, vector_by, vector_plan}
 use Rattle.stages.specs.Transfers.{bounced, holds, asked_fits}
 use Rattle.stages.specs.declared.plan.Plan.{Plan}
-use Rattle.stages.specs.declared.plan.Plan.TheVariants.{Refused}
-use Rattle.stages.proofs.Plans.{from_parts, padded_parts, too_long, in_bounce_lem, nothing_moved, vector_by_lem, refused_is}
+use Rattle.stages.proofs.Plans.{from_parts, padded_parts, too_long, in_bounce_lem, nothing_moved, vector_by_lem}
 use Rattle.stages.proofs.plan.plan_vector.Goals as goal
 use Rattle.stages.proofs.plan.plan_vector.Goals.{After-plan_transfer-transfer, In-Bounced}
 

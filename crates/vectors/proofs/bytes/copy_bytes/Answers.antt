@@ -1,10 +1,8 @@
 -- `vectors::bytes::copy_bytes` meets its contract: after i bytes, by blocks, then words, then bytes, the part is the first i bytes of the
 -- source, then its own rest. Assumes nothing.
 use mathlib.Core.Path.{◌∙◌}
-use Prim.Native.Nat.{◌-◌}
 use native.Mathlib.Omega.{arith}
-use borrow.Author.Rules.{rules}
-use Rattle.vectors.proofs.Copying.{Copied, copied_none, copied_begun, copied_fits, copied_block, copied_byte, copied_on, copied_all}
+use Rattle.vectors.proofs.Copying.{copied_none, copied_begun, copied_fits, copied_block, copied_byte, copied_on, copied_all}
 use Rattle.vectors.proofs.bytes.copy_bytes.Goals as goal
 
 pub loop-i-init : goal.loop-i-init

@@ -1,11 +1,10 @@
 -- `vectors::bytes::copy_word` meets its contract: before place i the array is as the source from `at` on; the part has the array's first j bytes
 -- there, and its own around them. Assumes nothing.
-use mathlib.Core.Path.{◌≡◌, refl, ◌∙◌}
-use Prim.Native.Nat.{ℕ, ◌≤◌, ◌-◌}
+use mathlib.Core.Path.{refl, ◌∙◌}
+use Prim.Native.Nat.{ℕ}
 use native.Mathlib.Omega.{arith}
-use lib.ListN.{length, take, drop, replicate, length-set, length-replicate}
-use lib.Seq.{paste, paste-zero}
-use Rattle.arithmetic.specs.Loops.{Like}
+use lib.ListN.{replicate, length-set, length-replicate}
+use lib.Seq.{paste-zero}
 use Rattle.vectors.proofs.Copying.{read_none, read_more, read_long, read_done, write_more, write_done}
 use Rattle.vectors.proofs.bytes.copy_word.Goals as goal
 

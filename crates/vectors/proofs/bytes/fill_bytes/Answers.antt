@@ -1,9 +1,7 @@
 -- `vectors::bytes::fill_bytes` meets its contract: after i turns the part is i times the value, then its own rest. Assumes nothing.
-use mathlib.Core.Path.{◌≡◌, refl, ◌∙◌}
-use mathlib.Core.List.{◌++◌}
-use Prim.Native.Nat.{◌≤◌, ◌-◌}
+use mathlib.Core.Path.{refl, ◌∙◌}
 use native.Mathlib.Omega.{arith}
-use lib.ListN.{length, replicate, drop, length-set}
+use lib.ListN.{length-set}
 use borrow.Author.Fill.{fill_more}
 use Rattle.vectors.proofs.Moving.{fill_done}
 use Rattle.vectors.proofs.bytes.fill_bytes.Goals as goal

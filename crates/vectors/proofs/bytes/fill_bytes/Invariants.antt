@@ -1,11 +1,8 @@
 -- `vectors::bytes::fill_bytes` meets its contract: after i turns the part is i times the value, then its own rest. Assumes nothing.
-use mathlib.Core.Path.{◌≡◌, refl, ◌∙◌}
+use mathlib.Core.Path.{◌≡◌}
 use mathlib.Core.List.{◌++◌}
 use Prim.Native.Nat.{◌≤◌, ◌-◌}
-use native.Mathlib.Omega.{arith}
-use lib.ListN.{length, replicate, drop, length-set}
-use borrow.Author.Fill.{fill_more}
-use Rattle.vectors.proofs.Moving.{fill_done}
+use lib.ListN.{length, replicate, drop}
 use Rattle.vectors.proofs.bytes.fill_bytes.Given as goal
 
 abbrev pub invariant-loop-i : goal.invariant-loop-i

@@ -1,6 +1,5 @@
 -- `vectors::words::buffer_count` meets its contract: the count stands in word 0. Assumes nothing.
 use mathlib.Core.Path.{◌∙◌}
-use borrow.Author.Rules.{rules}
 use Rattle.vectors.specs.WordLaws.{vector_count}
 use Rattle.vectors.proofs.words.buffer_count.Goals as goal
 

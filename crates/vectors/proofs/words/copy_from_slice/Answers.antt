@@ -3,13 +3,11 @@
 use mathlib.Core.Path.{◌≡◌, sym, ap, ◌∙◌}
 use mathlib.Core.Bool.{true}
 use lib.ListN.{length}
-use borrow.Author.Tests.{not-true, not-false}
 use Rattle.vectors.specs.Vectors.{is_valid}
 use Rattle.vectors.specs.Words.{vector_from}
 use Rattle.vectors.specs.SegmentLaws.{valid}
 use Rattle.vectors.specs.ByteLaws.{scatter_length}
 use Rattle.vectors.proofs.Moving.{copies_invalid, copies_other, copies_true, refused, carried_out_lem}
-use borrow.Author.Rules.{rules}
 use Rattle.vectors.proofs.words.copy_from_slice.Goals as goal
 use Rattle.vectors.proofs.words.copy_from_slice.Goals.{Else-not-is_valid}
 

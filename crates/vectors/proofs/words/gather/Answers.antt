@@ -1,12 +1,10 @@
 -- `vectors::words::gather` meets its contract: the bytes gathered and those of the segments from i on are the vector's. Assumes nothing.
-use borrow.Author.Rules.{rules}
 use native.Mathlib.Omega.{arith}
-use Prim.Native.Nat.{◌+◌, ◌-◌, ◌≤◌, ◌<◌}
+use Prim.Native.Nat.{◌+◌, ◌≤◌, ◌<◌}
 use lib.ListN.{length}
 use Rattle.vectors.specs.ByteLaws.{copied_back}
-use Rattle.vectors.specs.Words.{vector_from}
 use Rattle.vectors.specs.WordLaws.{vector_wide}
-use Rattle.vectors.proofs.Moving.{Gathered, gather_fits, gather_step, gather_end, gather_start, copies_of}
+use Rattle.vectors.proofs.Moving.{gather_fits, gather_step, gather_end, gather_start, copies_of}
 use Rattle.vectors.proofs.words.gather.Goals as goal
 use Rattle.vectors.proofs.words.gather.Goals.{After-segment_at-p}
 

@@ -1,8 +1,7 @@
 -- `vectors::words::get_vector` meets its contract: after i turns the first i segments are read. Assumes nothing.
-use Prim.Native.Nat.{◌≤◌, ◌-◌}
 use mathlib.Core.Path.{refl, sym}
 use borrow.Author.Rules.{rules}
-use Rattle.arithmetic.specs.Loops.{Like, like_more, like_all}
+use Rattle.arithmetic.specs.Loops.{like_more, like_all}
 use Rattle.vectors.specs.Vectors.{none}
 use Rattle.vectors.specs.Words.{vector_from}
 use Rattle.vectors.specs.WordLaws.{vector_wide}

@@ -1,11 +1,7 @@
 -- `vectors::words::get_vector` meets its contract: after i turns the first i segments are read. Assumes nothing.
 use Prim.Native.Nat.{◌≤◌, ◌-◌}
-use mathlib.Core.Path.{refl, sym}
-use borrow.Author.Rules.{rules}
-use Rattle.arithmetic.specs.Loops.{Like, like_more, like_all}
-use Rattle.vectors.specs.Vectors.{none}
+use Rattle.arithmetic.specs.Loops.{Like}
 use Rattle.vectors.specs.Words.{vector_from}
-use Rattle.vectors.specs.WordLaws.{vector_wide}
 use Rattle.vectors.proofs.words.get_vector.Given as goal
 
 abbrev pub invariant-loop-i : goal.invariant-loop-i

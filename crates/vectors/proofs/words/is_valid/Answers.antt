@@ -1,13 +1,12 @@
 -- `vectors::words::is_valid` meets its contract: the segments before i lie in the data and sum up to what was added, which stays at most 1,048,576. Assumes nothing.
-use borrow.Author.Rules.{rules}
 use native.Mathlib.Omega.{arith}
 use mathlib.Core.Path.{sym, ap, ◌∙◌}
-use Prim.Native.Nat.{◌-◌, ◌<◌}
-use borrow.Author.Tests.{not-true, not-false, lt-leb}
+use Prim.Native.Nat.{◌<◌}
+use borrow.Author.Tests.{lt-leb}
 use Rattle.vectors.specs.Vectors.{is_valid, lies_in}
 use Rattle.vectors.specs.Words.{vector_from}
 use Rattle.vectors.specs.WordLaws.{vector_wide}
-use Rattle.vectors.proofs.Pass.{Checked, check_start, check_end, check_bad, check_long, check_next}
+use Rattle.vectors.proofs.Pass.{check_start, check_end, check_bad, check_long, check_next}
 use Rattle.vectors.proofs.words.is_valid.Goals as goal
 
 pub returns-then-n-gt-MAX_COUNT : goal.returns-then-n-gt-MAX_COUNT

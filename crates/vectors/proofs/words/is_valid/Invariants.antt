@@ -1,13 +1,7 @@
 -- `vectors::words::is_valid` meets its contract: the segments before i lie in the data and sum up to what was added, which stays at most 1,048,576. Assumes nothing.
-use borrow.Author.Rules.{rules}
-use native.Mathlib.Omega.{arith}
-use mathlib.Core.Path.{sym, ap, ◌∙◌}
-use Prim.Native.Nat.{◌-◌, ◌<◌}
-use borrow.Author.Tests.{not-true, not-false, lt-leb}
-use Rattle.vectors.specs.Vectors.{is_valid, lies_in}
+use Prim.Native.Nat.{◌-◌}
 use Rattle.vectors.specs.Words.{vector_from}
-use Rattle.vectors.specs.WordLaws.{vector_wide}
-use Rattle.vectors.proofs.Pass.{Checked, check_start, check_end, check_bad, check_long, check_next}
+use Rattle.vectors.proofs.Pass.{Checked}
 use Rattle.vectors.proofs.words.is_valid.Given as goal
 
 abbrev pub invariant-loop-i : goal.invariant-loop-i

@@ -1,5 +1,4 @@
 -- `vectors::words::len` meets its contract: the total stands in word 1. Assumes nothing.
-use borrow.Author.Rules.{rules}
 use Rattle.vectors.specs.WordLaws.{vector_total}
 use Rattle.vectors.proofs.words.len.Goals as goal
 

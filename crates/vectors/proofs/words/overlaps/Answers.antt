@@ -1,12 +1,9 @@
 -- `vectors::words::overlaps` meets its contract: what is sought is what is sought from segment i on. Assumes nothing.
-use borrow.Author.Rules.{rules}
 use native.Mathlib.Omega.{arith}
 use mathlib.Core.Path.{sym, ◌∙◌}
-use Prim.Native.Nat.{◌-◌}
-use Rattle.vectors.specs.Vectors.{segments_of, shares, any_segment, overlap_of}
 use Rattle.vectors.specs.Words.{vector_from}
 use Rattle.vectors.specs.WordLaws.{vector_wide}
-use Rattle.vectors.proofs.Testing.{Sought, overlap_start, sought_here, sought_next, sought_end}
+use Rattle.vectors.proofs.Testing.{overlap_start, sought_here, sought_next, sought_end}
 use Rattle.vectors.proofs.words.overlaps.Goals as goal
 
 pub loop-i-init : goal.loop-i-init

@@ -1,12 +1,9 @@
 -- `vectors::words::put_words` meets its contract: after i turns the words of the first i segments are written. Assumes nothing.
-use borrow.Author.Rules.{rules}
-use native.Mathlib.Omega.{arith}
 use Prim.Native.Nat.{◌+◌, ◌*◌, ◌≤◌, ◌-◌}
-use mathlib.Core.Path.{◌≡◌, refl, sym, ◌∙◌}
-use lib.ListN.{length, set, length-set}
-use Rattle.arithmetic.specs.Loops.{array_long, Like, like_more, like_all}
+use mathlib.Core.Path.{◌≡◌}
+use lib.ListN.{length}
+use Rattle.arithmetic.specs.Loops.{Like}
 use Rattle.vectors.specs.Words.{vector_words}
-use Rattle.vectors.specs.WordLaws.{vector_width, vector_start, vector_length}
 use Rattle.vectors.proofs.words.put_words.Given as goal
 
 abbrev pub invariant-loop-i : goal.invariant-loop-i

@@ -1,12 +1,10 @@
 -- `vectors::words::scatter` meets its contract: what is to be scattered is what is to be scattered from segment i on. Assumes nothing.
-use borrow.Author.Rules.{rules}
 use native.Mathlib.Omega.{arith}
-use Prim.Native.Nat.{◌+◌, ◌-◌, ◌≤◌, ◌<◌}
+use Prim.Native.Nat.{◌+◌, ◌≤◌, ◌<◌}
 use lib.ListN.{length}
 use Rattle.vectors.specs.ByteLaws.{copied_back}
-use Rattle.vectors.specs.Words.{vector_from}
 use Rattle.vectors.specs.WordLaws.{vector_wide}
-use Rattle.vectors.proofs.Moving.{Scattered, scatter_fits, scatter_step, scatter_end, scatter_start}
+use Rattle.vectors.proofs.Moving.{scatter_fits, scatter_step, scatter_end, scatter_start}
 use Rattle.vectors.proofs.words.scatter.Goals as goal
 use Rattle.vectors.proofs.words.scatter.Goals.{After-segment_at-p}
 

@@ -1,12 +1,7 @@
 -- `vectors::words::scatter` meets its contract: what is to be scattered is what is to be scattered from segment i on. Assumes nothing.
-use borrow.Author.Rules.{rules}
-use native.Mathlib.Omega.{arith}
-use Prim.Native.Nat.{◌+◌, ◌-◌, ◌≤◌, ◌<◌}
-use lib.ListN.{length}
-use Rattle.vectors.specs.ByteLaws.{copied_back}
+use Prim.Native.Nat.{◌-◌}
 use Rattle.vectors.specs.Words.{vector_from}
-use Rattle.vectors.specs.WordLaws.{vector_wide}
-use Rattle.vectors.proofs.Moving.{Scattered, scatter_fits, scatter_step, scatter_end, scatter_start}
+use Rattle.vectors.proofs.Moving.{Scattered}
 use Rattle.vectors.proofs.words.scatter.Given as goal
 
 abbrev pub invariant-loop-i : goal.invariant-loop-i

@@ -3,7 +3,6 @@ use Prim.Native.Nat.{◌≤◌}
 use mathlib.Core.Path.{sym}
 use lib.ListN.{length, get_or-eq_default}
 use native.Mathlib.Omega.{arith}
-use borrow.Author.Rules.{rules}
 use Rattle.vectors.specs.Vectors.{none}
 use Rattle.vectors.specs.Words.{vector_from}
 use Rattle.vectors.specs.WordLaws.{segment_words_lem, vector_wide}

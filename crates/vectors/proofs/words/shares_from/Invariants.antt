@@ -1,13 +1,9 @@
 -- `vectors::words::shares_from` meets its contract: what is sought is what is sought from segment i on. Assumes nothing.
-use borrow.Author.Rules.{rules}
-use native.Mathlib.Omega.{arith}
-use mathlib.Core.Path.{sym, ap, ◌∙◌}
 use Prim.Native.Nat.{◌-◌}
 use lib.ListN.{drop}
 use Rattle.vectors.specs.Vectors.{segments_of, shares, any_segment}
 use Rattle.vectors.specs.Words.{vector_from}
-use Rattle.vectors.specs.WordLaws.{vector_wide}
-use Rattle.vectors.proofs.Testing.{Sought, sought_start, sought_here, sought_next, sought_end}
+use Rattle.vectors.proofs.Testing.{Sought}
 use Rattle.vectors.proofs.words.shares_from.Given as goal
 
 abbrev pub invariant-loop-i : goal.invariant-loop-i

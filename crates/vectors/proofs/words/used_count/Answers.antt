@@ -1,5 +1,4 @@
 -- `vectors::words::used_count` meets its contract: there are 16 segments, so a count takes at most 16. Assumes nothing.
-use borrow.Author.Rules.{rules}
 use native.Mathlib.Omega.{arith}
 use lib.ListN.{length-take}
 use Rattle.vectors.specs.Words.{vector_from}

@@ -1,7 +1,6 @@
 -- `arithmetic::offsets::BufferOffset::on_store` meets its contract: the sum of start and place, where it fits. Assumes nothing.
 use Rattle.arithmetic.specs.RoundingLaws.{sum_fits, sum_over}
 use Rattle.arithmetic.specs.Offsets.{on_store_of}
-use borrow.Author.Rules.{rules}
 use Rattle.arithmetic.proofs.offsets.BufferOffset.on_store.Goals as goal
 
 pub returns-in_default : goal.returns-in_default

@@ -6,7 +6,6 @@ use mathlib.Core.Bool.{false}
 use lib.Dec.{eqb}
 use Prim.Native.Nat.{◌+◌}
 use Rattle.arithmetic.specs.Padding.{reads_of}
-use borrow.Author.Rules.{rules}
 use Rattle.arithmetic.proofs.padding.Span.reads.Goals as goal
 use Rattle.arithmetic.proofs.padding.Span.reads.Goals.{Else-is_edges}
 

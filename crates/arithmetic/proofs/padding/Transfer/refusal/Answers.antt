@@ -1,5 +1,4 @@
 -- `arithmetic::padding::Transfer::refusal` meets its contract: case by case. Assumes nothing.
-use borrow.Author.Rules.{rules}
 use Rattle.arithmetic.proofs.padding.Transfer.refusal.Goals as goal
 
 pub returns-in-Refused : goal.returns-in-Refused

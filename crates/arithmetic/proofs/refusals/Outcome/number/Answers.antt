@@ -1,5 +1,4 @@
 -- `arithmetic::refusals::Outcome::number` meets its contract. Assumes nothing.
-use borrow.Author.Rules.{rules}
 use Rattle.arithmetic.proofs.refusals.Outcome.number.Goals as goal
 
 pub returns-in-Refused : goal.returns-in-Refused

@@ -1,6 +1,5 @@
 -- `arithmetic::refusals::Refusal::number` meets its contract: case by case. Assumes nothing.
 use Rattle.arithmetic.specs.Refusals.{number_of}
-use borrow.Author.Rules.{rules}
 use Rattle.arithmetic.proofs.refusals.Refusal.number.Goals as goal
 
 pub returns-in-Unfit : goal.returns-in-Unfit

@@ -1,6 +1,5 @@
 -- `arithmetic::settings::Alignments::is_fit` meets its contract: each of the four alignments is tested. Assumes nothing.
 use Rattle.arithmetic.specs.Settings.{alignments_fit}
-use borrow.Author.Rules.{rules}
 use Rattle.arithmetic.proofs.settings.Alignments.is_fit.Goals as goal
 
 pub returns : goal.returns

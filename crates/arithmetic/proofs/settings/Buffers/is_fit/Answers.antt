@@ -2,7 +2,6 @@
 use native.Mathlib.Omega.{arith}
 use Rattle.arithmetic.specs.Settings.{buffers_fit}
 use Rattle.arithmetic.specs.SettingsLaws.{accepted}
-use borrow.Author.Rules.{rules}
 use Rattle.arithmetic.proofs.settings.Buffers.is_fit.Goals as goal
 
 pub overflow_mul-result : goal.overflow_mul-result

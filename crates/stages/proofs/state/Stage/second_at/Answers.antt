@@ -11,7 +11,6 @@ use Rattle.arithmetic.specs.declared.offsets.StoreOffset.{StoreOffset}
 use Rattle.arithmetic.specs.declared.offsets.BufferOffset.{BufferOffset}
 use Rattle.arithmetic.specs.declared.offsets.InBuffer.{InBuffer}
 use Rattle.arithmetic.specs.declared.offsets.InBuffer.TheVariants.{At, Refused}
-use borrow.Author.Rules.{rules}
 use Rattle.stages.proofs.state.Stage.second_at.Goals as goal
 
 before : (o start : StoreOffset) → o.0 < start.0 → in_buffer_of o start ≡ Refused Overflow

@@ -58,4 +58,3 @@ returns-in-FirstRead c = let a = c.args in
 pub returns-in-SecondRead : goal.returns-in-SecondRead
 returns-in-SecondRead c = let a = c.args in
     in-case a.settings a.self _ c.in-SecondRead.is (ap Stays c.set_phase-in-SecondRead.ensures)
-

@@ -2,7 +2,6 @@
 -- the call's transfer is the definition's
 use mathlib.Core.Path.{◌≡◌, refl, sym, ap, ◌∙◌}
 use Prim.Native.Nat.{◌<◌, ◌≤◌}
-use Rattle.arithmetic.specs.declared.padding.Span.{Span}
 use Rattle.arithmetic.specs.declared.padding.Transfer.{Transfer}
 use Rattle.arithmetic.specs.declared.padding.Transfer.TheVariants.{Direct, Bounced, Refused as NoTransfer}
 use Rattle.stages.specs.Stages.{size_of, first_phase, zeroes_by, zeroes_plan}

@@ -51,4 +51,3 @@ returns-in-ZeroRequest c = let a = c.args in
 pub returns-in-DiscardRequest : goal.returns-in-DiscardRequest
 returns-in-DiscardRequest c = let a = c.args in
     in-case a.settings a.self DiscardRequest c.in-DiscardRequest.is c.ends.ensures
-

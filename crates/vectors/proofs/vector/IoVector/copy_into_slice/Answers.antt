@@ -3,10 +3,8 @@
 use mathlib.Core.Path.{◌≡◌, sym, ap, ◌∙◌}
 use mathlib.Core.Bool.{true}
 use lib.ListN.{length}
-use borrow.Author.Tests.{not-true, not-false}
 use Rattle.vectors.specs.Vectors.{is_valid}
 use Rattle.vectors.proofs.Moving.{copies_invalid, copies_other, copies_true, bytes_total, refused, carried_out_lem}
-use borrow.Author.Rules.{rules}
 use Rattle.vectors.proofs.vector.IoVector.copy_into_slice.Goals as goal
 use Rattle.vectors.proofs.vector.IoVector.copy_into_slice.Goals.{Else-not-is_valid}
 

@@ -1,13 +1,13 @@
 -- `vectors::vector::IoVector::do_split_at` meets its contract: at or past the total no segment is looked at; before it a walk from the nearer end finds the position. Assumes nothing.
 -- past half, from the last segment
 use mathlib.Core.Path.{◌≡◌, ◌∙◌}
-use Prim.Native.Nat.{◌-◌, ◌<◌}
+use Prim.Native.Nat.{◌<◌}
 use native.Mathlib.Omega.{arith}
 use lib.ListN.{length}
 use borrow.Author.Rules.{rules}
 use Rattle.arithmetic.specs.Loops.{array_long}
-use Rattle.vectors.proofs.Walking.{past_end, Forth, forth_start, forth_few, forth_clean, forth_inside, forth_next}
-use Rattle.vectors.proofs.Walking.{Back, back_start, back_few, back_here, back_next}
+use Rattle.vectors.proofs.Walking.{past_end, forth_start, forth_few, forth_clean, forth_inside, forth_next}
+use Rattle.vectors.proofs.Walking.{back_start, back_few, back_here, back_next}
 use Rattle.vectors.proofs.vector.IoVector.do_split_at.Goals as goal
 use Rattle.vectors.proofs.vector.IoVector.do_split_at.Goals.{Else-self-mid, Start}
 

@@ -3,12 +3,10 @@
 use mathlib.Core.Path.{◌≡◌, sym, ap, ◌∙◌}
 use mathlib.Core.Bool.{true}
 use lib.ListN.{length}
-use borrow.Author.Tests.{not-true, not-false}
 use Rattle.vectors.specs.Vectors.{is_valid}
 use Rattle.vectors.specs.SegmentLaws.{valid}
 use Rattle.vectors.specs.ByteLaws.{fill_length}
 use Rattle.vectors.proofs.Moving.{refused, carried_out_lem}
-use borrow.Author.Rules.{rules}
 use Rattle.vectors.proofs.vector.IoVector.fill.Goals as goal
 use Rattle.vectors.proofs.vector.IoVector.fill.Goals.{Else-not-is_valid}
 

@@ -2,11 +2,10 @@
 use borrow.Author.Rules.{rules}
 use native.Mathlib.Omega.{arith}
 use mathlib.Core.Path.{◌≡◌}
-use Prim.Native.Nat.{◌-◌}
 use lib.ListN.{length}
 use Rattle.arithmetic.specs.Loops.{array_long}
 use Rattle.vectors.proofs.Pass.{nth}
-use Rattle.vectors.proofs.Moving.{Filled, fill_fits, fill_step, fill_end, fill_start, filled_back}
+use Rattle.vectors.proofs.Moving.{fill_fits, fill_step, fill_end, fill_start, filled_back}
 use Rattle.vectors.proofs.vector.IoVector.fill_segments.Goals as goal
 
 pub loop-i-init : goal.loop-i-init

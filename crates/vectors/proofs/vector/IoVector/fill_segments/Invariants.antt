@@ -1,12 +1,6 @@
 -- `vectors::vector::IoVector::fill_segments` meets its contract: what is to be filled is what is to be filled from segment i on. Assumes nothing.
-use borrow.Author.Rules.{rules}
-use native.Mathlib.Omega.{arith}
-use mathlib.Core.Path.{◌≡◌}
 use Prim.Native.Nat.{◌-◌}
-use lib.ListN.{length}
-use Rattle.arithmetic.specs.Loops.{array_long}
-use Rattle.vectors.proofs.Pass.{nth}
-use Rattle.vectors.proofs.Moving.{Filled, fill_fits, fill_step, fill_end, fill_start, filled_back}
+use Rattle.vectors.proofs.Moving.{Filled}
 use Rattle.vectors.proofs.vector.IoVector.fill_segments.Given as goal
 
 abbrev pub invariant-loop-i : goal.invariant-loop-i

@@ -1,12 +1,6 @@
 -- `vectors::vector::IoVector::has_aligned_segments` meets its contract: whether all are aligned is whether those from segment i on are. Assumes nothing.
-use borrow.Author.Rules.{rules}
-use borrow.Author.Tests.{not-true, not-false}
-use mathlib.Core.Path.{◌≡◌, refl, sym, ◌∙◌}
 use Prim.Native.Nat.{◌-◌}
-use native.Mathlib.Omega.{arith}
-use lib.ListN.{length}
-use Rattle.arithmetic.specs.Loops.{array_long}
-use Rattle.vectors.proofs.Testing.{Lined, few, lined_fits, off_start, off_length, lined_next, lined_end}
+use Rattle.vectors.proofs.Testing.{Lined}
 use Rattle.vectors.proofs.vector.IoVector.has_aligned_segments.Given as goal
 
 abbrev pub invariant-loop-i : goal.invariant-loop-i

@@ -4,11 +4,9 @@ use mathlib.Core.Path.{◌≡◌, sym, ◌∙◌}
 use mathlib.Core.Bool.{true}
 use Prim.Native.Nat.{◌+◌, ◌<◌}
 use native.Mathlib.Omega.{arith}
-use borrow.Author.Tests.{not-true, not-false}
 use Rattle.arithmetic.specs.Settings.{alignments_fit}
 use Rattle.vectors.specs.Vectors.{is_valid}
 use Rattle.vectors.proofs.Testing.{answer_unfit, answer_buffer, answer_segment, answer_trivial, answer_asked, answer_yes, answer_no}
-use borrow.Author.Rules.{rules}
 use Rattle.vectors.proofs.vector.IoVector.is_aligned.Goals as goal
 use Rattle.vectors.proofs.vector.IoVector.is_aligned.Goals.{Else-data, Else-not-is_fit, Else-not-is_valid}
 

@@ -2,12 +2,12 @@
 use borrow.Author.Rules.{rules}
 use native.Mathlib.Omega.{arith}
 use mathlib.Core.Path.{◌≡◌, sym, ◌∙◌}
-use Prim.Native.Nat.{◌-◌, ◌<◌}
+use Prim.Native.Nat.{◌<◌}
 use lib.ListN.{length}
-use borrow.Author.Tests.{not-true, not-false, lt-leb}
+use borrow.Author.Tests.{lt-leb}
 use Rattle.vectors.specs.Vectors.{is_valid}
 use Rattle.arithmetic.specs.Loops.{array_long}
-use Rattle.vectors.proofs.Pass.{Checked, check_start, check_end, check_bad, check_long, check_next}
+use Rattle.vectors.proofs.Pass.{check_start, check_end, check_bad, check_long, check_next}
 use Rattle.vectors.proofs.vector.IoVector.is_valid.Goals as goal
 
 pub returns-then-n-gt-MAX_COUNT : goal.returns-then-n-gt-MAX_COUNT

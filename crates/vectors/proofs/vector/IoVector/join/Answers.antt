@@ -2,10 +2,9 @@
 use borrow.Author.Rules.{rules}
 use native.Mathlib.Omega.{arith}
 use mathlib.Core.Path.{◌≡◌}
-use Prim.Native.Nat.{◌-◌}
 use lib.ListN.{length}
 use Rattle.arithmetic.specs.Loops.{array_long}
-use Rattle.vectors.proofs.Building.{with_room, Joining, join_start, join_end, join_room, join_next, reads}
+use Rattle.vectors.proofs.Building.{with_room, join_start, join_end, join_room, join_next, reads}
 use Rattle.vectors.proofs.vector.IoVector.join.Goals as goal
 
 pub loop-i-init : goal.loop-i-init

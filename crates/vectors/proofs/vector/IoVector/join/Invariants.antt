@@ -1,11 +1,6 @@
 -- `vectors::vector::IoVector::join` meets its contract: after i turns the vector is that of its own segments and i of the others. Assumes nothing.
-use borrow.Author.Rules.{rules}
-use native.Mathlib.Omega.{arith}
-use mathlib.Core.Path.{◌≡◌}
 use Prim.Native.Nat.{◌-◌}
-use lib.ListN.{length}
-use Rattle.arithmetic.specs.Loops.{array_long}
-use Rattle.vectors.proofs.Building.{with_room, Joining, join_start, join_end, join_room, join_next, reads}
+use Rattle.vectors.proofs.Building.{Joining}
 use Rattle.vectors.proofs.vector.IoVector.join.Given as goal
 
 abbrev pub invariant-loop-i : goal.invariant-loop-i

@@ -1,12 +1,10 @@
 -- `vectors::vector::IoVector::overlaps` meets its contract: what is sought is what is sought from segment i on. Assumes nothing.
 use borrow.Author.Rules.{rules}
 use mathlib.Core.Path.{◌≡◌, sym, ◌∙◌}
-use Prim.Native.Nat.{◌-◌}
 use native.Mathlib.Omega.{arith}
 use lib.ListN.{length}
-use Rattle.vectors.specs.Vectors.{segments_of, shares, any_segment, overlap_of}
 use Rattle.arithmetic.specs.Loops.{array_long}
-use Rattle.vectors.proofs.Testing.{Sought, overlap_start, sought_here, sought_next, sought_end}
+use Rattle.vectors.proofs.Testing.{overlap_start, sought_here, sought_next, sought_end}
 use Rattle.vectors.proofs.vector.IoVector.overlaps.Goals as goal
 
 pub loop-i-init : goal.loop-i-init

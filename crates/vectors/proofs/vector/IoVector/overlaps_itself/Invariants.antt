@@ -1,11 +1,6 @@
 -- `vectors::vector::IoVector::overlaps_itself` meets its contract: what is sought is what is sought from segment i on. Assumes nothing.
-use borrow.Author.Rules.{rules}
-use mathlib.Core.Path.{◌≡◌, sym, ◌∙◌}
 use Prim.Native.Nat.{◌-◌}
-use native.Mathlib.Omega.{arith}
-use lib.ListN.{length}
-use Rattle.arithmetic.specs.Loops.{array_long}
-use Rattle.vectors.proofs.Testing.{Selfsought, self_start, self_from, self_here, self_next, self_end}
+use Rattle.vectors.proofs.Testing.{Selfsought}
 use Rattle.vectors.proofs.vector.IoVector.overlaps_itself.Given as goal
 
 abbrev pub invariant-loop-i : goal.invariant-loop-i

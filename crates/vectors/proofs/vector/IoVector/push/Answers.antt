@@ -1,7 +1,6 @@
 -- `vectors::vector::IoVector::push` meets its contract: it is an insert at the end. Assumes nothing.
 use mathlib.Core.Path.{◌∙◌}
 use Rattle.vectors.proofs.Editing.{push_is}
-use borrow.Author.Rules.{rules}
 use Rattle.vectors.proofs.vector.IoVector.push.Goals as goal
 
 pub returns : goal.returns

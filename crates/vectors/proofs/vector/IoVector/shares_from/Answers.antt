@@ -1,12 +1,11 @@
 -- `vectors::vector::IoVector::shares_from` meets its contract: what is sought is what is sought from segment i on. Assumes nothing.
 use borrow.Author.Rules.{rules}
 use mathlib.Core.Path.{◌≡◌, sym, ◌∙◌}
-use Prim.Native.Nat.{◌-◌}
 use native.Mathlib.Omega.{arith}
-use lib.ListN.{length, drop}
-use Rattle.vectors.specs.Vectors.{segments_of, shares, any_segment}
+use lib.ListN.{length}
+use Rattle.vectors.specs.Vectors.{shares}
 use Rattle.arithmetic.specs.Loops.{array_long}
-use Rattle.vectors.proofs.Testing.{Sought, sought_start, sought_here, sought_next, sought_end}
+use Rattle.vectors.proofs.Testing.{sought_start, sought_here, sought_next, sought_end}
 use Rattle.vectors.proofs.vector.IoVector.shares_from.Goals as goal
 
 pub loop-i-init : goal.loop-i-init

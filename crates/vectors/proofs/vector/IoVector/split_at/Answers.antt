@@ -3,7 +3,6 @@
 use mathlib.Core.Path.{◌≡◌, sym, ap, ◌∙◌}
 use mathlib.Core.Bool.{true}
 use lib.ListN.{length}
-use borrow.Author.Tests.{not-true, not-false}
 use Rattle.vectors.specs.declared.vector.SplitPosition.{SplitPosition}
 use Rattle.vectors.specs.declared.vector.Split.{Split}
 use Rattle.vectors.specs.Vectors.{segments_of, is_valid}

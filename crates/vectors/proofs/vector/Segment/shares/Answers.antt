@@ -1,6 +1,5 @@
 -- `vectors::vector::Segment::shares` meets its contract: the later start lies before both ends. Assumes nothing.
 use Rattle.vectors.proofs.Testing.{shares_left, shares_right}
-use borrow.Author.Rules.{rules}
 use Rattle.vectors.proofs.vector.Segment.shares.Goals as goal
 
 pub returns-then-self-other : goal.returns-then-self-other
