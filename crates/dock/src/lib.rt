@@ -1,5 +1,6 @@
 // Layer 4: the dock. Byte ranges over an aligned drive: begin, next, tell, collect; up to eight jobs at once.
 #![tactic(auto)]
+
 pub mod dock; // the dock, and what it has in a slot
 pub mod bytes; // copies between the data and a slot's share of the scratch
 pub mod open; // opening, with alignments or by drive profile

@@ -1,6 +1,7 @@
 // The boundary: what C or Rust calls. The arrays have the lengths declared here; data and scratch are a pointer and a length. For any
 // words.
 #![tactic(auto)]
+
 mod replies; // answers, as they cross
 pub mod parts; // vectors and blockers alone
 pub mod drive_tables; // loading a drive table, and its rows

@@ -3,6 +3,7 @@
 // contract, of the dock as it was lent and as it is given back. The proofs are walks of this code, which tools/lent_walk writes: its README
 // says how.
 #![tactic(auto)]
+
 ghost use Rattle.std.specs.Prelude.{◌≡◌, length};
 ghost use Rattle.dock.specs.Begin.{begin_of, BeginGives};
 ghost use Rattle.dock.specs.Next.{next_of, piece_of};

@@ -1,3 +1,4 @@
 // The combined calls on a dock in words: one for each request.
 #![tactic(auto)]
+
 pub mod shown;

@@ -19,7 +19,7 @@ use Rattle.stages.specs.declared.state.Course.{Course}
 use Rattle.stages.specs.declared.state.Course.TheVariants.{Last, Middle, Head, Chunks}
 use Rattle.stages.specs.declared.state.State.{State}
 use Rattle.dock.specs.Dock.{no_state, no_vector}
-use Rattle.arithmetic.specs.Rows.{rows, row, put, rows_get, rows_put, row_word, row_length, row_set, part_put}
+use Rattle.arithmetic.specs.Rows.{row, put, rows_get, rows_put, row_word, row_length, row_set, part_put}
 use Rattle.dock_words.specs.View.{flag_of, flag_word, phase_of, phase_tag, job_of, job_tag, course_of, course_tag, kind_of, kind_tag, stage_of}
 use Rattle.dock_words.specs.View.{state_from, state_words, blocker_of, blocker_words}
 use Rattle.vectors.specs.Words.{vector_from, vector_words}

@@ -2,6 +2,7 @@
 // the by-value struct, steps it by the functions of crate dock, and writes the row back; blockers are worked on in place. What words mean:
 // specs/View.antt. Public is `arrays` alone: the functions below it require the lengths of the arrays, which it declares.
 #![tactic(auto)]
+
 mod tags; // one word: the tag of a variant, a flag, a byte, a size; words that become 0
 mod state_words; // states, and the lowest free slot
 mod setting_words; // settings and buffers

@@ -14,7 +14,7 @@ use Rattle.arithmetic.specs.Rounding.{pick}
 use Rattle.arithmetic.specs.declared.refusals.Refusal.{Refusal}
 use Rattle.arithmetic.specs.declared.refusals.Refusal.TheVariants.{Table as BadTable}
 use Rattle.arithmetic.specs.declared.settings.Alignments.{Alignments}
-use Rattle.records.specs.Records.{kind_field, body_length, is_cut, is_short, start_of, Form, end, broken, entry, form_in, form_of}
+use Rattle.records.specs.Records.{kind_field, body_length, is_cut, is_short, start_of, Form, broken, entry, form_in, form_of}
 use Rattle.records.specs.RecordsLaws.{form_next, Found, found}
 use Rattle.records.specs.declared.Header.{Header}
 use Rattle.records.specs.declared.Start.{Start}
@@ -22,7 +22,6 @@ use Rattle.records.specs.declared.Start.TheVariants.{End, Broken, Record}
 use Rattle.tables.specs.Tables.{entry_of, Rows, these, refused, before, with_entry, rows_from, table_of, no_row, loaded_as}
 use Rattle.tables.specs.Tables.{load_of, finished}
 use Rattle.tables.specs.TablesLaws.{entry_row}
-use Rattle.tables.specs.declared.table.Entry.{Entry}
 use Rattle.tables.specs.declared.table.Entry.TheVariants.{Passed, Row, Refused}
 
 -- rows that were read, before those that are read yet

@@ -1,7 +1,7 @@
 -- Laws of tables in words: each word of a row, that a table's words are that table, what a load leaves. Assumes nothing.
 use Rattle.std.specs.Prelude.{◌≡◌, refl, List, [], ◌∷◌, ℕ, zero, suc, ◌+◌, ◌*◌, ◌<◌, length, drop, get_or}
 use Rattle.std.proofs.Common.{sym, ap, ◌∙◌, arith, get_or-drop}
-use Rattle.arithmetic.specs.Rows.{rows, row, rows_length, rows_get, row_word}
+use Rattle.arithmetic.specs.Rows.{rows, rows_length, rows_get, row_word}
 use Rattle.arithmetic.specs.declared.refusals.Refusal.{Refusal}
 use Rattle.arithmetic.specs.declared.refusals.Outcome.TheVariants.{Done, Refused}
 use Rattle.arithmetic.specs.declared.settings.Alignments.{Alignments}

@@ -1,5 +1,5 @@
 -- Tables that are written: 1 to 64 rows that fit, each as a record of kind 1, are loaded as these rows. Assumes nothing.
-use Rattle.std.specs.Prelude.{◌≡◌, true, List, [], ◌∷◌, ◌++◌, ℕ, zero, suc, ◌+◌, ◌/◌, ◌%◌, ◌<◌}
+use Rattle.std.specs.Prelude.{◌≡◌, true, List, [], ◌∷◌, ◌++◌, ℕ, suc, ◌/◌, ◌%◌, ◌<◌}
 use Rattle.std.proofs.Common.{ap, ◌∙◌, div-add-mod', arith, lt-ltb, ne_eqb}
 use Rattle.arithmetic.specs.Settings.{alignments_fit}
 use Rattle.arithmetic.specs.declared.settings.Alignments.{Alignments}

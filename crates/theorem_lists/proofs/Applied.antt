@@ -7,7 +7,8 @@ use Rattle.dock.specs.Dock.{open_of, lent_fits}
 use Rattle.dock.specs.Computing.{computing}
 use Rattle.theorem_lists.specs.Histories.{Claim}
 use Rattle.theorem_lists.specs.Acts.{events_of}
-use Rattle.theorem_lists.specs.Example.{settings, buffers, world, plain, whole_list, example}
+use Rattle.theorem_lists.specs.Example.{settings, buffers, world, plain, whole_list}
+use Rattle.theorem_lists.proofs.Example.{example}
 use Rattle.theorem_lists.proofs.Theorem.{every_list}
 
 pub opens : (open_of settings buffers).outcome ≡ Done

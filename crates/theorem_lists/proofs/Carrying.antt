@@ -1,10 +1,10 @@
 -- A request that is carried out keeps the invariant: on both sides the same bytes change, a read's share or segments hold what it yielded, and no other slot is touched. Assumes nothing.
 use mathlib.Core.Path.{◌≡◌, refl, sym, ap, ◌∙◌}
 use mathlib.Core.Bool.{Bool, true, false, ◌||◌}
-use mathlib.Core.Logic.{◌⊎◌, ⊎_elim, ◌≢◌}
+use mathlib.Core.Logic.{⊎_elim, ◌≢◌}
 use mathlib.Core.List.{List, [], ◌∷◌, ◌++◌}
 use mathlib.Core.Option.{Option, none, some}
-use Prim.Native.Nat.{ℕ, zero, suc, ◌+◌, ◌-◌, ◌<◌, ◌≤◌}
+use Prim.Native.Nat.{ℕ, zero, suc, ◌+◌, ◌<◌, ◌≤◌}
 use native.Mathlib.Omega.{arith}
 use lib.Dec.{ltb}
 use lib.ListN.{length, get_or, take, drop}
@@ -21,7 +21,7 @@ use Rattle.vectors.specs.OverlapLaws.{or_cases, overlap_sym}
 use Rattle.vectors.specs.declared.vector.Segment.{Segment}
 use Rattle.vectors.specs.declared.vector.IoVector.{IoVector}
 use Rattle.blockers.specs.Blockers.{waits_of}
-use Rattle.stages.specs.Stages.{size_of, is_free, has_ended, is_pending, is_blocking, request, request_of}
+use Rattle.stages.specs.Stages.{size_of, is_free, has_ended, is_pending, is_blocking, request_of}
 use Rattle.stages.specs.declared.state.Phase.{Phase}
 use Rattle.stages.specs.declared.state.Course.{Course}
 use Rattle.stages.specs.declared.state.Course.TheVariants.{Last, Middle, Head, Chunks}

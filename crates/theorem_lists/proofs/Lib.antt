@@ -10,5 +10,6 @@ pub mod Carrying
 pub mod Serving
 pub mod Telling
 pub mod Theorem
+pub mod Example
 pub mod Applied
 pub mod Loaded

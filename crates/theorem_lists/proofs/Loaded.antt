@@ -16,7 +16,8 @@ use Rattle.dock.specs.Computing.{computing}
 use Rattle.dock.specs.declared.open.Opened.{Opened}
 use Rattle.theorem_lists.specs.Histories.{Lawful, Claim}
 use Rattle.theorem_lists.specs.Acts.{events_of}
-use Rattle.theorem_lists.specs.Example.{settings, buffers, world, plain, whole_list, example}
+use Rattle.theorem_lists.specs.Example.{settings, buffers, world, plain, whole_list}
+use Rattle.theorem_lists.proofs.Example.{example}
 use Rattle.theorem_lists.specs.Loaded.{by_row, starts_with, EveryLoadedList, opens_as}
 use Rattle.theorem_lists.proofs.Theorem.{every_list}
 use Rattle.theorem_lists.proofs.Applied.{opens, lends}

@@ -46,7 +46,7 @@ use Rattle.dock.specs.Begin.{is_write_job, source_of, filled}
 use Rattle.dock.specs.Tell.{blockers_without, copied_at, is_bounced_read, handed}
 use Rattle.theorem_lists.specs.Courses.{is_zero_job, is_discard_job, has_vector, is_last, is_middle, bounces, suits, is_regular, suited, enters_regular}
 use Rattle.theorem_lists.specs.Held.{Held, SlotOf}
-use Rattle.theorem_lists.specs.Calls.{read_no_write, write_vector, read_vector, direct_reads, bounced_reads, pending_taken, copied, told_held, entered, after}
+use Rattle.theorem_lists.specs.Calls.{read_no_write, write_vector, read_vector, direct_reads, bounced_reads, pending_taken, copied, told_held, after}
 use Rattle.theorem_lists.specs.Keeping.{Changes, leave_changes}
 use Rattle.theorem_lists.specs.MadeLaws.{data_long}
 use Rattle.theorem_lists.specs.PlainStore.{Did, yielded, wrote, zeroed, Tracked, Plain, new_bytes, standing, state_of_step, put_job, with_code}

@@ -1,6 +1,6 @@
 -- A lawful list, its bytes computed on both sides. A padded write, a direct write that waits behind it, a padded read, zeroes that fall
 -- back, a write that fails part-way, a discard, a direct read; a begin that is refused, and one that is lent other buffers.
-use Rattle.std.specs.Prelude.{◌≡◌, refl, true, false, List, [], ◌∷◌, ◌++◌, ℕ, ltb, length, take, drop, replicate}
+use Rattle.std.specs.Prelude.{◌≡◌, true, false, List, [], ◌∷◌, ◌++◌, ℕ, ltb, length, take, drop, replicate}
 use Rattle.arithmetic.specs.Offsets.{store_at}
 use Rattle.arithmetic.specs.Settings.{alignments}
 use Rattle.arithmetic.specs.Content.{window}
@@ -22,9 +22,8 @@ use Rattle.dock.specs.declared.next.Piece.{Piece}
 use Rattle.dock.specs.declared.next.Piece.TheVariants.{InData}
 use Rattle.theorem_lists.specs.Store.{Choice}
 use Rattle.theorem_lists.specs.PlainStore.{Plain, plain_opened}
-use Rattle.theorem_lists.specs.Histories.{Lends, World, opened, Lawful}
-use Rattle.theorem_lists.specs.Acts.{Act, begin, begin_lent, carry, tell, collect, own, events_of, run, all_allowed, lawful}
-use Rattle.theorem_lists.specs.Acts.{computing_lists}
+use Rattle.theorem_lists.specs.Histories.{Lends, World, opened}
+use Rattle.theorem_lists.specs.Acts.{Act, begin, begin_lent, carry, tell, collect, own, run, all_allowed}
 
 -- a drive of blocks of 8 bytes, shares of 32; a store whose every byte is 9
 abbrev pub settings : Settings
@@ -141,28 +140,3 @@ pub record Computed : Type 0 where
       ≡ 3 ∷ 4 ∷ 5 ∷ 6 ∷ 77 ∷ 77 ∷ 9 ∷ 9 ∷ 31 ∷ 9 ∷ 9 ∷ 9 ∷ 9 ∷ 9 ∷ 77 ∷ 77 ∷ []
   -- and the list is lawful, with the collects
   pub is_lawful : all_allowed world whole_list ≡ true
-
-pub computed : Computed
-unfolding computing_lists
-computed = record {
-  waits = refl;
-  first = refl;
-  second = refl;
-  direct = refl;
-  real = refl;
-  plain_bytes = refl;
-  write_answer = refl;
-  direct_answer = refl;
-  read_answer = refl;
-  zero_answer = refl;
-  failed_answer = refl;
-  discard_answer = refl;
-  direct_read_answer = refl;
-  refused = refl;
-  refused_lent = refl;
-  holds = refl;
-  is_lawful = refl;
-}
-
-pub example : Lawful world plain (events_of world whole_list)
-example = lawful world plain whole_list computed.is_lawful

@@ -11,7 +11,6 @@ use Rattle.arithmetic.specs.declared.settings.Alignments.{Alignments}
 use Rattle.arithmetic.specs.declared.settings.Settings.{Settings}
 use Rattle.arithmetic.specs.declared.settings.Buffers.{Buffers}
 use Rattle.arithmetic.specs.declared.settings.Profile.{Profile}
-use Rattle.arithmetic.specs.declared.settings.Profile.TheVariants.{Of}
 use Rattle.tables.specs.Tables.{these, table_of, load_of, profile_in, no_row}
 use Rattle.tables.specs.TablesLaws.{table_sound, loaded_row, loaded_past}
 use Rattle.dock.specs.Dock.{open_of, open_by, lent_fits}

@@ -1,6 +1,6 @@
 -- The store's act on one request, by document 01: "On the real store the same rules and choices hold for a request's own bytes and range,
 -- padding included".
-use Rattle.std.specs.Prelude.{Bool, true, List, [], ◌∷◌, ◌++◌, ℕ, zero, suc, ◌+◌, eqb, length, take, drop}
+use Rattle.std.specs.Prelude.{Bool, true, List, [], ◌∷◌, ◌++◌, ℕ, zero, suc, ◌+◌, eqb, take, drop}
 use Rattle.arithmetic.specs.Rounding.{pick}
 use Rattle.arithmetic.specs.Offsets.{range_of}
 use Rattle.arithmetic.specs.Content.{Bytes, changed, window, laid_at}

@@ -6,7 +6,6 @@ use Rattle.dock.specs.Numbers.{begun_paper}
 use Rattle.dock.specs.declared.begin.Asked.{Asked}
 use Rattle.dock_words.specs.View.{dock_of}
 use Rattle.dock_c.specs.Replies.{reply_of}
-use borrow.Author.Rules.{rules}
 use Rattle.dock_c.proofs.dock_words_begin_write.Goals as goal
 
 pub returns : goal.returns

@@ -5,7 +5,6 @@ use Rattle.arithmetic.specs.Planner.{planned_of}
 use Rattle.arithmetic.specs.declared.settings.Settings.{Settings}
 use Rattle.arithmetic.specs.declared.planner.Planned.{Planned}
 use Rattle.dock_c.specs.Replies.{reply_of, planned_paper}
-use borrow.Author.Rules.{rules}
 use Rattle.dock_c.proofs.dock_words_chunk.Goals as goal
 
 pub returns : goal.returns

@@ -5,7 +5,6 @@ use Rattle.arithmetic.specs.Planner.{count_of}
 use Rattle.arithmetic.specs.declared.settings.Settings.{Settings}
 use Rattle.arithmetic.specs.declared.planner.Count.{Count}
 use Rattle.dock_c.specs.Replies.{reply_of, count_paper}
-use borrow.Author.Rules.{rules}
 use Rattle.dock_c.proofs.dock_words_chunks.Goals as goal
 
 pub returns : goal.returns

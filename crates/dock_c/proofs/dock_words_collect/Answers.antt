@@ -1,7 +1,6 @@
 -- `dock_c::dock_words_collect` meets its contract: the number of what collect answers. Assumes nothing.
 use mathlib.Core.Path.{ap, ◌∙◌}
 use Rattle.dock_c.specs.Replies.{collected_number}
-use borrow.Author.Rules.{rules}
 use Rattle.dock_c.proofs.dock_words_collect.Goals as goal
 
 pub returns : goal.returns

@@ -3,7 +3,6 @@ use mathlib.Core.Path.{ap, ◌∙◌}
 use Rattle.dock.specs.Numbers.{due_paper}
 use Rattle.dock.specs.declared.next.Due.{Due}
 use Rattle.dock_c.specs.Replies.{reply_of}
-use borrow.Author.Rules.{rules}
 use Rattle.dock_c.proofs.dock_words_next.Goals as goal
 
 pub returns : goal.returns

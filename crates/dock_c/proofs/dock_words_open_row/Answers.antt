@@ -2,7 +2,6 @@
 use mathlib.Core.Path.{ap, ◌∙◌}
 use Rattle.arithmetic.specs.Refusals.{outcome_number}
 use Rattle.dock.specs.Dock.{open_profile_of}
-use borrow.Author.Rules.{rules}
 use Rattle.dock_c.proofs.dock_words_open_row.Goals as goal
 
 pub returns : goal.returns

@@ -1,7 +1,6 @@
 -- `dock_c::dock_words_open_table` meets its contract: the number of what opening by the row answers. Assumes nothing.
 use mathlib.Core.Path.{ap, ◌∙◌}
 use Rattle.arithmetic.specs.Refusals.{outcome_number}
-use borrow.Author.Rules.{rules}
 use Rattle.dock_c.proofs.dock_words_open_table.Goals as goal
 
 pub returns : goal.returns

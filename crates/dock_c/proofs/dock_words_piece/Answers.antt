@@ -3,7 +3,6 @@ use mathlib.Core.Path.{ap, ◌∙◌}
 use Rattle.dock.specs.Numbers.{piece_paper}
 use Rattle.dock.specs.declared.next.Piece.{Piece}
 use Rattle.dock_c.specs.Replies.{reply_of}
-use borrow.Author.Rules.{rules}
 use Rattle.dock_c.proofs.dock_words_piece.Goals as goal
 
 pub returns : goal.returns

@@ -2,7 +2,6 @@
 use mathlib.Core.Path.{ap, ◌∙◌}
 use Rattle.arithmetic.specs.Refusals.{outcome_number}
 use Rattle.dock.specs.Tell.{Told}
-use borrow.Author.Rules.{rules}
 use Rattle.dock_c.proofs.dock_words_tell.Goals as goal
 
 pub returns : goal.returns

@@ -8,7 +8,6 @@ use Rattle.dock.specs.declared.begin.Admission.{Admission}
 use Rattle.dock.proofs.Merging.{in_share}
 use Rattle.dock.proofs.SlotsOf.{share_in}
 use Rattle.dock.proofs.Steps.{admit_refused, admit_done}
-use borrow.Author.Rules.{rules}
 use Rattle.dock.proofs.begin.admit.Goals as goal
 
 pub returns-in-Done : goal.returns-in-Done

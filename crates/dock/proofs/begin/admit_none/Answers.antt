@@ -1,7 +1,6 @@
 -- `dock::begin::admit_none` meets its contract: the blockers as given, and the state of a free slot. Assumes nothing.
 use mathlib.Core.Path.{ap}
 use Rattle.stages.specs.declared.state.State.{State}
-use borrow.Author.Rules.{rules}
 use Rattle.dock.proofs.begin.admit_none.Goals as goal
 
 pub returns : goal.returns

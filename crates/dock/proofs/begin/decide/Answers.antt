@@ -1,22 +1,15 @@
 -- `dock::begin::decide` meets its contract: each test in the order of the definition. Assumes nothing.
-use mathlib.Core.Path.{◌≡◌, refl, sym, ap, ◌∙◌}
-use mathlib.Core.List.{[], ◌∷◌}
-use mathlib.Core.Logic.{⊎_elim}
-use native.Mathlib.Omega.{arith}
-use types.Run.{OneOf}
-use denote.Enum.Declared.{declared, tag_of}
-use Rattle.stages.specs.contracts.plan.Plan.{enum}
+use mathlib.Core.Path.{◌≡◌, sym, ap}
 use mathlib.Core.Bool.{Bool, true, false}
 use Prim.Native.Nat.{ℕ, ◌≤◌, ◌<◌}
-use borrow.Author.Tests.{not-true, not-false, le-ltb, lt-ltb}
+use borrow.Author.Tests.{le-ltb, lt-ltb}
 use Rattle.arithmetic.specs.declared.refusals.Refusal.TheVariants.{Segment, Overlap, Full}
 use Rattle.arithmetic.specs.declared.refusals.Outcome.{Outcome}
 use Rattle.arithmetic.specs.declared.refusals.Outcome.TheVariants.{Done}
 use Rattle.stages.specs.declared.state.State.{State}
 use Rattle.stages.specs.declared.plan.Plan.{Plan}
-use Rattle.stages.specs.declared.plan.Plan.TheVariants.{Done as NothingToDo, Started, Refused}
-use Rattle.dock.specs.Begin.{allowed_by, decided_of}
-use borrow.Author.Rules.{rules}
+use Rattle.stages.specs.declared.plan.Plan.TheVariants.{Started, Refused}
+use Rattle.dock.specs.Begin.{decided_of}
 use Rattle.dock.proofs.begin.decide.Goals as goal
 
 module _ (lent : Outcome) (valid : Bool) (plan : Plan) (met : Bool) (free : ℕ) (l : lent ≡ Done) where

@@ -1,6 +1,5 @@
 -- `dock::begin::enter` meets its contract: the blocker enters, then the share is filled. Assumes nothing.
 use Rattle.dock.proofs.Steps.{enter_refused, enter_done}
-use borrow.Author.Rules.{rules}
 use Rattle.dock.proofs.begin.enter.Goals as goal
 
 pub returns-in_default : goal.returns-in_default

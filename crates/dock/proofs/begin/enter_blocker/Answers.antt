@@ -1,8 +1,6 @@
 -- `dock::begin::enter_blocker` meets its contract: no blocker for what does not block, else a strong or a weak one as the stage says. Assumes nothing.
 use mathlib.Core.Path.{sym, ◌∙◌}
-use borrow.Author.Tests.{not-true, not-false}
 use Rattle.dock.specs.Begin.{blockers_with}
-use borrow.Author.Rules.{rules}
 use Rattle.dock.proofs.begin.enter_blocker.Goals as goal
 
 pub returns-then-not-is_blocking : goal.returns-then-not-is_blocking

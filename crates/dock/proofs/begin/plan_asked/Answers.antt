@@ -4,7 +4,6 @@ use mathlib.Core.Bool.{Bool}
 use Rattle.stages.specs.Stages.{read_plan, write_plan}
 use Rattle.stages.specs.declared.state.Job.{Job}
 use Rattle.dock.specs.Begin.{plan_of}
-use borrow.Author.Rules.{rules}
 use Rattle.dock.proofs.begin.plan_asked.Goals as goal
 
 pub returns-in-Read : goal.returns-in-Read

@@ -1,7 +1,6 @@
 -- `dock::bytes::copy_out` meets its contract: what `copy_from_slice` ensures of that part of the scratch. Assumes nothing.
 use mathlib.Core.Path.{sym, ◌∙◌}
 use Rattle.dock.proofs.Merging.{copied_out_lem}
-use borrow.Author.Rules.{rules}
 use Rattle.dock.proofs.bytes.copy_out.Goals as goal
 
 pub returns-in_default : goal.returns-in_default

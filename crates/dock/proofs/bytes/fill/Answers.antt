@@ -7,7 +7,6 @@ use lib.ListN.{length}
 use Rattle.stages.specs.Stages.{size_of}
 use Rattle.dock.specs.Begin.{merged_at}
 use Rattle.dock.proofs.Merging.{filled_write, filled_none}
-use borrow.Author.Rules.{rules}
 use Rattle.dock.specs.SlotLaws.{writes_use}
 use Rattle.dock.proofs.bytes.fill.Goals as goal
 use Rattle.dock.proofs.bytes.fill.Goals.{Then-is_bounced_write}

@@ -1,10 +1,8 @@
 -- `dock::bytes::fill_share` meets its contract: nothing to fill, 208 where the job is not sound there, else what `fill` does. Assumes nothing.
 use mathlib.Core.Path.{sym, ◌∙◌}
 use native.Mathlib.Omega.{arith}
-use borrow.Author.Tests.{not-true, not-false}
 use Rattle.dock.specs.Slots.{filled_share}
 use Rattle.dock.proofs.Shares.{room, sound_in_share}
-use borrow.Author.Rules.{rules}
 use Rattle.dock.proofs.bytes.fill_share.Goals as goal
 
 pub returns-then-not-is_bounced_write : goal.returns-then-not-is_bounced_write

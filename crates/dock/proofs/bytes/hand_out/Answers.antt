@@ -10,7 +10,6 @@ use Rattle.arithmetic.specs.SettingsLaws.{and_left}
 use Rattle.stages.specs.Stages.{size_of}
 use Rattle.dock.specs.Tell.{copied_at, is_bounced_read}
 use Rattle.dock.proofs.Merging.{reads_use, handed_read, handed_none}
-use borrow.Author.Rules.{rules}
 use Rattle.dock.proofs.bytes.hand_out.Goals as goal
 use Rattle.dock.proofs.bytes.hand_out.Goals.{Then-read}
 

@@ -3,10 +3,8 @@ use mathlib.Core.Path.{sym, ap, ◌∙◌}
 use mathlib.Core.Bool.{Bool, ◌&&◌}
 use native.Mathlib.Omega.{arith}
 use lib.Dec.{eqb}
-use borrow.Author.Tests.{not-true, not-false}
 use Rattle.dock.specs.Slots.{handed_share}
 use Rattle.dock.proofs.Shares.{room, sound_in_share}
-use borrow.Author.Rules.{rules}
 use Rattle.dock.proofs.bytes.hand_out_share.Goals as goal
 
 pub returns-then-not-read : goal.returns-then-not-read

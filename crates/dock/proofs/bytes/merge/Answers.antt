@@ -1,7 +1,6 @@
 -- `dock::bytes::merge` meets its contract: the vector for a write, zeroes for any other job, and the scratch around that part stays. Assumes nothing.
 use mathlib.Core.Path.{sym, ◌∙◌}
 use Rattle.dock.proofs.Merging.{merged_write, merged_zeroes}
-use borrow.Author.Rules.{rules}
 use Rattle.dock.proofs.bytes.merge.Goals as goal
 
 pub returns-in_default : goal.returns-in_default

@@ -2,7 +2,6 @@
 use Rattle.arithmetic.specs.declared.refusals.Outcome.TheVariants.{Done, Refused}
 use mathlib.Core.Path.{◌≡◌, sym, ◌∙◌}
 use Rattle.dock.specs.Dock.{lent_of}
-use borrow.Author.Rules.{rules}
 use Rattle.dock.proofs.dock.check_lent.Goals as goal
 
 pub returns-then-lent_fits : goal.returns-then-lent_fits

@@ -2,11 +2,10 @@
 use borrow.Author.Rules.{rules}
 use native.Mathlib.Omega.{arith}
 use borrow.Author.Count.{below_none, below_more}
-use Prim.Native.Nat.{◌≤◌, ◌-◌}
 use mathlib.Core.Path.{◌≡◌, sym, ◌∙◌}
 use lib.ListN.{length}
 use Rattle.arithmetic.specs.Loops.{array_long}
-use Rattle.dock.specs.SlotLaws.{NoneFree, lowest_here, lowest_none}
+use Rattle.dock.specs.SlotLaws.{lowest_here, lowest_none}
 use Rattle.dock.proofs.dock.first_free.Goals as goal
 
 pub loop-i-init : goal.loop-i-init

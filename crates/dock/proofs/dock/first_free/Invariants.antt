@@ -1,12 +1,8 @@
 -- `dock::dock::first_free` meets its contract: after i turns none of the first i slots is free. Assumes nothing.
-use borrow.Author.Rules.{rules}
-use native.Mathlib.Omega.{arith}
-use borrow.Author.Count.{below_none, below_more}
 use Prim.Native.Nat.{◌≤◌, ◌-◌}
-use mathlib.Core.Path.{◌≡◌, sym, ◌∙◌}
+use mathlib.Core.Path.{◌≡◌}
 use lib.ListN.{length}
-use Rattle.arithmetic.specs.Loops.{array_long}
-use Rattle.dock.specs.SlotLaws.{NoneFree, lowest_here, lowest_none}
+use Rattle.dock.specs.SlotLaws.{NoneFree}
 use Rattle.dock.proofs.dock.first_free.Given as goal
 
 abbrev pub invariant-loop-i : goal.invariant-loop-i

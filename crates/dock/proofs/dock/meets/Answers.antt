@@ -1,6 +1,5 @@
 -- `dock::dock::meets` meets its contract: a free slot, then two that do not read, then the overlap. Assumes nothing.
 -- past the first test, whether one of the two reads
-use borrow.Author.Tests.{not-true, not-false}
 use mathlib.Core.Path.{◌≡◌, sym, ◌∙◌}
 use mathlib.Core.Bool.{Bool, true, false, ◌||◌}
 use Rattle.dock.specs.Dock.{meets_of, is_read_job}

@@ -1,6 +1,5 @@
 -- `dock::dock::meets_itself` meets its contract: only a read is asked whether its vector overlaps itself. Assumes nothing.
 use mathlib.Core.Path.{sym, ◌∙◌}
-use borrow.Author.Rules.{rules}
 use Rattle.dock.proofs.dock.meets_itself.Goals as goal
 
 pub returns-then-is_read_job : goal.returns-then-is_read_job

@@ -1,7 +1,6 @@
 -- `dock::next::due_now` meets its contract: free, ended, waiting, due, in the order of the definition. Assumes nothing.
 use mathlib.Core.Path.{sym, ap, ◌∙◌}
 use Rattle.dock.specs.declared.next.Due.TheVariants.{Make}
-use borrow.Author.Rules.{rules}
 use Rattle.dock.proofs.next.due_now.Goals as goal
 
 pub returns-then-is_free : goal.returns-then-is_free

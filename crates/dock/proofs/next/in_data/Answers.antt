@@ -1,6 +1,6 @@
 -- `dock::next::in_data` meets its contract: a valid vector has at most 16 segments, so segment i is in its array. Assumes nothing.
 -- past the first test the vector is valid, and so has at most 16 segments
-use borrow.Author.Tests.{not-true, not-false, lt-ltb, le-ltb, leb-true}
+use borrow.Author.Tests.{lt-ltb, le-ltb, leb-true}
 use native.Mathlib.Omega.{arith}
 use Prim.Native.Nat.{◌≤◌}
 use mathlib.Core.Path.{◌≡◌, sym, ◌∙◌}

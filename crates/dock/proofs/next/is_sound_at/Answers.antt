@@ -1,6 +1,5 @@
 -- `dock::next::is_sound_at` meets its contract: the three tests are the definition's. Assumes nothing.
 use Rattle.dock.specs.Next.{is_sound_at}
-use borrow.Author.Rules.{rules}
 use Rattle.dock.proofs.next.is_sound_at.Goals as goal
 
 pub returns : goal.returns

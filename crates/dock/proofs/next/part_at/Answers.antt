@@ -1,7 +1,6 @@
 -- `dock::next::part_at` meets its contract: each arm's place is its case of the definition. Assumes nothing.
 use mathlib.Core.Path.{◌≡◌}
 use Rattle.dock.specs.declared.next.Piece.TheVariants.{InData, InScratch}
-use borrow.Author.Rules.{rules}
 use Rattle.dock.proofs.next.part_at.Goals as goal
 
 pub returns-in-InData : goal.returns-in-InData

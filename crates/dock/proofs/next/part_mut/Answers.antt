@@ -5,7 +5,6 @@ use Prim.Native.Nat.{◌+◌, ◌-◌}
 use native.Mathlib.Omega.{arith}
 use lib.ListN.{length}
 use Rattle.dock.specs.Next.{part_of}
-use borrow.Author.Rules.{rules}
 use Rattle.dock.proofs.next.part_mut.Goals as goal
 
 pub returns-then-len-start : goal.returns-then-len-start

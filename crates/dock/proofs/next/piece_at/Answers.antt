@@ -1,8 +1,6 @@
 -- `dock::next::piece_at` meets its contract: 208 where the request is not out, else the piece of the job. Assumes nothing.
 use mathlib.Core.Path.{sym, ◌∙◌}
-use borrow.Author.Tests.{not-true, not-false}
 use Rattle.dock.specs.Next.{piece_at}
-use borrow.Author.Rules.{rules}
 use Rattle.dock.proofs.next.piece_at.Goals as goal
 
 pub returns-then-not-is_out : goal.returns-then-not-is_out

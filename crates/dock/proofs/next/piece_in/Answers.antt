@@ -1,10 +1,9 @@
 -- `dock::next::piece_in` meets its contract: 208 past slot 7 and where the job is not sound, else the piece; a sound job's share lies in the scratch. Assumes nothing.
 use mathlib.Core.Path.{sym, ◌∙◌}
 use native.Mathlib.Omega.{arith}
-use borrow.Author.Tests.{not-true, not-false, lt-ltb, le-ltb}
+use borrow.Author.Tests.{lt-ltb, le-ltb}
 use Rattle.dock.specs.Next.{piece_in}
 use Rattle.dock.proofs.SlotsOf.{share_room_sound}
-use borrow.Author.Rules.{rules}
 use Rattle.dock.specs.SlotLaws.{sound_share}
 use Rattle.dock.proofs.next.piece_in.Goals as goal
 

@@ -11,7 +11,6 @@ use Rattle.stages.specs.Stages.{size_of}
 use Rattle.dock.specs.Next.{piece_by, in_scratch}
 use Rattle.dock.specs.declared.next.Piece.{Piece}
 use Rattle.dock.proofs.SlotsOf.{second_in}
-use borrow.Author.Rules.{rules}
 use Rattle.dock.proofs.next.piece_of.Goals as goal
 
 in-case : (ph : Phase) (share i m : ℕ) (x : State) (v : IoVector) {q : Piece} → x.phase ≡ ph → q ≡ piece_by ph share i m x v → q ≡ piece_by x.phase share i m x v

@@ -2,7 +2,6 @@
 use mathlib.Core.Path.{ap}
 use Rattle.arithmetic.specs.declared.refusals.Outcome.TheVariants.{Refused}
 use Rattle.dock.specs.declared.dock.Dock.{Dock}
-use borrow.Author.Rules.{rules}
 use Rattle.dock.proofs.open.open_by.Goals as goal
 
 pub returns-in-Of : goal.returns-in-Of

@@ -1,6 +1,5 @@
 -- `dock::tell::ends` meets its contract: the blocker leaves, then the bytes of a padded read are copied out. Assumes nothing.
 use Rattle.dock.proofs.Steps.{ends_blocked, ends_done}
-use borrow.Author.Rules.{rules}
 use Rattle.dock.proofs.tell.ends.Goals as goal
 
 pub returns-in-Refused : goal.returns-in-Refused

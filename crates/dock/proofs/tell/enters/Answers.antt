@@ -1,6 +1,5 @@
 -- `dock::tell::enters` meets its contract: the blocker leaves, then the job enters its next stage. Assumes nothing.
 use Rattle.dock.proofs.Steps.{enters_blocked, enters_done}
-use borrow.Author.Rules.{rules}
 use Rattle.dock.proofs.tell.enters.Goals as goal
 
 pub returns-in-Refused : goal.returns-in-Refused

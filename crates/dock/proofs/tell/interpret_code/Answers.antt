@@ -6,7 +6,6 @@ use borrow.Author.Tests.{ne_eqb, lt-ltb, le-ltb}
 use Rattle.stages.specs.Stages.{told_of}
 use Rattle.dock.specs.Tell.{answered_of}
 use Rattle.dock.specs.declared.tell.Answered.TheVariants.{Leads}
-use borrow.Author.Rules.{rules}
 use Rattle.dock.proofs.tell.interpret_code.Goals as goal
 
 pub returns-in-0 : goal.returns-in-0

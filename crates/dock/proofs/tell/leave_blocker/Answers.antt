@@ -1,8 +1,6 @@
 -- `dock::tell::leave_blocker` meets its contract: what blocks leaves, and anything else changes nothing. Assumes nothing.
 use mathlib.Core.Path.{sym, ◌∙◌}
-use borrow.Author.Tests.{not-true, not-false}
 use Rattle.dock.specs.Tell.{blockers_without}
-use borrow.Author.Rules.{rules}
 use Rattle.dock.proofs.tell.leave_blocker.Goals as goal
 
 pub returns-then-not-is_blocking : goal.returns-then-not-is_blocking

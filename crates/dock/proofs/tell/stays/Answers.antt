@@ -1,7 +1,6 @@
 -- `dock::tell::stays` meets its contract: the share is filled, the blockers stay. Assumes nothing.
 use mathlib.Core.Path.{ap}
 use Rattle.dock.specs.Begin.{Filled}
-use borrow.Author.Rules.{rules}
 use Rattle.dock.proofs.tell.stays.Goals as goal
 
 pub returns : goal.returns

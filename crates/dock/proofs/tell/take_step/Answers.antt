@@ -1,7 +1,6 @@
 -- `dock::tell::take_step` meets its contract: each step is its case of the definition. Assumes nothing.
 use mathlib.Core.Path.{sym, ap, ◌∙◌}
 use Rattle.dock.specs.Tell.{stepped_at}
-use borrow.Author.Rules.{rules}
 use Rattle.dock.proofs.tell.take_step.Goals as goal
 
 pub stays-requires : goal.stays-requires

@@ -3,12 +3,10 @@ use mathlib.Core.Path.{sym, ap, ◌∙◌}
 use Rattle.dock.specs.Tell.{steps}
 use Rattle.dock.specs.declared.tell.Stepping.{Stepping}
 use native.Mathlib.Omega.{arith}
-use borrow.Author.Tests.{not-true, not-false}
 use lib.ListN.{length}
 use Rattle.dock.proofs.SlotsOf.{share_sound}
 use Rattle.dock.proofs.Steps.{told_none, told_unsound, told_answered, sound_room, leads_in_share}
 use Rattle.dock.proofs.Merging.{in_share}
-use borrow.Author.Rules.{rules}
 use Rattle.dock.specs.SlotLaws.{sound_share}
 use Rattle.dock.proofs.tell.tell_slot.Goals as goal
 

@@ -1,5 +1,4 @@
 -- `dock_c::combined::dock_words_submit_write` meets its contract: what submit gives of what is asked. Assumes nothing.
-use borrow.Author.Rules.{rules}
 use Rattle.dock_c.proofs.combined.dock_words_submit_write.Goals as goal
 
 pub returns : goal.returns

@@ -1,7 +1,6 @@
 -- `dock_c::drive_tables::dock_words_load_table` meets its contract: the number of what loading answers. Assumes nothing.
 use mathlib.Core.Path.{ap, ◌∙◌}
 use Rattle.arithmetic.specs.Refusals.{outcome_number}
-use borrow.Author.Rules.{rules}
 use Rattle.dock_c.proofs.drive_tables.dock_words_load_table.Goals as goal
 
 pub returns : goal.returns

@@ -2,7 +2,6 @@
 use mathlib.Core.Path.{ap, ◌∙◌}
 use Rattle.arithmetic.specs.declared.settings.Profile.{Profile}
 use Rattle.dock_c.specs.Replies.{reply_of, profile_paper}
-use borrow.Author.Rules.{rules}
 use Rattle.dock_c.proofs.drive_tables.dock_words_table_row.Goals as goal
 
 pub returns : goal.returns

@@ -2,7 +2,6 @@
 use mathlib.Core.Path.{ap, ◌∙◌}
 use Rattle.sheets.specs.declared.joining.Joined.{Joined}
 use Rattle.dock_c.specs.Replies.{reply_of, joined_paper}
-use borrow.Author.Rules.{rules}
 use Rattle.dock_c.proofs.parameter_sheets.dock_words_join.Goals as goal
 
 pub returns : goal.returns

@@ -5,7 +5,6 @@ use Rattle.arithmetic.specs.Refusals.{outcome_number}
 use Rattle.blockers.specs.Blockers.{entered_of}
 use Rattle.blockers.specs.declared.Kind.{Kind}
 use Rattle.dock_words.specs.View.{blockers_of}
-use borrow.Author.Rules.{rules}
 use Rattle.dock_c.proofs.parts.dock_words_blockers_enter.Goals as goal
 
 pub returns : goal.returns

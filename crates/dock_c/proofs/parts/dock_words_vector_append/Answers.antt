@@ -5,7 +5,6 @@ use Rattle.vectors.specs.declared.vector.IoVector.{IoVector}
 use Rattle.vectors.specs.declared.vector.Changed.{Changed}
 use Rattle.vectors.specs.Vectors.{append_of}
 use Rattle.vectors.specs.Words.{vector_from, vector_words}
-use borrow.Author.Rules.{rules}
 use Rattle.dock_c.proofs.parts.dock_words_vector_append.Goals as goal
 
 pub returns : goal.returns

@@ -1,7 +1,6 @@
 -- `dock_c::parts::dock_words_vector_copy_into_slice` meets its contract: that of the call on the vector. Assumes nothing.
 use mathlib.Core.Path.{ap, ◌∙◌}
 use Rattle.arithmetic.specs.Refusals.{outcome_number}
-use borrow.Author.Rules.{rules}
 use Rattle.dock_c.proofs.parts.dock_words_vector_copy_into_slice.Goals as goal
 
 pub returns : goal.returns

@@ -4,7 +4,6 @@ use Rattle.vectors.specs.declared.vector.IoVector.{IoVector}
 use Rattle.vectors.specs.declared.vector.Alignment.{Alignment}
 use Rattle.vectors.specs.Vectors.{alignment_of}
 use Rattle.dock_c.specs.Replies.{reply_of, alignment_paper}
-use borrow.Author.Rules.{rules}
 use Rattle.dock_c.proofs.parts.dock_words_vector_is_aligned.Goals as goal
 
 pub returns : goal.returns

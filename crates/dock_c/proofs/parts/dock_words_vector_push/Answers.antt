@@ -4,7 +4,6 @@ use Rattle.arithmetic.specs.Refusals.{outcome_number}
 use Rattle.vectors.specs.declared.vector.IoVector.{IoVector}
 use Rattle.vectors.specs.declared.vector.Changed.{Changed}
 use Rattle.vectors.specs.Vectors.{segment, push_of}
-use borrow.Author.Rules.{rules}
 use Rattle.vectors.specs.Words.{vector_words}
 use Rattle.dock_c.proofs.parts.dock_words_vector_push.Goals as goal
 

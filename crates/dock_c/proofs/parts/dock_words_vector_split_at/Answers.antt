@@ -7,7 +7,6 @@ use Rattle.vectors.specs.declared.vector.Halves.{Halves}
 use Rattle.vectors.specs.Vectors.{split_of}
 use Rattle.vectors.specs.Words.{vector_from, vector_words}
 use Rattle.dock_c.specs.Replies.{reply_of, split_paper}
-use borrow.Author.Rules.{rules}
 use Rattle.dock_c.proofs.parts.dock_words_vector_split_at.Goals as goal
 
 pub returns-in_default : goal.returns-in_default

@@ -4,7 +4,6 @@ use Rattle.vectors.specs.declared.vector.IoVector.{IoVector}
 use Rattle.vectors.specs.declared.vector.Tail.{Tail}
 use Rattle.vectors.specs.Vectors.{split_tail_of}
 use Rattle.dock_c.specs.Replies.{reply_of, split_paper}
-use borrow.Author.Rules.{rules}
 use Rattle.vectors.specs.Words.{vector_words}
 use Rattle.dock_c.proofs.parts.dock_words_vector_split_tail_at.Goals as goal
 

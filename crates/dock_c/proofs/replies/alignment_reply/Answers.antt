@@ -2,7 +2,6 @@
 use mathlib.Core.Path.{sym, ap, ◌∙◌}
 use Rattle.vectors.specs.declared.vector.Alignment.{Alignment}
 use Rattle.dock_c.specs.Replies.{reply_of, numbers, alignment_paper}
-use borrow.Author.Rules.{rules}
 use Rattle.dock_c.proofs.replies.alignment_reply.Goals as goal
 
 pub returns-in-Aligned : goal.returns-in-Aligned

@@ -3,7 +3,6 @@ use mathlib.Core.Path.{sym, ap, ◌∙◌}
 use Rattle.dock_c.specs.Replies.{reply_of, numbers}
 use Rattle.dock.specs.Numbers.{begun_paper}
 use Rattle.dock.specs.declared.begin.Begun.{Begun}
-use borrow.Author.Rules.{rules}
 use Rattle.dock_c.proofs.replies.begun_reply.Goals as goal
 
 pub returns-in-Done : goal.returns-in-Done

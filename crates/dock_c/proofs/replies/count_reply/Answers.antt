@@ -3,7 +3,6 @@ use mathlib.Core.Path.{sym, ap, ◌∙◌}
 use Rattle.dock_c.specs.Replies.{reply_of, numbers}
 use Rattle.dock_c.specs.Replies.{count_paper}
 use Rattle.arithmetic.specs.declared.planner.Count.{Count}
-use borrow.Author.Rules.{rules}
 use Rattle.dock_c.proofs.replies.count_reply.Goals as goal
 
 pub returns-in-Chunks : goal.returns-in-Chunks

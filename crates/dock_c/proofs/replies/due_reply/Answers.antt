@@ -3,7 +3,6 @@ use mathlib.Core.Path.{sym, ap, ◌∙◌}
 use Rattle.dock_c.specs.Replies.{reply_of, numbers}
 use Rattle.dock.specs.Numbers.{due_paper}
 use Rattle.dock.specs.declared.next.Due.{Due}
-use borrow.Author.Rules.{rules}
 use Rattle.dock_c.proofs.replies.due_reply.Goals as goal
 
 pub returns-in-Waiting : goal.returns-in-Waiting

@@ -2,7 +2,6 @@
 use mathlib.Core.Path.{sym, ap, ◌∙◌}
 use Rattle.sheets.specs.declared.joining.Joined.{Joined}
 use Rattle.dock_c.specs.Replies.{reply_of, numbers, joined_paper}
-use borrow.Author.Rules.{rules}
 use Rattle.dock_c.proofs.replies.joined_reply.Goals as goal
 
 pub returns-in-Into : goal.returns-in-Into

@@ -3,7 +3,6 @@ use mathlib.Core.Path.{sym, ap, ◌∙◌}
 use Rattle.dock_c.specs.Replies.{reply_of, numbers}
 use Rattle.dock.specs.Numbers.{piece_paper}
 use Rattle.dock.specs.declared.next.Piece.{Piece}
-use borrow.Author.Rules.{rules}
 use Rattle.dock_c.proofs.replies.piece_reply.Goals as goal
 
 pub returns-in-InData : goal.returns-in-InData

@@ -4,7 +4,6 @@ use Rattle.dock_c.specs.Replies.{reply_of, numbers}
 use Rattle.dock_c.specs.Replies.{planned_paper}
 use Rattle.arithmetic.specs.declared.planner.Planned.{Planned}
 use Prim.Native.Nat.{ℕ}
-use borrow.Author.Rules.{rules}
 use Rattle.dock_c.proofs.replies.planned_reply.Goals as goal
 
 pub returns-in-Chunk : goal.returns-in-Chunk

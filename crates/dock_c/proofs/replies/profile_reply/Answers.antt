@@ -2,7 +2,6 @@
 use mathlib.Core.Path.{sym, ap, ◌∙◌}
 use Rattle.arithmetic.specs.declared.settings.Profile.{Profile}
 use Rattle.dock_c.specs.Replies.{reply_of, numbers, profile_paper}
-use borrow.Author.Rules.{rules}
 use Rattle.dock_c.proofs.replies.profile_reply.Goals as goal
 
 pub returns-in-Of : goal.returns-in-Of

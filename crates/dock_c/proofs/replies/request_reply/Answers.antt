@@ -1,7 +1,6 @@
 -- `dock_c::replies::request_reply` meets its contract: the kind by its number. Assumes nothing.
 use mathlib.Core.Path.{ap, ◌∙◌}
 use Prim.Native.Nat.{ℕ}
-use borrow.Author.Rules.{rules}
 use Rattle.dock_c.proofs.replies.request_reply.Goals as goal
 
 pub returns : goal.returns

@@ -2,7 +2,6 @@
 use mathlib.Core.Path.{sym, ap, ◌∙◌}
 use Rattle.arithmetic.specs.declared.refusals.Outcome.{Outcome}
 use Rattle.dock_c.specs.Replies.{reply_of, numbers, split_paper}
-use borrow.Author.Rules.{rules}
 use Rattle.dock_c.proofs.replies.split_reply.Goals as goal
 
 pub returns-in-Done : goal.returns-in-Done

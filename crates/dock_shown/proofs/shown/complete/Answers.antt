@@ -3,7 +3,6 @@ use mathlib.Core.Path.{ap}
 use Rattle.dock.specs.Tell.{Told}
 use Rattle.dock_shown.specs.ShownLaws.{completed_refused, completed, complete_words, complete_done}
 use Rattle.dock_words.specs.View.{dock_of}
-use borrow.Author.Rules.{rules}
 use Rattle.dock_shown.proofs.shown.complete.Goals as goal
 
 pub returns-in-Refused : goal.returns-in-Refused

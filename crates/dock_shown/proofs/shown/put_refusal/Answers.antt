@@ -2,7 +2,6 @@
 use mathlib.Core.Path.{ap, ◌∙◌}
 use Prim.Native.Nat.{ℕ}
 use Rattle.dock_shown.specs.Shown.{short_words}
-use borrow.Author.Rules.{rules}
 use Rattle.dock_shown.proofs.shown.put_refusal.Goals as goal
 
 pub returns : goal.returns

@@ -2,7 +2,6 @@
 use mathlib.Core.Path.{sym, ap}
 use Rattle.dock_shown.specs.Shown.{Asks, shown_words}
 use Rattle.dock.specs.declared.next.Piece.{Piece}
-use borrow.Author.Rules.{rules}
 use Rattle.dock_shown.proofs.shown.put_request.Goals as goal
 
 pub returns-in-InData : goal.returns-in-InData

@@ -4,7 +4,6 @@ use Prim.Native.Nat.{ℕ}
 use Rattle.dock_shown.specs.Shown.{short_words}
 use Rattle.dock_shown.specs.ShownLaws.{shown_kept, shown_asked, shown_taken}
 use Rattle.dock_words.specs.View.{dock_of}
-use borrow.Author.Rules.{rules}
 use Rattle.dock_shown.proofs.shown.show.Goals as goal
 
 pub returns-in-Refused : goal.returns-in-Refused

@@ -2,7 +2,6 @@
 use mathlib.Core.Path.{refl}
 use Rattle.dock_shown.specs.ShownLaws.{begun_kept, begun_shown}
 use Rattle.dock_words.specs.View.{dock_of}
-use borrow.Author.Rules.{rules}
 use Rattle.dock_shown.proofs.shown.show_begun.Goals as goal
 
 pub returns-in-Done : goal.returns-in-Done

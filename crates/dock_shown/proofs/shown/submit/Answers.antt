@@ -3,7 +3,6 @@ use mathlib.Core.Path.{ap}
 use Rattle.dock.specs.Begin.{Begins}
 use Rattle.dock_shown.specs.ShownLaws.{submitted, submit_words}
 use Rattle.dock_words.specs.View.{dock_of}
-use borrow.Author.Rules.{rules}
 use Rattle.dock_shown.proofs.shown.submit.Goals as goal
 
 pub returns : goal.returns

@@ -6,7 +6,6 @@ use Rattle.dock_words.specs.View.{blockers_of, states_of, vectors_of}
 use Rattle.dock_words.specs.CallWords.{stored_job}
 use Rattle.dock_words.proofs.Begun.{sound_slot}
 use Rattle.dock_words.specs.CallWordsLaws.{same_words}
-use borrow.Author.Rules.{rules}
 use Rattle.dock_words.proofs.begun_words.admit.Goals as goal
 
 pub admit_started-requires : goal.admit_started-requires

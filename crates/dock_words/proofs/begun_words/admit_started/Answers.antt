@@ -1,11 +1,9 @@
 -- `dock_words::begun_words::admit_started` meets its contract: 208 where the blocker cannot enter; filled, and where that was done it enters and the job is stored. Assumes nothing.
 use mathlib.Core.Path.{refl, sym, ◌∙◌}
 use Prim.Native.Nat.{◌*◌}
-use borrow.Author.Tests.{not-true, not-false}
 use Rattle.dock.specs.SlotLaws.{filled_share_lem}
 use Rattle.dock_words.proofs.Begun.{admit_not, admit_refused, admit_done}
 use Rattle.dock_words.specs.CallWordsLaws.{same_words, done_words}
-use borrow.Author.Rules.{rules}
 use Rattle.dock_words.proofs.begun_words.admit_started.Goals as goal
 
 pub returns-then-not-may_enter : goal.returns-then-not-may_enter

@@ -2,7 +2,6 @@
 use mathlib.Core.Path.{sym, ap, ◌∙◌}
 use Rattle.stages.specs.Stages.{is_free}
 use Rattle.dock.specs.Dock.{meets_at, meets_of}
-use borrow.Author.Rules.{rules}
 use Rattle.dock_words.proofs.begun_words.meets_at.Goals as goal
 
 pub returns-then-is_free : goal.returns-then-is_free

@@ -1,11 +1,9 @@
 -- `dock_words::begun_words::overlaps` meets its contract: after i turns it is known of the first i slots. Assumes nothing.
-use borrow.Author.Rules.{rules}
-use mathlib.Core.Path.{◌≡◌, ◌∙◌}
+use mathlib.Core.Path.{◌≡◌}
 use mathlib.Core.Bool.{◌||◌}
 use Prim.Native.Nat.{◌≤◌, ◌-◌}
 use Rattle.arithmetic.specs.Loops.{any_below}
 use Rattle.dock.specs.Dock.{meets_itself, meets_at}
-use Rattle.dock.specs.SlotLaws.{met_none, met_more, met_all}
 use Rattle.dock_words.specs.View.{states_of, vectors_of}
 use Rattle.dock_words.proofs.begun_words.overlaps.Given as goal
 

@@ -2,7 +2,6 @@
 use mathlib.Core.Path.{ap, ◌∙◌}
 use Rattle.blockers.specs.declared.Blockers.{Blockers}
 use Rattle.dock.specs.Begin.{blockers_with}
-use borrow.Author.Rules.{rules}
 use Rattle.dock_words.proofs.blocker_steps.change_blocker.Goals as goal
 
 pub returns : goal.returns

@@ -1,9 +1,7 @@
 -- `dock_words::blocker_steps::enter_blocker` meets its contract: none for a job without, else it enters with its strength. Assumes nothing.
 use mathlib.Core.Path.{refl, sym, ◌∙◌}
-use borrow.Author.Tests.{not-true, not-false}
 use Rattle.dock.specs.Begin.{blockers_with}
 use Rattle.dock_words.specs.CallWordsLaws.{same_words}
-use borrow.Author.Rules.{rules}
 use Rattle.dock_words.proofs.blocker_steps.enter_blocker.Goals as goal
 
 pub returns-then-not-is_blocking : goal.returns-then-not-is_blocking

@@ -1,9 +1,7 @@
 -- `dock_words::blocker_steps::leave_blocker` meets its contract: none for a job without, else it leaves. Assumes nothing.
 use mathlib.Core.Path.{refl, sym, ◌∙◌}
-use borrow.Author.Tests.{not-true, not-false}
 use Rattle.dock.specs.Tell.{blockers_without}
 use Rattle.dock_words.specs.CallWordsLaws.{same_words}
-use borrow.Author.Rules.{rules}
 use Rattle.dock_words.proofs.blocker_steps.leave_blocker.Goals as goal
 
 pub returns-then-not-is_blocking : goal.returns-then-not-is_blocking

@@ -2,7 +2,6 @@
 use mathlib.Core.Path.{sym, ◌∙◌}
 use Rattle.dock_words.specs.View.{blockers_of}
 use Rattle.dock_words.specs.CallWordsLaws.{changes_blocking, changes_plain}
-use borrow.Author.Rules.{rules}
 use Rattle.dock_words.proofs.blocker_steps.may_change.Goals as goal
 
 pub returns-then-is_blocking : goal.returns-then-is_blocking

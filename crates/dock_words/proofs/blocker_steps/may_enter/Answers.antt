@@ -1,10 +1,8 @@
 -- `dock_words::blocker_steps::may_enter` meets its contract: a job with no blocker, or a slot of the eight where none is entered. Assumes nothing.
 use mathlib.Core.Path.{sym, ap, ◌∙◌}
 use mathlib.Core.Bool.{not}
-use borrow.Author.Tests.{not-true, not-false}
 use Rattle.dock_words.specs.View.{blockers_of}
 use Rattle.dock_words.specs.CallWordsLaws.{enters_plain, enters_past, enters_vacant}
-use borrow.Author.Rules.{rules}
 use Rattle.dock_words.proofs.blocker_steps.may_enter.Goals as goal
 
 pub returns-then-not-is_blocking : goal.returns-then-not-is_blocking

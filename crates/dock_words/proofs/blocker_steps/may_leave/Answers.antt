@@ -1,9 +1,7 @@
 -- `dock_words::blocker_steps::may_leave` meets its contract: a job with no blocker, or one whose blocker is entered. Assumes nothing.
 use mathlib.Core.Path.{sym, ◌∙◌}
-use borrow.Author.Tests.{not-true, not-false}
 use Rattle.dock_words.specs.View.{blockers_of}
 use Rattle.dock_words.specs.CallWordsLaws.{leaves_plain, leaves_entered}
-use borrow.Author.Rules.{rules}
 use Rattle.dock_words.proofs.blocker_steps.may_leave.Goals as goal
 
 pub returns-then-not-is_blocking : goal.returns-then-not-is_blocking

@@ -1,8 +1,7 @@
 -- `dock_words::blocker_words::forget` meets its contract: after i turns the first i slots have forgotten `slot`, and the others are as they were. Assumes nothing.
 -- the slots after i turns
-use borrow.Author.Rules.{rules}
 use native.Mathlib.Omega.{arith}
-use Prim.Native.Nat.{ℕ, ◌+◌, ◌*◌, ◌≤◌, ◌<◌, ◌-◌}
+use Prim.Native.Nat.{ℕ, ◌+◌, ◌*◌, ◌<◌}
 use mathlib.Core.Path.{◌≡◌, sym, ap, ◌∙◌}
 use mathlib.Core.List.{List, map}
 use lib.ListN.{length, set, length-map, length-set}
@@ -11,7 +10,7 @@ use Rattle.blockers.specs.declared.Blockers.{Blockers}
 use Rattle.arithmetic.specs.Rows.{rows_length}
 use Rattle.dock_words.specs.View.{blocker_of, blockers_of}
 use Rattle.dock_words.specs.Laws.{note_cleared}
-use Rattle.arithmetic.specs.Loops.{Mapped, mapped_none, mapped_more, like_all}
+use Rattle.arithmetic.specs.Loops.{mapped_none, mapped_more, like_all}
 use Rattle.dock_words.proofs.blocker_words.forget.Invariants.{Forgot}
 use Rattle.dock_words.proofs.blocker_words.forget.Goals as goal
 

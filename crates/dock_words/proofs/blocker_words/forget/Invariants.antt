@@ -1,17 +1,12 @@
 -- `dock_words::blocker_words::forget` meets its contract: after i turns the first i slots have forgotten `slot`, and the others are as they were. Assumes nothing.
 -- the slots after i turns
-use borrow.Author.Rules.{rules}
-use native.Mathlib.Omega.{arith}
-use Prim.Native.Nat.{ℕ, ◌+◌, ◌*◌, ◌≤◌, ◌<◌, ◌-◌}
-use mathlib.Core.Path.{◌≡◌, sym, ap, ◌∙◌}
-use mathlib.Core.List.{List, map}
-use lib.ListN.{length, set, length-map, length-set}
-use Rattle.blockers.specs.Blockers.{blocker_at, nowhere, forgetting}
-use Rattle.blockers.specs.declared.Blockers.{Blockers}
-use Rattle.arithmetic.specs.Rows.{rows_length}
-use Rattle.dock_words.specs.View.{blocker_of, blockers_of}
-use Rattle.dock_words.specs.Laws.{note_cleared}
-use Rattle.arithmetic.specs.Loops.{Mapped, mapped_none, mapped_more, like_all}
+use Prim.Native.Nat.{ℕ, ◌≤◌, ◌-◌}
+use mathlib.Core.Path.{◌≡◌}
+use mathlib.Core.List.{List}
+use lib.ListN.{length}
+use Rattle.blockers.specs.Blockers.{nowhere, forgetting}
+use Rattle.dock_words.specs.View.{blockers_of}
+use Rattle.arithmetic.specs.Loops.{Mapped}
 use Rattle.dock_words.proofs.blocker_words.forget.Given as goal
 
 pub record Forgot (p : ℕ) (w₀ w : List ℕ) (i : ℕ) : Type 0 where

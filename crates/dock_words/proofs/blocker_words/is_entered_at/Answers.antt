@@ -1,7 +1,6 @@
 -- `dock_words::blocker_words::is_entered_at` meets its contract: none past slot 7, else by the word of the kind. Assumes nothing.
 use borrow.Author.Tests.{le-ltb}
 use Rattle.dock_words.specs.Laws.{entered_word}
-use borrow.Author.Rules.{rules}
 use Rattle.dock_words.proofs.blocker_words.is_entered_at.Goals as goal
 
 pub returns-then-slot-ge-SLOTS : goal.returns-then-slot-ge-SLOTS

@@ -1,7 +1,6 @@
 -- `dock_words::blocker_words::is_noted` meets its contract: by what the two tests that it calls ensure. Assumes nothing.
 use Rattle.blockers.specs.Blockers.{notes}
 use Rattle.dock_words.specs.View.{blocker_of}
-use borrow.Author.Rules.{rules}
 use Rattle.dock_words.proofs.blocker_words.is_noted.Goals as goal
 
 pub returns : goal.returns

@@ -1,5 +1,4 @@
 -- `dock_words::blocker_words::leave` meets its contract: each way out is one of the laws on which calls are carried out. Assumes nothing.
-use borrow.Author.Tests.{not-true, not-false}
 use mathlib.Core.Path.{refl, sym, ap, ◌∙◌}
 use Rattle.blockers.specs.Blockers.{present}
 use Rattle.blockers.specs.Laws.{leave_done, leave_past, leave_none}

@@ -1,6 +1,6 @@
 -- `dock_words::blocker_words::notes` meets its contract: after i turns the first i notes are there. Assumes nothing.
 use borrow.Author.Rules.{rules}
-use Prim.Native.Nat.{ℕ, ◌≤◌, ◌-◌}
+use Prim.Native.Nat.{ℕ}
 use mathlib.Core.Path.{◌≡◌, refl, sym, ap, ◌∙◌}
 use mathlib.Core.List.{List}
 use lib.ListN.{length, length-map}
@@ -10,7 +10,7 @@ use Rattle.blockers.specs.declared.Kind.{Kind}
 use Rattle.arithmetic.specs.Rows.{rows_length, row_part, part_length}
 use Rattle.dock_words.specs.View.{blocker_of, blockers_of}
 use Rattle.dock_words.specs.Laws.{note_at}
-use Rattle.arithmetic.specs.Loops.{Like, like_more, like_all}
+use Rattle.arithmetic.specs.Loops.{like_more, like_all}
 use Rattle.dock_words.proofs.blocker_words.notes.Goals as goal
 
 eight : (k : Kind) (r : Range) (w : List ℕ) → length (notes_of k r (blockers_of w)) ≡ 8

@@ -1,14 +1,9 @@
 -- `dock_words::blocker_words::put_blocker` meets its contract: after i turns kind, range and the first i notes are written. Assumes nothing.
-use borrow.Author.Rules.{rules}
-use native.Mathlib.Omega.{arith}
 use Prim.Native.Nat.{◌+◌, ◌≤◌, ◌-◌}
-use mathlib.Core.Path.{◌≡◌, sym, ◌∙◌}
-use mathlib.Core.List.{[], ◌∷◌, map}
-use lib.ListN.{length, length-set}
-use Rattle.dock_words.specs.View.{kind_tag, flag_word, blocker_words}
-use Rattle.dock_words.specs.Laws.{blocker_width, blocker_note}
-use Rattle.arithmetic.specs.Loops.{Like, like_more, like_all}
-use Rattle.dock_words.proofs.Stored.{like_first}
+use mathlib.Core.Path.{◌≡◌}
+use lib.ListN.{length}
+use Rattle.dock_words.specs.View.{blocker_words}
+use Rattle.arithmetic.specs.Loops.{Like}
 use Rattle.dock_words.proofs.blocker_words.put_blocker.Given as goal
 
 abbrev pub invariant-loop-i : goal.invariant-loop-i

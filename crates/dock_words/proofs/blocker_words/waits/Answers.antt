@@ -3,13 +3,13 @@
 use borrow.Author.Rules.{rules}
 use native.Mathlib.Omega.{arith}
 use borrow.Author.Count.{below_none, below_more}
-use Prim.Native.Nat.{ℕ, ◌+◌, ◌*◌, ◌≤◌, ◌<◌, ◌-◌}
+use Prim.Native.Nat.{ℕ, ◌+◌, ◌*◌, ◌<◌}
 use mathlib.Core.Path.{◌≡◌, sym}
-use mathlib.Core.Bool.{Bool, false, ◌&&◌}
+use mathlib.Core.Bool.{Bool, ◌&&◌}
 use mathlib.Core.List.{List}
 use lib.ListN.{get_or}
 use Rattle.arithmetic.specs.Loops.{any_here, any_none}
-use Rattle.blockers.specs.Blockers.{waits_of, present, is_entered, blocker_at, has_noted}
+use Rattle.blockers.specs.Blockers.{waits_of, present}
 use Rattle.blockers.specs.Laws.{past_free}
 use Rattle.arithmetic.specs.Rows.{rows_length}
 use Rattle.dock_words.specs.View.{flag_of, kind_of, blocker_of, blockers_of}

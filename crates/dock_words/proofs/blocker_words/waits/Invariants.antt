@@ -1,19 +1,11 @@
 -- `dock_words::blocker_words::waits` meets its contract: the loop leaves at the first noted slot that is entered, and after i turns none of the first i is one. Assumes nothing.
 -- p waits for q
-use borrow.Author.Rules.{rules}
-use native.Mathlib.Omega.{arith}
-use borrow.Author.Count.{below_none, below_more}
-use Prim.Native.Nat.{ℕ, ◌+◌, ◌*◌, ◌≤◌, ◌<◌, ◌-◌}
-use mathlib.Core.Path.{◌≡◌, sym}
+use Prim.Native.Nat.{ℕ, ◌≤◌, ◌<◌, ◌-◌}
+use mathlib.Core.Path.{◌≡◌}
 use mathlib.Core.Bool.{Bool, false, ◌&&◌}
 use mathlib.Core.List.{List}
-use lib.ListN.{get_or}
-use Rattle.arithmetic.specs.Loops.{any_here, any_none}
-use Rattle.blockers.specs.Blockers.{waits_of, present, is_entered, blocker_at, has_noted}
-use Rattle.blockers.specs.Laws.{past_free}
-use Rattle.arithmetic.specs.Rows.{rows_length}
-use Rattle.dock_words.specs.View.{flag_of, kind_of, blocker_of, blockers_of}
-use Rattle.dock_words.specs.Laws.{kind_word, note_word}
+use Rattle.blockers.specs.Blockers.{is_entered, blocker_at, has_noted}
+use Rattle.dock_words.specs.View.{blockers_of}
 use Rattle.dock_words.proofs.blocker_words.waits.Given as goal
 
 abbrev pub waits_for : List ℕ → ℕ → ℕ → Bool

@@ -1,7 +1,6 @@
 -- `dock_words::calls::begin` meets its contract: each step by its definition, then what is admitted is begun. Assumes nothing.
 use Rattle.dock.specs.SlotLaws.{decided_sound}
 use Rattle.dock_words.proofs.Begun.{begin_there}
-use borrow.Author.Rules.{rules}
 use Rattle.dock_words.proofs.calls.begin.Goals as goal
 
 pub admit-requires : goal.admit-requires

@@ -1,6 +1,6 @@
 -- `dock_words::calls::collect` meets its contract: 205, 208, then the answer, and the slot's rows are vacant. Assumes nothing.
 -- what a collect answers: 205, 208 for a slot past the eight and for a job that has not ended, else the answer
-use borrow.Author.Tests.{not-true, not-false, lt-ltb, le-ltb}
+use borrow.Author.Tests.{lt-ltb, le-ltb}
 use mathlib.Core.Path.{◌≡◌, refl, sym, ap, ◌∙◌}
 use mathlib.Core.Bool.{true, false}
 use mathlib.Core.List.{[]}
@@ -16,7 +16,6 @@ use Rattle.dock.specs.declared.tell.Collected.TheVariants.{Final, Refused}
 use Rattle.dock.specs.declared.dock.Dock.{Dock}
 use Rattle.dock_words.specs.View.{dock_of}
 use Rattle.dock_words.specs.CallWordsLaws.{same_words, done_words}
-use borrow.Author.Rules.{rules}
 use Rattle.dock_words.proofs.calls.collect.Goals as goal
 
 module _ (d : Dock) (p m n : ℕ) where

@@ -1,6 +1,6 @@
 -- `dock_words::calls::next` meets its contract: 205, 208, then what is due. Assumes nothing.
 -- what is due, where the lent buffers fit and the slot is one of the eight
-use borrow.Author.Tests.{not-true, not-false, lt-ltb, le-ltb}
+use borrow.Author.Tests.{lt-ltb, le-ltb}
 use mathlib.Core.Path.{◌≡◌, sym, ◌∙◌}
 use mathlib.Core.Bool.{Bool, true, false}
 use Prim.Native.Nat.{ℕ, ◌<◌}
@@ -11,7 +11,6 @@ use Rattle.dock.specs.Next.{due_in, next_of}
 use Rattle.dock.specs.declared.next.Due.{Due}
 use Rattle.dock.specs.declared.dock.Dock.{Dock}
 use Rattle.dock_words.specs.View.{buffers_of, dock_of}
-use borrow.Author.Rules.{rules}
 use Rattle.dock_words.proofs.calls.next.Goals as goal
 
 module _ (d : Dock) (p m n : ℕ) (f : lent_fits d.buffers m n ≡ true) (h : p < 8) where

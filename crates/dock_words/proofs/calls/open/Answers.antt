@@ -1,7 +1,6 @@
 -- `dock_words::calls::open` meets its contract: a refused opening writes no word, an accepted one those of a dock with free slots. Assumes nothing.
 use Rattle.dock.specs.Dock.{open_of}
 use Rattle.dock_words.specs.CallWordsLaws.{refused_opening, done_opening}
-use borrow.Author.Rules.{rules}
 use Rattle.dock_words.proofs.calls.open.Goals as goal
 
 pub returns-in_default : goal.returns-in_default

@@ -1,7 +1,6 @@
 -- `dock_words::calls::open_by` meets its contract: each profile is its case of the definition. Assumes nothing.
 use mathlib.Core.Path.{refl}
 use Rattle.dock_words.specs.CallWordsLaws.{not_opened, same_words}
-use borrow.Author.Rules.{rules}
 use Rattle.dock_words.proofs.calls.open_by.Goals as goal
 
 pub returns-in-Of : goal.returns-in-Of

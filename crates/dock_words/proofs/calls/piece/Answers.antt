@@ -1,5 +1,5 @@
 -- `dock_words::calls::piece` meets its contract: 205, 208, then the piece of the slot's job. Assumes nothing.
-use borrow.Author.Tests.{not-true, not-false, lt-ltb, le-ltb}
+use borrow.Author.Tests.{lt-ltb, le-ltb}
 use mathlib.Core.Path.{◌≡◌, sym, ◌∙◌}
 use mathlib.Core.Bool.{true, false, and-false}
 use Prim.Native.Nat.{ℕ, ◌<◌}
@@ -14,7 +14,6 @@ use Rattle.dock.specs.declared.next.Piece.{Piece}
 use Rattle.dock.specs.declared.next.Piece.TheVariants.{Refused}
 use Rattle.dock.specs.declared.dock.Dock.{Dock}
 use Rattle.dock_words.specs.View.{buffers_of, dock_of}
-use borrow.Author.Rules.{rules}
 use Rattle.dock_words.proofs.calls.piece.Goals as goal
 
 module _ (d : Dock) (p i m n : ℕ) (f : lent_fits d.buffers m n ≡ true) where

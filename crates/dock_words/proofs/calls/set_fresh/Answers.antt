@@ -15,7 +15,6 @@ use Rattle.dock.specs.Dock.{vacant, fresh}
 use Rattle.dock_words.specs.View.{settings_words, state_from, stage_of, phase_of, job_of, course_of, kind_of, blocker_of, blockers_of, states_of, vectors_of, dock_of}
 use Rattle.vectors.specs.Words.{segment_of, vector_from}
 use Rattle.arithmetic.specs.Rows.{rows_same}
-use borrow.Author.Rules.{rules}
 use Rattle.dock_words.proofs.calls.set_fresh.Goals as goal
 
 free-blockers : blockers_of (replicate 88 0) ≡ no_blockers

@@ -1,9 +1,7 @@
 -- `dock_words::calls::tell` meets its contract: 205, 208, then what the code does to the slot. Assumes nothing.
 use mathlib.Core.Path.{sym, ◌∙◌}
-use borrow.Author.Tests.{not-true, not-false}
 use Rattle.dock_words.proofs.Told.{tell_not_lent, tell_no_slot, tell_there}
 use Rattle.dock_words.specs.CallWordsLaws.{same_words}
-use borrow.Author.Rules.{rules}
 use Rattle.dock_words.proofs.calls.tell.Goals as goal
 
 pub returns-then-not-lent_fits : goal.returns-then-not-lent_fits

@@ -4,7 +4,6 @@ use lib.ListN.{length-set}
 use mathlib.Core.Path.{sym}
 use Rattle.dock_words.specs.View.{settings_words}
 use Rattle.dock_words.proofs.Stored.{whole}
-use borrow.Author.Rules.{rules}
 use Rattle.dock_words.proofs.setting_words.put_settings.Goals as goal
 
 pub bounds-words-4 : goal.bounds-words-4

@@ -4,7 +4,7 @@ use lib.ListN.{length, get_or}
 use borrow.Author.Rules.{rules}
 use native.Mathlib.Omega.{arith}
 use borrow.Author.Count.{below_none, below_more}
-use Prim.Native.Nat.{ℕ, ◌*◌, ◌≤◌, ◌<◌, ◌-◌}
+use Prim.Native.Nat.{ℕ, ◌*◌, ◌<◌}
 use mathlib.Core.Path.{◌≡◌, ap, sym, ◌∙◌}
 use mathlib.Core.Bool.{Bool}
 use Rattle.stages.specs.Stages.{is_free}
@@ -12,7 +12,7 @@ use Rattle.dock.specs.Dock.{no_state}
 use Rattle.arithmetic.specs.Rows.{rows_length}
 use Rattle.dock_words.specs.View.{phase_of, state_from, states_of}
 use Rattle.dock_words.specs.Laws.{phase_word}
-use Rattle.dock.specs.SlotLaws.{NoneFree, lowest_here, lowest_none}
+use Rattle.dock.specs.SlotLaws.{lowest_here, lowest_none}
 use Rattle.dock_words.proofs.state_words.first_free.Goals as goal
 use Rattle.dock_words.proofs.state_words.first_free.Goals.{After-is_free}
 

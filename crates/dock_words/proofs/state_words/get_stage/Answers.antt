@@ -1,6 +1,5 @@
 -- `dock_words::state_words::get_stage` meets its contract: each part is read where `stage_of` has it. Assumes nothing.
 use Rattle.dock_words.specs.View.{stage_of}
-use borrow.Author.Rules.{rules}
 use Rattle.dock_words.proofs.state_words.get_stage.Goals as goal
 
 pub returns : goal.returns

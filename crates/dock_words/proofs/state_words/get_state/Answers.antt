@@ -1,6 +1,5 @@
 -- `dock_words::state_words::get_state` meets its contract: each part is read where `state_from` has it. Assumes nothing.
 use Rattle.dock_words.specs.View.{state_from}
-use borrow.Author.Rules.{rules}
 use Rattle.dock_words.proofs.state_words.get_state.Goals as goal
 
 pub returns : goal.returns

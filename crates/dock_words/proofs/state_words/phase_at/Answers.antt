@@ -1,7 +1,6 @@
 -- `dock_words::state_words::phase_at` meets its contract: the phase stands in its word. Assumes nothing.
 use mathlib.Core.Path.{sym, ◌∙◌}
 use Rattle.dock_words.specs.Laws.{phase_word}
-use borrow.Author.Rules.{rules}
 use Rattle.dock_words.proofs.state_words.phase_at.Goals as goal
 
 pub returns : goal.returns

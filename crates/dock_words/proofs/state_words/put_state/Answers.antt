@@ -4,7 +4,6 @@ use lib.ListN.{length-set}
 use mathlib.Core.Path.{sym}
 use Rattle.dock_words.specs.View.{state_words}
 use Rattle.dock_words.proofs.Stored.{whole}
-use borrow.Author.Rules.{rules}
 use Rattle.dock_words.proofs.state_words.put_state.Goals as goal
 
 pub put_range-requires : goal.put_range-requires

@@ -3,7 +3,6 @@ use mathlib.Core.Path.{sym, ap, ◌∙◌}
 use Rattle.arithmetic.specs.Rows.{row_part}
 use Rattle.dock_words.specs.View.{state_from}
 use Rattle.dock_words.specs.Laws.{state_row}
-use borrow.Author.Rules.{rules}
 use Rattle.dock_words.proofs.state_words.state_at.Goals as goal
 
 pub returns : goal.returns

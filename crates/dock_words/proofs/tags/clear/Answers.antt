@@ -1,10 +1,10 @@
 -- `dock_words::tags::clear` meets its contract: after i turns the first i words are 0. Assumes nothing.
 use borrow.Author.Rules.{rules}
 use native.Mathlib.Omega.{arith}
-use Prim.Native.Nat.{ℕ, ◌+◌, ◌≤◌, ◌<◌, ◌-◌}
-use mathlib.Core.Path.{◌≡◌, refl, sym, ◌∙◌}
+use Prim.Native.Nat.{ℕ, ◌+◌, ◌<◌}
+use mathlib.Core.Path.{refl, sym, ◌∙◌}
 use lib.ListN.{length, replicate, length-replicate, get_or-replicate}
-use Rattle.arithmetic.specs.Loops.{Like, like_more, like_all}
+use Rattle.arithmetic.specs.Loops.{like_more, like_all}
 use Rattle.dock_words.proofs.tags.clear.Goals as goal
 
 pub loop-i-init : goal.loop-i-init

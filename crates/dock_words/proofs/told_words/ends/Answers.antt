@@ -2,14 +2,12 @@
 use mathlib.Core.Path.{sym, ap, ◌∙◌}
 use Prim.Native.Nat.{◌*◌}
 use lib.ListN.{get_or}
-use borrow.Author.Tests.{not-true, not-false}
 use Rattle.dock.specs.Dock.{no_vector}
 use Rattle.dock_words.specs.View.{vectors_of}
 use Rattle.dock.specs.SlotLaws.{handed_share_lem}
 use Rattle.dock_words.proofs.Told.{ends_not, ends_refused, ends_done}
 use Rattle.dock_words.specs.CallWordsLaws.{same_words, done_words}
 use Rattle.arithmetic.specs.Refusals.{is_done}
-use borrow.Author.Rules.{rules}
 use Rattle.dock_words.proofs.told_words.ends.Goals as goal
 
 pub returns-then-not-may_leave : goal.returns-then-not-may_leave

@@ -2,13 +2,11 @@
 use mathlib.Core.Path.{refl, sym, ◌∙◌}
 use Prim.Native.Nat.{◌*◌}
 use lib.ListN.{get_or}
-use borrow.Author.Tests.{not-true, not-false}
 use Rattle.dock.specs.Dock.{no_vector}
 use Rattle.dock_words.specs.View.{vectors_of}
 use Rattle.dock.specs.SlotLaws.{filled_share_lem}
 use Rattle.dock_words.proofs.Told.{enters_not, enters_refused, enters_done}
 use Rattle.dock_words.specs.CallWordsLaws.{same_words, done_words}
-use borrow.Author.Rules.{rules}
 use Rattle.dock_words.proofs.told_words.enters.Goals as goal
 
 pub returns-then-not-may_change : goal.returns-then-not-may_change

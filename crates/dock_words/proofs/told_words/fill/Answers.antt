@@ -1,8 +1,6 @@
 -- `dock_words::told_words::fill` meets its contract: nothing is moved, or by the slot's vector. Assumes nothing.
 use mathlib.Core.Path.{sym, ◌∙◌}
-use borrow.Author.Tests.{not-true}
 use Rattle.dock.specs.Slots.{filled_share}
-use borrow.Author.Rules.{rules}
 use Rattle.dock_words.proofs.told_words.fill.Goals as goal
 
 pub returns-then-not-is_bounced_write : goal.returns-then-not-is_bounced_write

@@ -1,8 +1,6 @@
 -- `dock_words::told_words::hand_out` meets its contract: nothing is moved, or by the slot's vector. Assumes nothing.
 use mathlib.Core.Path.{sym, ◌∙◌}
-use borrow.Author.Tests.{not-true}
 use Rattle.dock.specs.Slots.{handed_share}
-use borrow.Author.Rules.{rules}
 use Rattle.dock_words.proofs.told_words.hand_out.Goals as goal
 
 pub returns-then-not-is_bounced_read : goal.returns-then-not-is_bounced_read

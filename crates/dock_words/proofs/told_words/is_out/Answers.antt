@@ -2,7 +2,6 @@
 use mathlib.Core.Path.{sym, ap, ◌∙◌}
 use mathlib.Core.Bool.{not}
 use Rattle.dock.specs.Dock.{is_out_by}
-use borrow.Author.Rules.{rules}
 use Rattle.dock_words.proofs.told_words.is_out.Goals as goal
 
 pub returns-then-is_free : goal.returns-then-is_free

@@ -7,7 +7,6 @@ use Rattle.dock_words.specs.View.{vectors_of}
 use Rattle.dock.specs.SlotLaws.{filled_share_lem}
 use Rattle.dock_words.proofs.Told.{stays_refused, stays_done}
 use Rattle.dock_words.specs.CallWordsLaws.{same_words, done_words}
-use borrow.Author.Rules.{rules}
 use Rattle.dock_words.proofs.told_words.stays.Goals as goal
 
 pub returns-in_default : goal.returns-in_default

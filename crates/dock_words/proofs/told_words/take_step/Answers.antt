@@ -8,7 +8,6 @@ use Rattle.dock.specs.Tell.{stepped_at}
 use Rattle.dock_words.specs.View.{blockers_of, states_of, vectors_of}
 use Rattle.dock_words.specs.CallWords.{stored_words}
 use Rattle.dock_words.specs.CallWordsLaws.{same_words}
-use borrow.Author.Rules.{rules}
 use Rattle.dock_words.proofs.told_words.take_step.Goals as goal
 
 pub stays-requires : goal.stays-requires

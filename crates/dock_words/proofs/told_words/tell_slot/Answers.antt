@@ -1,13 +1,11 @@
 -- `dock_words::told_words::tell_slot` meets its contract: 208, 209, then the step that the code leads to, whose job is sound there. Assumes nothing.
 use mathlib.Core.Path.{sym, ◌∙◌}
 use lib.ListN.{length, get_or}
-use borrow.Author.Tests.{not-true, not-false}
 use Rattle.dock.specs.Dock.{no_vector}
 use Rattle.dock.specs.SlotLaws.{leads_sound}
 use Rattle.dock_words.specs.View.{vectors_of}
 use Rattle.dock_words.proofs.Told.{told_not_out, told_not_sound, told_no_answer, told_leads}
 use Rattle.dock_words.specs.CallWordsLaws.{same_words}
-use borrow.Author.Rules.{rules}
 use Rattle.dock_words.proofs.told_words.tell_slot.Goals as goal
 
 pub returns-then-not-is_out : goal.returns-then-not-is_out

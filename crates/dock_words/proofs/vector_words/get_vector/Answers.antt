@@ -1,6 +1,6 @@
 -- `dock_words::vector_words::get_vector` meets its contract: after i turns the first i segments are read. Assumes nothing.
 use borrow.Author.Rules.{rules}
-use Prim.Native.Nat.{ℕ, ◌≤◌, ◌-◌}
+use Prim.Native.Nat.{ℕ}
 use mathlib.Core.List.{List}
 use mathlib.Core.Path.{◌≡◌, refl, sym}
 use lib.ListN.{length, drop}
@@ -8,7 +8,7 @@ use Rattle.vectors.specs.Vectors.{none}
 use Rattle.arithmetic.specs.Rows.{rows_length}
 use Rattle.vectors.specs.Words.{vector_from, segment_of}
 use Rattle.vectors.specs.WordLaws.{segment_words_lem}
-use Rattle.arithmetic.specs.Loops.{Like, like_more, like_all}
+use Rattle.arithmetic.specs.Loops.{like_more, like_all}
 use Rattle.dock_words.proofs.vector_words.get_vector.Goals as goal
 
 sixteen : (w : List ℕ) → length (vector_from w).segments ≡ 16

@@ -1,13 +1,13 @@
 -- `dock_words::vector_words::put_vector` meets its contract: after i turns the words of the first i segments are written. Assumes nothing.
 use borrow.Author.Rules.{rules}
 use native.Mathlib.Omega.{arith}
-use Prim.Native.Nat.{◌+◌, ◌*◌, ◌≤◌, ◌-◌}
+use Prim.Native.Nat.{◌+◌, ◌*◌}
 use mathlib.Core.Path.{◌≡◌, sym, ◌∙◌}
 use mathlib.Core.List.{[], ◌∷◌}
 use lib.ListN.{length, length-set}
 use Rattle.vectors.specs.Words.{vector_words, segment_words}
 use Rattle.vectors.specs.WordLaws.{vector_width, vector_start, vector_length}
-use Rattle.arithmetic.specs.Loops.{array_long, Like, like_more, like_all}
+use Rattle.arithmetic.specs.Loops.{array_long, like_more, like_all}
 use Rattle.dock_words.proofs.Stored.{like_first}
 use Rattle.dock_words.proofs.vector_words.put_vector.Goals as goal
 

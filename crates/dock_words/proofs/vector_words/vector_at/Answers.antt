@@ -3,7 +3,6 @@ use mathlib.Core.Path.{sym, ap, ◌∙◌}
 use Rattle.arithmetic.specs.Rows.{row_part}
 use Rattle.vectors.specs.Words.{vector_from}
 use Rattle.dock_words.specs.Laws.{vector_row}
-use borrow.Author.Rules.{rules}
 use Rattle.dock_words.proofs.vector_words.vector_at.Goals as goal
 
 pub returns : goal.returns

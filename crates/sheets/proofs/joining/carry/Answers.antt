@@ -2,7 +2,6 @@
 use native.Mathlib.Omega.{arith}
 use Prim.Native.Nat.{◌+◌, ◌-◌}
 use Rattle.vectors.specs.ByteLaws.{copied_back}
-use borrow.Author.Rules.{rules}
 use Rattle.sheets.proofs.joining.carry.Goals as goal
 
 pub returns : goal.returns

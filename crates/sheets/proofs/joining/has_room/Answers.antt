@@ -2,7 +2,6 @@
 use mathlib.Core.Path.{sym, ap, ◌∙◌}
 use lib.Dec.{leb}
 use Rattle.sheets.proofs.Answering.{room_for_all}
-use borrow.Author.Rules.{rules}
 use Rattle.sheets.proofs.joining.has_room.Goals as goal
 
 pub returns-then-holds_all : goal.returns-then-holds_all

@@ -1,10 +1,7 @@
 -- `sheets::joining::holds_all` meets its contract: in every turn what is left is the room for the writes behind. Assumes nothing.
-use mathlib.Core.Path.{◌≡◌, sym}
-use Prim.Native.Nat.{◌-◌}
-use lib.ListN.{length}
-use Rattle.sheets.specs.Sheets.{writes_in}
+use mathlib.Core.Path.{sym}
 use Rattle.sheets.proofs.Words.{writes_length}
-use Rattle.sheets.proofs.Answering.{Left, left_none, left_all, left_over, left_more}
+use Rattle.sheets.proofs.Answering.{left_none, left_all, left_over, left_more}
 use borrow.Author.Rules.{rules}
 use Rattle.sheets.proofs.joining.holds_all.Goals as goal
 

@@ -1,6 +1,6 @@
 -- `sheets::joining::join` meets its contract, test by test. Assumes nothing.
 use mathlib.Core.Path.{sym, ◌∙◌}
-use borrow.Author.Tests.{leb-true, not-true, not-false}
+use borrow.Author.Tests.{leb-true}
 use Rattle.sheets.specs.Sheets.{writes_in}
 use Rattle.sheets.proofs.Answering.{joins_unfit, joins_no_room, joins_all}
 use borrow.Author.Rules.{rules}

@@ -1,13 +1,9 @@
 -- `sheets::joining::look` meets its contract: in every turn the stretch has one owner, by the writes before. Assumes nothing.
-use mathlib.Core.Path.{◌≡◌, ◌∙◌}
-use mathlib.Core.Logic.{⊎_elim}
-use Prim.Native.Nat.{◌-◌, ◌<◌}
+use mathlib.Core.Path.{◌≡◌}
+use Prim.Native.Nat.{◌-◌}
 use lib.ListN.{length}
 use Rattle.sheets.specs.Sheets.{writes_in}
-use Rattle.sheets.proofs.Words.{writes_length}
-use Rattle.sheets.proofs.Testing.{sound_of}
-use Rattle.sheets.proofs.Looking.{Looked, looked_none, looked_all, looked_same, looked_before, looked_in, looked_past}
-use borrow.Author.Rules.{rules}
+use Rattle.sheets.proofs.Looking.{Looked}
 use Rattle.sheets.proofs.joining.look.Given as goal
 
 abbrev pub invariant-loop-i : goal.invariant-loop-i

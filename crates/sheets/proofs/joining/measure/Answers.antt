@@ -1,11 +1,8 @@
 -- `sheets::joining::measure` meets its contract: in every turn the total is that of the ranges before `at`. Assumes nothing.
-use mathlib.Core.Path.{◌≡◌, sym, ap, ◌∙◌}
-use Prim.Native.Nat.{◌-◌, ◌≤◌}
-use lib.ListN.{length}
+use mathlib.Core.Path.{sym, ap, ◌∙◌}
 use Rattle.sheets.specs.Sheets.{writes_in, total_of}
 use Rattle.sheets.proofs.Words.{writes_length}
-use Rattle.sheets.specs.SheetLaws.{top}
-use Rattle.sheets.proofs.Sweep.{So_far, none_total, all_now, past, total_over, over_most}
+use Rattle.sheets.proofs.Sweep.{none_total, all_now, past, total_over, over_most}
 use borrow.Author.Rules.{rules}
 use Rattle.sheets.proofs.joining.measure.Goals as goal
 

@@ -1,12 +1,10 @@
 -- `sheets::joining::measure` meets its contract: in every turn the total is that of the ranges before `at`. Assumes nothing.
-use mathlib.Core.Path.{◌≡◌, sym, ap, ◌∙◌}
+use mathlib.Core.Path.{◌≡◌}
 use Prim.Native.Nat.{◌-◌, ◌≤◌}
 use lib.ListN.{length}
 use Rattle.sheets.specs.Sheets.{writes_in, total_of}
-use Rattle.sheets.proofs.Words.{writes_length}
 use Rattle.sheets.specs.SheetLaws.{top}
-use Rattle.sheets.proofs.Sweep.{So_far, none_total, all_now, past, total_over, over_most}
-use borrow.Author.Rules.{rules}
+use Rattle.sheets.proofs.Sweep.{So_far}
 use Rattle.sheets.proofs.joining.measure.Given as goal
 
 abbrev pub invariant-loop-at : goal.invariant-loop-at

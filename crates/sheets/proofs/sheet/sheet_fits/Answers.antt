@@ -1,11 +1,7 @@
 -- `sheets::sheet::sheet_fits` meets its contract: in every turn all writes before are sound. Assumes nothing.
-use mathlib.Core.Path.{◌≡◌, sym}
-use Prim.Native.Nat.{◌-◌}
-use lib.ListN.{length}
-use borrow.Author.Tests.{not-true, not-false}
-use Rattle.sheets.specs.Sheets.{writes_in}
+use mathlib.Core.Path.{sym}
 use Rattle.sheets.proofs.Words.{writes_length}
-use Rattle.sheets.proofs.Testing.{sheet_long, Tested, tested_none, tested_all, tested_not, tested_more}
+use Rattle.sheets.proofs.Testing.{sheet_long, tested_none, tested_all, tested_not, tested_more}
 use borrow.Author.Rules.{rules}
 use Rattle.sheets.proofs.sheet.sheet_fits.Goals as goal
 

@@ -1,14 +1,11 @@
 -- `tables::table::load` meets its contract: in every turn the table is what is read and what the rest of the bytes adds. Assumes nothing.
 -- a start that is not `Record`
-use native.Mathlib.Omega.{arith}
 use mathlib.Core.Path.{◌≡◌, refl, sym, ◌∙◌}
 use mathlib.Core.Logic.{◌⊎◌, inl, inr}
-use Prim.Native.Nat.{◌-◌}
-use lib.ListN.{length}
 use Rattle.records.specs.declared.Header.{Header}
 use Rattle.records.specs.declared.Start.{Start}
 use Rattle.records.specs.declared.Start.TheVariants.{End, Broken, Record}
-use Rattle.tables.proofs.Loading.{Reading, reading_none, starts, broken_here, room, passed_on, row_read, refused_by, ended}
+use Rattle.tables.proofs.Loading.{reading_none, starts, broken_here, room, passed_on, row_read, refused_by, ended}
 use Rattle.tables.specs.TablesLaws.{entry_row}
 use borrow.Author.Rules.{rules}
 use Rattle.tables.proofs.table.load.Goals as goal
@@ -24,7 +21,6 @@ loop-at-init c = rw c.make_rows-rows.ensures (reading_none c.args.bytes.now)
 pub returns-in_default : goal.returns-in_default
 returns-in_default c = let l = c.loop-at in
     c.refuse.ensures ∙ sym (broken_here l.invariant (search rules) (no_record _ c.in_default.not-Record (sym (starts c.args.bytes.now l.at c.first_record.ensures))))
-
 
 pub overflow_add-body : goal.overflow_add-body
 overflow_add-body c = search (rules, room c.loop-at.invariant c.in-Record.record (starts c.args.bytes.now c.loop-at.at c.first_record.ensures ∙ c.in-Record.is))

@@ -2,7 +2,6 @@
 use mathlib.Core.Path.{sym, ap, ◌∙◌}
 use Rattle.records.specs.Records.{little_endian}
 use Rattle.records.specs.RecordsLaws.{four_from}
-use borrow.Author.Rules.{rules}
 use Rattle.tables.proofs.table.number_at.Goals as goal
 
 pub returns : goal.returns

@@ -1,6 +1,5 @@
 -- `tables::table::read_row` meets its contract. Assumes nothing.
 use Rattle.tables.specs.Tables.{row_of}
-use borrow.Author.Rules.{rules}
 use Rattle.tables.proofs.table.read_row.Goals as goal
 
 pub returns : goal.returns

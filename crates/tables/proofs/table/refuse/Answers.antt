@@ -1,5 +1,4 @@
 -- `tables::table::refuse` meets its contract. Assumes nothing.
-use borrow.Author.Rules.{rules}
 use Rattle.tables.proofs.table.refuse.Goals as goal
 
 pub returns : goal.returns

@@ -1,6 +1,5 @@
 -- `tables::words::load_words` meets its contract: a refused load writes no word, an accepted one all of them. Assumes nothing.
 use Rattle.tables.specs.WordsLaws.{loads_refused, loads_done}
-use borrow.Author.Rules.{rules}
 use Rattle.tables.proofs.words.load_words.Goals as goal
 
 pub returns-in_default : goal.returns-in_default

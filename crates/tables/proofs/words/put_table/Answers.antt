@@ -1,9 +1,9 @@
 -- `tables::words::put_table` meets its contract: after i turns the words of the first i rows are written. Assumes nothing.
 use native.Mathlib.Omega.{arith}
-use Prim.Native.Nat.{◌+◌, ◌*◌, ◌-◌, ◌≤◌}
+use Prim.Native.Nat.{◌+◌, ◌*◌}
 use mathlib.Core.Path.{◌≡◌, refl, sym, ◌∙◌}
 use lib.ListN.{length, get_or, length-set}
-use Rattle.arithmetic.specs.Loops.{array_long, Like, like_more, like_all}
+use Rattle.arithmetic.specs.Loops.{array_long, like_more, like_all}
 use Rattle.tables.specs.Tables.{no_row}
 use Rattle.tables.specs.Words.{table_words}
 use Rattle.tables.specs.WordsLaws.{table_long, mem_word, req_word, zero_word, discard_word}

@@ -2,7 +2,6 @@
 use Rattle.stages.specs.declared.state.Job.TheVariants.{Discard}
 use Rattle.vectors.specs.declared.vector.IoVector.{IoVector}
 use mathlib.Core.Path.{ap}
-use borrow.Author.Rules.{rules}
 use Rattle.dock.proofs.begin.Asked.discard.Goals as goal
 
 pub returns : goal.returns

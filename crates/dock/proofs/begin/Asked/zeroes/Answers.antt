@@ -4,7 +4,6 @@ use mathlib.Core.List.{[]}
 use Rattle.vectors.specs.Vectors.{vector_of}
 use Rattle.stages.specs.declared.state.Job.{Job}
 use Rattle.vectors.specs.declared.vector.IoVector.{IoVector}
-use borrow.Author.Rules.{rules}
 use Rattle.dock.proofs.begin.Asked.zeroes.Goals as goal
 
 pub returns : goal.returns

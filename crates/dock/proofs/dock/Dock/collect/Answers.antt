@@ -1,6 +1,6 @@
 -- `dock::dock::Dock::collect` meets its contract: 205, 208, then the answer, and the slot is vacant. Assumes nothing.
 -- what a collect answers: 205, 208 for a slot past the eight and for a job that has not ended, else the answer
-use borrow.Author.Tests.{not-true, not-false, lt-ltb, le-ltb}
+use borrow.Author.Tests.{lt-ltb, le-ltb}
 use mathlib.Core.Path.{◌≡◌, sym, ◌∙◌}
 use mathlib.Core.Bool.{true, false}
 use mathlib.Core.List.{[]}
@@ -17,7 +17,6 @@ use Rattle.dock.specs.declared.tell.Collects.{Collects}
 use lib.ListN.{length}
 use Rattle.dock.specs.Dock.{lent_fits, state_at, vacant}
 use Rattle.dock.specs.Tell.{collect_of}
-use borrow.Author.Rules.{rules}
 use Rattle.dock.proofs.dock.Dock.collect.Goals as goal
 use Rattle.dock.proofs.dock.Dock.collect.Goals.{Else-not-lent_fits}
 

@@ -1,6 +1,6 @@
 -- `dock::dock::Dock::next` meets its contract: 205, 208, then what is due. Assumes nothing.
 -- what is due, where the lent buffers fit and the slot is one of the eight
-use borrow.Author.Tests.{not-true, not-false, lt-ltb, le-ltb}
+use borrow.Author.Tests.{lt-ltb, le-ltb}
 use mathlib.Core.Path.{◌≡◌, sym, ap, ◌∙◌}
 use mathlib.Core.Bool.{Bool, true}
 use Prim.Native.Nat.{ℕ, ◌<◌}
@@ -10,7 +10,6 @@ use lib.ListN.{length}
 use Rattle.dock.specs.Dock.{lent_fits, state_at, vector_at}
 use Rattle.dock.specs.Next.{due_in, next_of}
 use Rattle.dock.specs.declared.next.Due.{Due}
-use borrow.Author.Rules.{rules}
 use Rattle.dock.proofs.dock.Dock.next.Goals as goal
 use Rattle.dock.proofs.dock.Dock.next.Goals.{Else-not-lent_fits}
 

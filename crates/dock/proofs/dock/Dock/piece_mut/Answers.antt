@@ -1,7 +1,6 @@
 -- `dock::dock::Dock::piece_mut` meets its contract: the bytes at the piece's place, none where it is refused. Assumes nothing.
 use mathlib.Core.Path.{sym, ap, ◌∙◌}
 use lib.ListN.{length}
-use borrow.Author.Tests.{not-true, not-false}
 use Rattle.dock.specs.Next.{bytes_at, piece_bytes}
 use Rattle.dock.specs.declared.next.Piece.{Piece}
 use Rattle.dock.proofs.SlotsOf.{piece_unlent, piece_no_slot, piece_there}

@@ -1,6 +1,5 @@
 -- `dock::dock::Dock::piece_place` meets its contract: 205, then 208 past the last slot, then the slot's piece. Assumes nothing.
 use mathlib.Core.Path.{sym, ◌∙◌}
-use borrow.Author.Tests.{not-true, not-false}
 use Rattle.dock.proofs.SlotsOf.{piece_unlent, piece_no_slot, piece_there}
 use borrow.Author.Rules.{rules}
 use Rattle.dock.proofs.dock.Dock.piece_place.Goals as goal

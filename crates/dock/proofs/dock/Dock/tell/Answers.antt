@@ -1,6 +1,5 @@
 -- `dock::dock::Dock::tell` meets its contract: 205, then 208 past the last slot, then what the slot's tell leaves, stored where it is done. Assumes nothing.
 use mathlib.Core.Path.{sym, ◌∙◌}
-use borrow.Author.Tests.{not-true, not-false}
 use Rattle.dock.proofs.Steps.{tell_buffer, tell_slot, tell_refused, tell_stored}
 use borrow.Author.Rules.{rules}
 use Rattle.dock.proofs.dock.Dock.tell.Goals as goal

@@ -1,6 +1,5 @@
 -- `dock::next::Due::number` meets its contract: each arm's number is its case of the definition. Assumes nothing.
 use mathlib.Core.Path.{sym, ap, ◌∙◌}
-use borrow.Author.Rules.{rules}
 use Rattle.dock.specs.Numbers.{due_paper}
 use Rattle.dock.specs.declared.next.Due.{Due}
 use Rattle.dock.specs.declared.numbers.Number.TheVariants.{Of}

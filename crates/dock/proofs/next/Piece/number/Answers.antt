@@ -1,6 +1,5 @@
 -- `dock::next::Piece::number` meets its contract: each arm's number is its case of the definition. Assumes nothing.
 use mathlib.Core.Path.{sym, ap, ◌∙◌}
-use borrow.Author.Rules.{rules}
 use Rattle.dock.specs.Numbers.{piece_paper}
 use Rattle.dock.specs.declared.next.Piece.{Piece}
 use Rattle.dock.specs.declared.numbers.Number.TheVariants.{Of}

@@ -1,6 +1,5 @@
 -- `dock::tell::Collected::number` meets its contract: each arm's number is its case of the definition. Assumes nothing.
 use mathlib.Core.Path.{sym, ap, ◌∙◌}
-use borrow.Author.Rules.{rules}
 use Rattle.dock.specs.Numbers.{collected_paper}
 use Rattle.dock.specs.declared.tell.Collected.{Collected}
 use Rattle.dock.specs.declared.numbers.Number.TheVariants.{Of}
