@@ -23,7 +23,7 @@ import shutil
 import sys
 
 ROOT = pathlib.Path(__file__).resolve().parent.parent
-SYSTEM = re.compile(r"\b(std::)?(io|fs|env|time)::|\bHostRuntime\b|\bprint(ln)?!")  # what reads, prints or calls the system
+SYSTEM = re.compile(r"\bstd::(io|fs|env|time)\b|\b(io|fs|env)::|\bHostRuntime\b|\bprint(ln)?!")  # reading, printing, the system
 TYPE = re.compile(r"(pub(\(crate\))? )?(struct|enum) ")
 CODE = re.compile(r"(pub(\(crate\))? )?(extern \"C\" )?fn |impl\b")
 CONST = re.compile(r"(pub(\(crate\))? )?const (\w+):")
