@@ -1,5 +1,5 @@
 /*
- * The dock: byte ranges over an aligned drive, for C99 and C++. Link with libdock_c.a (`rt staticlib dock_c`).
+ * The dock: byte ranges over an aligned drive, for C99 and C++. Link with libdock_c.a (`rt lib`, in crates/dock_c).
  *
  * A job is begun (read, write, zeroes, discard) over any byte range of the store. dock_next says which aligned request
  * the store must carry out for it, dock_piece where that request's bytes lie, dock_tell hands in the store's code,

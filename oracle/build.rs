@@ -3,8 +3,8 @@
 use std::env;
 use std::path::PathBuf;
 
-/// Where `rt staticlib dock_c` leaves it, seen from this package.
-const FOLDER: &str = "../target/staticlib";
+/// Where `rt lib` in crates/dock_c leaves it, seen from this package.
+const FOLDER: &str = "../crates/dock_c/out";
 const FILE: &str = "libdock_c.a";
 
 fn main() {
@@ -14,7 +14,7 @@ fn main() {
     let folder = package.join(env::var_os("DOCK_LIB").unwrap_or_else(|| FOLDER.into()));
     println!("cargo:rerun-if-changed={}", folder.join(FILE).display());
     if !folder.join(FILE).is_file() {
-        println!("cargo:warning=built without the dock: DOCK_LIB, or target/staticlib, has no {FILE}");
+        println!("cargo:warning=built without the dock: DOCK_LIB, or crates/dock_c/out, has no {FILE}");
         return;
     }
     println!("cargo:rustc-cfg=dock");

@@ -7,14 +7,14 @@ COPY is a folder that is not there yet, or an empty one. It gets crates.txt and,
 src/ with its types alone: functions go, and proofs/ with them. A crate that had no function keeps its proofs/: there
 they prove theorems on definitions. Then
 
-    cd COPY && rt check
+    cd COPY && rt all check
 
 proves every law and every theorem, since they speak of definitions and types, never of code. It takes seconds in place
 of minutes. It says nothing of the code: a change that holds there is carried over to src/ and proofs/ afterwards.
 
-Without CRATE the copy has every crate that has specs/ and does not read, print or call the system; with CRATE those
-named and what they depend on. Must-fail edits are left out, since they change code; those of a crate without code are
-kept. docs/MAINTAINER.md has the way of working.
+Without CRATE the copy has every crate that has specs/ and does not read or print; with CRATE those named and what
+they depend on. A static library is a plain one there, since it exports nothing. Must-fail edits are left out, since
+they change code; those of a crate without code are kept. docs/MAINTAINER.md has the way of working.
 """
 
 import pathlib
@@ -23,11 +23,11 @@ import shutil
 import sys
 
 ROOT = pathlib.Path(__file__).resolve().parent.parent
-SYSTEM = {"io", "os", "libc"}  # crates of the kit that read, print or call the system
+SYSTEM = re.compile(r"\bstd::(io|fs|env|time)\b|\b(io|fs|env)::|\bHostRuntime\b|\bprint(ln)?!")  # reading, printing, the system
 TYPE = re.compile(r"(pub(\(crate\))? )?(struct|enum) ")
 CODE = re.compile(r"(pub(\(crate\))? )?(extern \"C\" )?fn |impl\b")
 CONST = re.compile(r"(pub(\(crate\))? )?const (\w+):")
-USE = re.compile(r"use .*::(\w+);")
+USE = re.compile(r"(pub(\(crate\))? )?use ([\w:]+)::(?:\{([^}]*)\}|(\w+));")
 
 
 def fail(message):
@@ -41,18 +41,23 @@ def read_crates():
     for line in (ROOT / "crates.txt").read_text().splitlines():
         if line.strip() and not line.startswith("#"):
             name, needs = line.split(":", 1)
-            crates[name.strip()] = needs.split()
+            crates[name.split()[0]] = needs.split()  # `NAME staticlib: ..`, too
     return crates
+
+
+def calls_system(name):
+    source = ROOT / "crates" / name / "src"
+    return (source / "main.rt").is_file() or any(SYSTEM.search(file.read_text()) for file in source.rglob("*.rt"))
 
 
 def choose(crates, named):
     """The crates of the copy, in the order of crates.txt."""
     if not named:
-        return [c for c in crates if (ROOT / "crates" / c / "specs").is_dir() and not SYSTEM & set(crates[c])]
+        return [c for c in crates if (ROOT / "crates" / c / "specs").is_dir() and not calls_system(c)]
     for name in named:
         if name not in crates:
             fail(f"crates.txt has no crate {name}")
-        if SYSTEM & set(crates[name]):
+        if calls_system(name):
             fail(f"crate {name} reads, prints or calls the system: it has nothing to try without code")
     wanted = set(named).union(*(crates[name] for name in named))
     return [c for c in crates if c in wanted]
@@ -61,13 +66,14 @@ def choose(crates, named):
 def split_items(text):
     """The items of a formatted file, each as a list of lines: attributes and comments stand with the item below them.
 
-    An item starts at a line that is not indented, and ends at its own ';' or at a '}' that is not indented."""
+    An item starts at a line that is not indented, and ends at its own ';' or at a '}' or '];' that is not indented; an
+    attribute of the whole file (`#![..]`) is one."""
     items, lines, open_item = [], [], False
     for line in text.splitlines():
         lines.append(line)
         bare = line.split("//", 1)[0].rstrip()
         if open_item:
-            open_item = not line.startswith("}")
+            open_item = not line.startswith(("}", "];"))
         elif not bare or line.startswith("#["):
             if not line:
                 lines.pop()
@@ -75,7 +81,7 @@ def split_items(text):
                 lines = []
             continue
         else:
-            open_item = not bare.endswith((";", "}"))
+            open_item = not bare.endswith((";", "}")) and not line.startswith("#![")
         if not open_item:
             items.append(lines)
             lines = []
@@ -87,18 +93,28 @@ def first_line(item):
     return next((line for line in item if line and not line.startswith(("//", "#["))), "")
 
 
+def needed_use(item, words):
+    """Of a use the names that stand in words, as a use of those; or nothing. A `ghost use` goes with the contracts."""
+    use = USE.match(" ".join(" ".join(line for line in item if not line.startswith(("//", "#["))).split()))
+    names = [name for name in re.findall(r"\w+", use.group(4) or use.group(5)) if name in words] if use else []
+    if not names:
+        return ""
+    return f"{use.group(1) or ''}use {use.group(3)}::{names[0] if len(names) == 1 else '{' + ', '.join(names) + '}'};"
+
+
 def strip(text):
-    """A file's types, with the modules, constants and uses that they need."""
+    """A file's types, with the modules, attributes of the file, constants and uses that they need."""
     items = split_items(text)
     kept = [i for i in items if TYPE.match(first_line(i))]
     words = set(re.findall(r"\w+", "\n".join("\n".join(i) for i in kept)))
     out = []
     for item in items:
         line = first_line(item)
-        const, use = CONST.match(line), USE.match(line)
-        needed = (const and const.group(3) in words) or (use and use.group(1) in words)
-        if TYPE.match(line) or needed or re.match(r"(pub )?mod ", line) or not line:
+        const = CONST.match(line)
+        if TYPE.match(line) or line.startswith("#![") or (const and const.group(3) in words) or re.match(r"(pub )?mod ", line) or not line:
             out.append("\n".join(item))
+        elif use := needed_use(item, words):
+            out.append(use)
     return "\n".join(out) + "\n"
 
 
@@ -132,7 +148,7 @@ def main():
     for name in chosen:
         print(f"{name}: {'types and specs' if copy_crate(name, copy) else 'whole'}")
     (copy / "crates.txt").write_text("".join(f"{name}: {' '.join(crates[name])}".rstrip() + "\n" for name in chosen))
-    print(f"{len(chosen)} crates in {copy}: 'rt check' there proves their laws and theorems")
+    print(f"{len(chosen)} crates in {copy}: 'rt all check' there proves their laws and theorems")
 
 
 if __name__ == "__main__":

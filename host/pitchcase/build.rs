@@ -6,7 +6,7 @@ use std::process::Command;
 
 fn main() {
     let here = env::var("CARGO_MANIFEST_DIR").expect("cargo sets it");
-    let made = Path::new(&here).join("../../target/staticlib");
+    let made = Path::new(&here).join("../../crates/dock_c/out");
     let library = env::var_os("DOCK_LIB").map_or(made, PathBuf::from).join("libdock_c.a");
     println!("cargo:rerun-if-env-changed=DOCK_LIB");
     println!("cargo:rerun-if-changed={}", library.display());

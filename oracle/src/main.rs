@@ -82,7 +82,7 @@ fn share(number: u64) -> Result<u64, String> {
 }
 
 fn options(mut args: env::Args) -> Result<Options, String> {
-    let (program, out) = ("../target/bin/replay".to_owned(), "../crates/imago_list".to_owned());
+    let (program, out) = ("../crates/replay/out/replay".to_owned(), "../crates/imago_list".to_owned());
     let mut o = Options { run: Run::of(10_000, 1), against: Against::Rules, share: None, fault: None, program, out };
     while let Some(arg) = args.next() {
         match arg.as_str() {
@@ -157,7 +157,7 @@ mod dock {
 mod dock {
     use super::*;
 
-    const NONE: &str = "built without the dock: make libdock_c.a (rt staticlib dock_c), or name its folder by DOCK_LIB";
+    const NONE: &str = "built without the dock: make libdock_c.a (rt lib in crates/dock_c), or set DOCK_LIB";
 
     pub fn lists(_: &Options) -> Result<(Progress, Option<Found>), String> {
         Err(NONE.to_owned())
