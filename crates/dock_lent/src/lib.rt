@@ -1,7 +1,6 @@
 // The dock's calls with the dock lent, for a host that keeps it in place: as `&mut Dock` where the call alters it, as `&Dock` where it does
 // not. Each calls the one of crate dock, which takes the dock by value, and stores the dock that this returned. So each has that call's
-// contract, of the dock as it was lent and as it is given back. The proofs are walks of this code, which tools/lent_walk writes: its README
-// says how.
+// contract, of the dock as it was lent and as it is given back. The check finds their proofs by itself.
 #![tactic(auto)]
 
 ghost use Rattle.std.specs.Prelude.{◌≡◌, length};

@@ -1,5 +1,4 @@
 -- `arithmetic::padding::pad` meets its contract: past 201 the alignments are what `padded` asks. Assumes nothing.
--- past the test the alignments fit
 use mathlib.Core.Path.{◌≡◌, sym, ◌∙◌}
 use mathlib.Core.Bool.{true}
 use Rattle.arithmetic.specs.Settings.{alignments_fit}
@@ -8,6 +7,7 @@ use Rattle.arithmetic.specs.Padding.{padding_of}
 use Rattle.arithmetic.proofs.padding.pad.Goals as goal
 use Rattle.arithmetic.proofs.padding.pad.Goals.{Else-not-is_fit}
 
+-- past the test the alignments fit
 fit_is : (c : Else-not-is_fit) → alignments_fit c.args.align ≡ true
 fit_is c = sym c.is_fit.ensures ∙ c.if-not-is_fit.false
 

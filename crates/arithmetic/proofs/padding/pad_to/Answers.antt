@@ -1,5 +1,4 @@
 -- `arithmetic::padding::pad_to` meets its contract: each sum that fits is the definition's, and the first that does not is its 207. Assumes nothing.
--- ---- the four sums, each with what it was asked for
 use mathlib.Core.Path.{◌≡◌, ◌∙◌}
 use Prim.Native.Nat.{ℕ, ◌-◌, ◌<◌, ◌≤◌}
 use native.Mathlib.Omega.{arith}
@@ -25,9 +24,9 @@ e3 c = cc
 e4 : (c : In-Fits-add) → sum_of c.round_down-start.result c.in-Fits-round_up-2.length ≡ Fits c.in-Fits-add.padded_end
 e4 c = cc
 
-start-lies : (c : After-round_down-start) → c.round_down-start.result ≤ c.args.at
+start_lies : (c : After-round_down-start) → c.round_down-start.result ≤ c.args.at
 unfolding padded_start
-start-lies c =
+start_lies c =
     let a = c.args in
     let p = c.requires in
     omega (arith, c.round_down-start.ensures, start_le a.r a.l a.at a.n p.0 p.1 p.3)
@@ -52,8 +51,8 @@ lies c =
     }
 
 -- the asked offset lies behind the padded start, so in the buffer
-in-buffer-is : (c : After-in_buffer) → c.in_buffer.result ≡ BufferAt (buffer_at (c.args.at - c.round_down-start.result))
-in-buffer-is c = c.in_buffer.ensures ∙ in_buffer_at _ _ (start-lies c.before.before.before.before.before)
+in_buffer_is : (c : After-in_buffer) → c.in_buffer.result ≡ BufferAt (buffer_at (c.args.at - c.round_down-start.result))
+in_buffer_is c = c.in_buffer.ensures ∙ in_buffer_at _ _ (start_lies c.before.before.before.before.before)
 
 pub returns-in_default : goal.returns-in_default
 returns-in_default c = over_end _ _ _ _ (cc)
@@ -67,7 +66,7 @@ overflow_sub-rounded c = let a = c.args in
     let p = c.requires in
     omega (
       arith,
-      start-lies c,
+      start_lies c,
       c.round_down-start.ensures,
       rounded_is a.r a.l a.at a.n c.in-Fits.end c.in-Fits-round_up.rounded c.round_down-start.result (e1 c.before.before.before) (e2 c.before) c.round_down-start.ensures,
       rounded_ge a.r a.l a.at a.n p.0 p.1 p.3,
@@ -80,10 +79,10 @@ pub returns-in_default-add : goal.returns-in_default-add
 returns-in_default-add c = over_padded _ _ _ _ c.in-Fits.end c.in-Fits-round_up.rounded c.round_down-start.result c.in-Fits-round_up-2.length (e1 c.before.before.before.before.before.before.before) (e2 c.before.before.before.before.before) c.round_down-start.ensures (e3 c.before.before) (cc)
 
 pub returns-in_default-in_buffer : goal.returns-in_default-in_buffer
-returns-in_default-in_buffer c = let e = in-buffer-is c.before in let z : ◌≡◌ {A = ℕ} 0 1 = cc in absurd (omega arith)
+returns-in_default-in_buffer c = let e = in_buffer_is c.before in let z : ◌≡◌ {A = ℕ} 0 1 = cc in absurd (omega arith)
 
 pub overflow_sub-at : goal.overflow_sub-at
-overflow_sub-at c = start-lies c.before.before.before.before.before.before
+overflow_sub-at c = start_lies c.before.before.before.before.before.before
 
 pub round_edge-requires : goal.round_edge-requires
 round_edge-requires c = (lies c.before.before).head
@@ -95,7 +94,7 @@ pub round_edge-requires-2 : goal.round_edge-requires-2
 round_edge-requires-2 c = (lies c.before.before.before).tail
 
 pub returns : goal.returns
-returns c = let e = in-buffer-is c.before.before.before in
+returns c = let e = in_buffer_is c.before.before.before in
     let g : c.in-At.head ≡ buffer_at (c.args.at - c.round_down-start.result) = cc in
     padded_all _ _ _ _ c.in-Fits.end c.in-Fits-round_up.rounded c.round_down-start.result c.in-Fits-round_up-2.length (e1 c.before.before.before.before.before.before.before.before.before.before.before) (e2 c.before.before.before.before.before.before.before.before.before) c.round_down-start.ensures (e3 c.before.before.before.before.before.before)
     c.in-Fits-add.padded_end c.round_edge.result c.round_edge-2.result _ (e4 c.before.before.before.before) g c.round_edge.ensures c.round_edge-2.ensures

@@ -1,5 +1,4 @@
 -- `arithmetic::padding::plan_transfer` meets its contract: 201, 207, direct, then as padded. Assumes nothing.
--- past the first test the alignments fit
 use mathlib.Core.Path.{◌≡◌, sym, ap, ◌∙◌}
 use mathlib.Core.Bool.{true}
 use Rattle.arithmetic.specs.Settings.{alignments_fit}
@@ -12,6 +11,7 @@ use Prim.Native.Nat.{◌+◌}
 use Rattle.arithmetic.proofs.padding.plan_transfer.Goals as goal
 use Rattle.arithmetic.proofs.padding.plan_transfer.Goals.{Else-not-is_fit, In-Fits}
 
+-- past the first test the alignments fit
 fit_is : (c : Else-not-is_fit) → alignments_fit c.args.align ≡ true
 fit_is c = sym c.is_fit.ensures ∙ c.if-not-is_fit.false
 

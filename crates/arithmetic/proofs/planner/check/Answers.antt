@@ -1,5 +1,4 @@
 -- `arithmetic::planner::check` meets its contract: 201, 210, 207. Assumes nothing.
--- past the first test the settings fit
 use mathlib.Core.Path.{◌≡◌, sym, ◌∙◌}
 use mathlib.Core.Bool.{true, ◌&&◌}
 use Rattle.arithmetic.specs.Rounding.{is_multiple}
@@ -11,6 +10,7 @@ use borrow.Author.Tests.{lt-leb, le-leb}
 use Rattle.arithmetic.proofs.planner.check.Goals as goal
 use Rattle.arithmetic.proofs.planner.check.Goals.{After-is_multiple-ends, Else-not-is_fit}
 
+-- past the first test the settings fit
 fit_is : (c : Else-not-is_fit) → settings_fit c.args.settings ≡ true
 fit_is c = sym c.is_fit.ensures ∙ c.if-not-is_fit.false
 

@@ -1,5 +1,4 @@
 -- `arithmetic::planner::chunk_at` meets its contract: a chunk that starts within the range, or the end. Assumes nothing.
--- what is known of a chunk that starts within the range
 use native.Mathlib.Omega.{arith}
 use Prim.Native.Nat.{◌+◌, ◌*◌, ◌<◌, ◌^◌, ◌≤◌}
 use native.Mathlib.Nat.{add_assoc}
@@ -10,6 +9,7 @@ use borrow.Author.Rules.{rules}
 use Rattle.arithmetic.proofs.planner.chunk_at.Goals as goal
 use Rattle.arithmetic.proofs.planner.chunk_at.Goals.{Else-full-i}
 
+-- what is known of a chunk that starts within the range
 skip : (c : Else-full-i) → c.args.i * c.args.bounce ≤ c.args.n
 skip c = starts_within c.args.bounce c.args.n c.requires.0 c.args.i (search rules)
 

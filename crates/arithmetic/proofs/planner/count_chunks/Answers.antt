@@ -1,5 +1,4 @@
 -- `arithmetic::planner::count_chunks` meets its contract: the count of a plan that is not refused. Assumes nothing.
--- a plan that is not refused
 use mathlib.Core.Path.{◌≡◌, sym, ◌∙◌}
 use Rattle.arithmetic.specs.SettingsLaws.{accepted}
 use Rattle.arithmetic.specs.PlannerLaws.{plan_done}
@@ -8,6 +7,7 @@ use Rattle.arithmetic.specs.declared.refusals.Outcome.TheVariants.{Done, Refused
 use Rattle.arithmetic.proofs.planner.count_chunks.Goals as goal
 use Rattle.arithmetic.proofs.planner.count_chunks.Goals.{In-Done}
 
+-- a plan that is not refused
 done : (c : In-Done) → c.check.result ≡ Done
 done c = cc
 

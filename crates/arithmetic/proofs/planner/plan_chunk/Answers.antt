@@ -1,5 +1,4 @@
 -- `arithmetic::planner::plan_chunk` meets its contract: a chunk of a plan that is not refused. Assumes nothing.
--- a plan that is not refused
 use mathlib.Core.Path.{◌≡◌, sym, ◌∙◌}
 use Rattle.arithmetic.specs.SettingsLaws.{accepted}
 use Rattle.arithmetic.specs.PlannerLaws.{plan_done}
@@ -8,6 +7,7 @@ use Rattle.arithmetic.specs.declared.refusals.Outcome.TheVariants.{Done, Refused
 use Rattle.arithmetic.proofs.planner.plan_chunk.Goals as goal
 use Rattle.arithmetic.proofs.planner.plan_chunk.Goals.{In-Done}
 
+-- a plan that is not refused
 done : (c : In-Done) → c.check.result ≡ Done
 done c = cc
 

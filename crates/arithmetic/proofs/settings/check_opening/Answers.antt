@@ -1,11 +1,11 @@
 -- `arithmetic::settings::check_opening` meets its contract: 201, then 205. Assumes nothing.
--- past the first test the settings fit
 use mathlib.Core.Path.{◌≡◌, sym, ◌∙◌}
 use mathlib.Core.Bool.{true}
 use Rattle.arithmetic.specs.Settings.{opening_of, settings_fit}
 use Rattle.arithmetic.proofs.settings.check_opening.Goals as goal
 use Rattle.arithmetic.proofs.settings.check_opening.Goals.{Else-not-is_fit}
 
+-- past the first test the settings fit
 fit_is : (c : Else-not-is_fit) → settings_fit c.args.s ≡ true
 fit_is c = sym c.is_fit.ensures ∙ c.if-not-is_fit.false
 

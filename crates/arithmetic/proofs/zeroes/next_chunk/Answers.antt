@@ -1,5 +1,4 @@
 -- `arithmetic::zeroes::next_chunk` meets its contract: 201, an empty range, then the chunk, which lies within the range. Assumes nothing.
--- past the first test the settings fit, past the second the range is not empty
 use mathlib.Core.Path.{◌≡◌, sym, ◌∙◌}
 use mathlib.Core.Bool.{true}
 use borrow.Author.Tests.{ltb-true}
@@ -13,6 +12,7 @@ use Rattle.arithmetic.specs.ZeroesLaws.{chunk_within}
 use Rattle.arithmetic.proofs.zeroes.next_chunk.Goals as goal
 use Rattle.arithmetic.proofs.zeroes.next_chunk.Goals.{Else-not-has_bytes, Else-not-is_fit}
 
+-- past the first test the settings fit, past the second the range is not empty
 fit_is : (c : Else-not-is_fit) → settings_fit c.args.settings ≡ true
 fit_is c = sym c.is_fit.ensures ∙ c.if-not-is_fit.false
 

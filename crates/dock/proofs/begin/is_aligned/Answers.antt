@@ -1,5 +1,4 @@
 -- `dock::begin::is_aligned` meets its contract: any answer of `IoVector::is_aligned` but one is no alignment. Assumes nothing.
--- an answer that is not `Aligned`
 use mathlib.Core.Path.{sym, ◌∙◌}
 use Rattle.dock.proofs.begin.is_aligned.Goals as goal
 

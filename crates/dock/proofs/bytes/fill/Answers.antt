@@ -1,5 +1,4 @@
 -- `dock::bytes::fill` meets its contract: a write from the bounce buffer is merged in its share, which lies in the scratch; any other phase leaves it. Assumes nothing.
--- a share that is filled lies in the scratch
 use mathlib.Core.Path.{sym, ap, ◌∙◌}
 use Prim.Native.Nat.{ℕ, ◌+◌, ◌≤◌}
 use native.Mathlib.Omega.{arith}
@@ -11,6 +10,7 @@ use Rattle.dock.specs.SlotLaws.{writes_use}
 use Rattle.dock.proofs.bytes.fill.Goals as goal
 use Rattle.dock.proofs.bytes.fill.Goals.{Then-is_bounced_write}
 
+-- a share that is filled lies in the scratch
 lies : (c : Then-is_bounced_write) → c.args.share + c.args.x.stage.head.0 + size_of c.args.x.stage.asked ≤ length c.args.scratch.now
 lies c = c.requires (writes_use c.args.x.phase (sym c.is_bounced_write.ensures ∙ c.if-is_bounced_write.true))
 

@@ -1,5 +1,4 @@
 -- `dock::bytes::hand_out` meets its contract: a padded read told 0 is copied out of its share, which lies in the scratch; anything else leaves the data. Assumes nothing.
--- a padded read that was told 0
 use mathlib.Core.Path.{◌≡◌, sym, ap, ◌∙◌}
 use mathlib.Core.Bool.{Bool, true, ◌&&◌}
 use lib.Dec.{eqb}
@@ -13,6 +12,7 @@ use Rattle.dock.proofs.Merging.{reads_use, handed_read, handed_none}
 use Rattle.dock.proofs.bytes.hand_out.Goals as goal
 use Rattle.dock.proofs.bytes.hand_out.Goals.{Then-read}
 
+-- a padded read that was told 0
 read : (c : Then-read) → (is_bounced_read c.args.x.phase && eqb c.args.code 0) ≡ true
 read c = ap (λ (t : Bool). t && eqb c.args.code 0) (sym c.is_bounced_read.ensures) ∙ c.if-read.true
 

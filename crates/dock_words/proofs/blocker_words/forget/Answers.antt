@@ -1,5 +1,4 @@
 -- `dock_words::blocker_words::forget` meets its contract: after i turns the first i slots have forgotten `slot`, and the others are as they were. Assumes nothing.
--- the slots after i turns
 use native.Mathlib.Omega.{arith}
 use Prim.Native.Nat.{ℕ, ◌+◌, ◌*◌, ◌<◌}
 use mathlib.Core.Path.{◌≡◌, sym, ap, ◌∙◌}

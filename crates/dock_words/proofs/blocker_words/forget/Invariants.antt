@@ -1,5 +1,4 @@
 -- `dock_words::blocker_words::forget` meets its contract: after i turns the first i slots have forgotten `slot`, and the others are as they were. Assumes nothing.
--- the slots after i turns
 use Prim.Native.Nat.{ℕ, ◌≤◌, ◌-◌}
 use mathlib.Core.Path.{◌≡◌}
 use mathlib.Core.List.{List}
@@ -9,6 +8,7 @@ use Rattle.dock_words.specs.View.{blockers_of}
 use Rattle.arithmetic.specs.Loops.{Mapped}
 use Rattle.dock_words.proofs.blocker_words.forget.Given as goal
 
+-- the slots after i turns
 pub record Forgot (p : ℕ) (w₀ w : List ℕ) (i : ℕ) : Type 0 where
   pub turns : i ≤ 8
   pub words : length w ≡ 88

@@ -1,5 +1,4 @@
 -- `dock_words::blocker_words::waits` meets its contract: the loop leaves at the first noted slot that is entered, and after i turns none of the first i is one. Assumes nothing.
--- p waits for q
 use borrow.Author.Rules.{rules}
 use native.Mathlib.Omega.{arith}
 use borrow.Author.Count.{below_none, below_more}

@@ -1,5 +1,4 @@
 -- `dock_words::calls::collect` meets its contract: 205, 208, then the answer, and the slot's rows are vacant. Assumes nothing.
--- what a collect answers: 205, 208 for a slot past the eight and for a job that has not ended, else the answer
 use borrow.Author.Tests.{lt-ltb, le-ltb}
 use mathlib.Core.Path.{◌≡◌, refl, sym, ap, ◌∙◌}
 use mathlib.Core.Bool.{true, false}
@@ -18,6 +17,7 @@ use Rattle.dock_words.specs.View.{dock_of}
 use Rattle.dock_words.specs.CallWordsLaws.{same_words, done_words}
 use Rattle.dock_words.proofs.calls.collect.Goals as goal
 
+-- what a collect answers: 205, 208 for a slot past the eight and for a job that has not ended, else the answer
 module _ (d : Dock) (p m n : ℕ) where
   unlent : lent_fits d.buffers m n ≡ false → (Refused Buffer ≡ (collect_of d p m n).answer) × (d ≡ (collect_of d p m n).dock)
   unfolding collect_of
@@ -28,9 +28,9 @@ module _ (d : Dock) (p m n : ℕ) where
     unfolding collect_of
     no_slot h = simp (f, le-ltb p 8 h) (refl, refl)
 
-    not-ended : p < 8 → has_ended (state_at d p).phase ≡ false → (Refused Slot ≡ (collect_of d p m n).answer) × (d ≡ (collect_of d p m n).dock)
+    not_ended : p < 8 → has_ended (state_at d p).phase ≡ false → (Refused Slot ≡ (collect_of d p m n).answer) × (d ≡ (collect_of d p m n).dock)
     unfolding collect_of
-    not-ended h e = simp (f, lt-ltb p 8 h, e) (refl, refl)
+    not_ended h e = simp (f, lt-ltb p 8 h, e) (refl, refl)
 
     collected : (c : Dock) → p < 8 → has_ended (state_at d p).phase ≡ true → c ≡ record { settings = d.settings; buffers = d.buffers; blockers = d.blockers; states = set d.states p vacant; vectors = set d.vectors p (vector_of []) } → (Final (state_at d p).answer ≡ (collect_of d p m n).answer) × (c ≡ (collect_of d p m n).dock)
     unfolding collect_of
@@ -43,7 +43,7 @@ pub returns-then-slot-ge-SLOTS : goal.returns-then-slot-ge-SLOTS
 returns-then-slot-ge-SLOTS c = record { dock = (let a = c.args in no_slot (dock_of a.settings.now a.blockers.now a.states.now a.vectors.now) a.slot a.data_len a.scratch_len (rw (← c.get_buffers-lent.ensures) (sym c.lent_fits.ensures ∙ c.if-not-lent_fits.false)) c.if-slot-ge-SLOTS.true); words = (same_words _ _, same_words _ _) }
 
 pub returns-then-not-has_ended : goal.returns-then-not-has_ended
-returns-then-not-has_ended c = record { dock = (let a = c.args in not-ended (dock_of a.settings.now a.blockers.now a.states.now a.vectors.now) a.slot a.data_len a.scratch_len (rw (← c.get_buffers-lent.ensures) (sym c.lent_fits.ensures ∙ c.if-not-lent_fits.false)) c.if-slot-ge-SLOTS.false (rw (← c.state_at-x.ensures) (sym c.has_ended.ensures ∙ c.if-not-has_ended.true))); words = (same_words _ _, same_words _ _) }
+returns-then-not-has_ended c = record { dock = (let a = c.args in not_ended (dock_of a.settings.now a.blockers.now a.states.now a.vectors.now) a.slot a.data_len a.scratch_len (rw (← c.get_buffers-lent.ensures) (sym c.lent_fits.ensures ∙ c.if-not-lent_fits.false)) c.if-slot-ge-SLOTS.false (rw (← c.state_at-x.ensures) (sym c.has_ended.ensures ∙ c.if-not-has_ended.true))); words = (same_words _ _, same_words _ _) }
 
 pub put_state_at-requires : goal.put_state_at-requires
 put_state_at-requires c = (c.requires.2, c.if-slot-ge-SLOTS.false)

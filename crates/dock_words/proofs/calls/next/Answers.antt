@@ -1,5 +1,4 @@
 -- `dock_words::calls::next` meets its contract: 205, 208, then what is due. Assumes nothing.
--- what is due, where the lent buffers fit and the slot is one of the eight
 use borrow.Author.Tests.{lt-ltb, le-ltb}
 use mathlib.Core.Path.{◌≡◌, sym, ◌∙◌}
 use mathlib.Core.Bool.{Bool, true, false}
@@ -13,10 +12,11 @@ use Rattle.dock.specs.declared.dock.Dock.{Dock}
 use Rattle.dock_words.specs.View.{buffers_of, dock_of}
 use Rattle.dock_words.proofs.calls.next.Goals as goal
 
+-- what is due, where the lent buffers fit and the slot is one of the eight
 module _ (d : Dock) (p m n : ℕ) (f : lent_fits d.buffers m n ≡ true) (h : p < 8) where
-  due-there : {r : Due} {x : State} {w : Bool} {k : ℕ} → x ≡ state_at d p → w ≡ waits_of p d.blockers → k ≡ (vector_at d p).count → r ≡ due_in x w k → r ≡ next_of d p m n
+  due_there : {r : Due} {x : State} {w : Bool} {k : ℕ} → x ≡ state_at d p → w ≡ waits_of p d.blockers → k ≡ (vector_at d p).count → r ≡ due_in x w k → r ≡ next_of d p m n
   unfolding next_of
-  due-there x w k e = simp (f, lt-ltb p 8 h) (e ∙ rw (x, w, k))
+  due_there x w k e = simp (f, lt-ltb p 8 h) (e ∙ rw (x, w, k))
 
 pub returns-then-not-lent_fits : goal.returns-then-not-lent_fits
 unfolding next_of
@@ -27,4 +27,4 @@ unfolding next_of
 returns-then-slot-ge-SLOTS c = let a = c.args in let f : lent_fits (buffers_of a.settings.now) a.data_len a.scratch_len ≡ true = rw (← c.get_buffers-lent.ensures) (sym c.lent_fits.ensures ∙ c.if-not-lent_fits.false) in simp (f, le-ltb a.slot 8 c.if-slot-ge-SLOTS.true)
 
 pub returns : goal.returns
-returns c = let a = c.args in due-there (dock_of a.settings.now a.blockers.now a.states.now a.vectors.now) a.slot a.data_len a.scratch_len (rw (← c.get_buffers-lent.ensures) (sym c.lent_fits.ensures ∙ c.if-not-lent_fits.false)) c.if-slot-ge-SLOTS.false c.state_at-x.ensures c.waits-waiting.ensures c.count_at-count.ensures c.due_now.ensures
+returns c = let a = c.args in due_there (dock_of a.settings.now a.blockers.now a.states.now a.vectors.now) a.slot a.data_len a.scratch_len (rw (← c.get_buffers-lent.ensures) (sym c.lent_fits.ensures ∙ c.if-not-lent_fits.false)) c.if-slot-ge-SLOTS.false c.state_at-x.ensures c.waits-waiting.ensures c.count_at-count.ensures c.due_now.ensures

@@ -17,9 +17,9 @@ use Rattle.dock_words.specs.View.{buffers_of, dock_of}
 use Rattle.dock_words.proofs.calls.piece.Goals as goal
 
 module _ (d : Dock) (p i m n : ℕ) (f : lent_fits d.buffers m n ≡ true) where
-  piece-not : is_out_by d.blockers (state_at d p) p ≡ false → Refused Slot ≡ piece_of d p i m n
+  piece_not : is_out_by d.blockers (state_at d p) p ≡ false → Refused Slot ≡ piece_of d p i m n
   unfolding piece_of is_out
-  piece-not o = simp (f, o, and-false)
+  piece_not o = simp (f, o, and-false)
 
   piece_there : p < 8 → {r : Piece} {x : State} {s : Settings} {b : Buffers} {v : IoVector} → x ≡ state_at d p → is_out_by d.blockers x p ≡ true → s ≡ d.settings → b ≡ d.buffers → v ≡ vector_at d p
       → r ≡ piece_in p s b x v i m → r ≡ piece_of d p i m n
@@ -35,7 +35,7 @@ unfolding piece_of is_out
 returns-then-slot-ge-SLOTS c = let a = c.args in let f : lent_fits (buffers_of a.settings.now) a.data_len a.scratch_len ≡ true = rw (← c.get_buffers-lent.ensures) (sym c.lent_fits.ensures ∙ c.if-not-lent_fits.false) in simp (f, le-ltb a.slot 8 c.if-slot-ge-SLOTS.true)
 
 pub returns-then-not-is_out : goal.returns-then-not-is_out
-returns-then-not-is_out c = let a = c.args in piece-not (dock_of a.settings.now a.blockers.now a.states.now a.vectors.now) a.slot a.i a.data_len a.scratch_len (rw (← c.get_buffers-lent.ensures) (sym c.lent_fits.ensures ∙ c.if-not-lent_fits.false)) (rw (← c.state_at-x.ensures) (sym c.is_out.ensures ∙ c.if-not-is_out.true))
+returns-then-not-is_out c = let a = c.args in piece_not (dock_of a.settings.now a.blockers.now a.states.now a.vectors.now) a.slot a.i a.data_len a.scratch_len (rw (← c.get_buffers-lent.ensures) (sym c.lent_fits.ensures ∙ c.if-not-lent_fits.false)) (rw (← c.state_at-x.ensures) (sym c.is_out.ensures ∙ c.if-not-is_out.true))
 
 pub vector_at-v-requires : goal.vector_at-v-requires
 vector_at-v-requires c = (c.requires.3, c.if-slot-ge-SLOTS.false)

@@ -1,5 +1,4 @@
 -- `dock_words::calls::set_fresh` meets its contract: words that are 0 are free slots. Assumes nothing.
--- words that are 0, decoded
 use mathlib.Core.Path.{◌≡◌, ap, ◌∙◌}
 use mathlib.Core.List.{List, []}
 use Prim.Native.Nat.{ℕ}
@@ -17,24 +16,25 @@ use Rattle.vectors.specs.Words.{segment_of, vector_from}
 use Rattle.arithmetic.specs.Rows.{rows_same}
 use Rattle.dock_words.proofs.calls.set_fresh.Goals as goal
 
-free-blockers : blockers_of (replicate 88 0) ≡ no_blockers
+-- words that are 0, decoded
+free_blockers : blockers_of (replicate 88 0) ≡ no_blockers
 unfolding no_blockers blocker_of kind_of
-free-blockers = ap (λ (l : List Blocker). record { slots = l }) (rows_same blocker_of 11 8)
+free_blockers = ap (λ (l : List Blocker). record { slots = l }) (rows_same blocker_of 11 8)
 
-free-states : states_of (replicate 144 0) ≡ replicate 8 vacant
+free_states : states_of (replicate 144 0) ≡ replicate 8 vacant
 unfolding vacant state_from stage_of phase_of job_of course_of
-free-states = rows_same state_from 18 8
+free_states = rows_same state_from 18 8
 
-empty-vector : vector_from (replicate 34 0) ≡ vector_of []
+empty_vector : vector_from (replicate 34 0) ≡ vector_of []
 unfolding vector_of vector_from size_of
-empty-vector = ap (λ (l : List Segment). record { segments = l; count = 0; total = 0 }) (rows_same segment_of 2 16)
+empty_vector = ap (λ (l : List Segment). record { segments = l; count = 0; total = 0 }) (rows_same segment_of 2 16)
 
-empty-vectors : vectors_of (replicate 272 0) ≡ replicate 8 (vector_of [])
-empty-vectors = rows_same vector_from 34 8 ∙ ap (λ (v : IoVector). replicate 8 v) empty-vector
+empty_vectors : vectors_of (replicate 272 0) ≡ replicate 8 (vector_of [])
+empty_vectors = rows_same vector_from 34 8 ∙ ap (λ (v : IoVector). replicate 8 v) empty_vector
 
 made : (s : Settings) (b : Buffers) (w k x v : List ℕ) → w ≡ settings_words s b → k ≡ replicate 88 0 → x ≡ replicate 144 0 → v ≡ replicate 272 0 → dock_of w k x v ≡ fresh s b
 unfolding fresh
-made s b w k x v e f g h = rw (e, f, g, h, free-blockers, free-states, empty-vectors)
+made s b w k x v e f g h = rw (e, f, g, h, free_blockers, free_states, empty_vectors)
 
 pub returns : goal.returns
 unfolding fresh

@@ -9,14 +9,14 @@ use Rattle.arithmetic.specs.declared.offsets.OnStore.TheVariants.{At}
 use Rattle.stages.proofs.plan.first_bytes.Goals as goal
 use Rattle.stages.proofs.plan.first_bytes.Goals.{After-on_store}
 
-on-store-is : (c : After-on_store) → let a = c.args in c.on_store.result ≡ At (store_at (a.s.start.0 + a.end.0))
-on-store-is c = c.on_store.ensures ∙ on_store_at _ _ (fits_true _ c.requires)
+on_store_is : (c : After-on_store) → let a = c.args in c.on_store.result ≡ At (store_at (a.s.start.0 + a.end.0))
+on_store_is c = c.on_store.ensures ∙ on_store_at _ _ (fits_true _ c.requires)
 
 pub returns-in_default : goal.returns-in_default
-returns-in_default c = let e = on-store-is (goal.at.returns-in_default c).After-on_store in let z : ◌≡◌ {A = ℕ} 0 1 = cc in absurd (omega arith)
+returns-in_default c = let e = on_store_is (goal.at.returns-in_default c).After-on_store in let z : ◌≡◌ {A = ℕ} 0 1 = cc in absurd (omega arith)
 
 pub returns : goal.returns
 returns c = let a = c.args in
-    let e = on-store-is (goal.at.returns c).After-on_store in
+    let e = on_store_is (goal.at.returns c).After-on_store in
     let g : c.in-At.end ≡ store_at (a.s.start.0 + a.end.0) = cc in
     ap (λ (z : StoreOffset). record { start = a.s.start; end = z }) g

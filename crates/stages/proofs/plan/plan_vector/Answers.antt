@@ -1,5 +1,4 @@
 -- `stages::plan::plan_vector` meets its contract: each answer of the padding is its case of the definition. Assumes nothing.
--- the plan by the call's transfer
 use mathlib.Core.Path.{◌≡◌, refl, sym, ◌∙◌}
 use Rattle.arithmetic.specs.PaddingLaws.{Spans}
 use Rattle.arithmetic.specs.declared.padding.Transfer.{Transfer}
@@ -11,6 +10,7 @@ use Rattle.stages.proofs.Plans.{from_parts, padded_parts, too_long, in_bounce_le
 use Rattle.stages.proofs.plan.plan_vector.Goals as goal
 use Rattle.stages.proofs.plan.plan_vector.Goals.{After-plan_transfer-transfer, In-Bounced}
 
+-- the plan by the call's transfer
 by : (c : After-plan_transfer-transfer) (x : Transfer) {p : Plan} → let a = c.args in c.plan_transfer-transfer.result ≡ x → p ≡ vector_by a.settings a.job a.direct a.offset a.n x
     → p ≡ vector_plan a.settings a.job a.direct a.offset a.n a.aligned
 by c x e q =

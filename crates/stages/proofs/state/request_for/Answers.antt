@@ -5,8 +5,8 @@ use Rattle.stages.specs.declared.state.Request.{Request}
 use Rattle.stages.proofs.state.request_for.Goals as goal
 use Rattle.stages.proofs.state.request_for.Goals.{After-size-length}
 
-abbrev with-length : After-size-length → ℕ → Request
-with-length c n = let a = c.args in record { kind = a.kind; offset = a.r.start; length = n; segments = a.segments }
+abbrev with_length : After-size-length → ℕ → Request
+with_length c n = let a = c.args in record { kind = a.kind; offset = a.r.start; length = n; segments = a.segments }
 
 pub returns : goal.returns
-returns c = ap (with-length (goal.at.returns c).After-size-length) c.size-length.ensures
+returns c = ap (with_length (goal.at.returns c).After-size-length) c.size-length.ensures

@@ -1,5 +1,4 @@
 -- `tables::table::load` meets its contract: in every turn the table is what is read and what the rest of the bytes adds. Assumes nothing.
--- a start that is not `Record`
 use mathlib.Core.Path.{◌≡◌, refl, sym, ◌∙◌}
 use mathlib.Core.Logic.{◌⊎◌, inl, inr}
 use Rattle.records.specs.declared.Header.{Header}
@@ -10,6 +9,7 @@ use Rattle.tables.specs.TablesLaws.{entry_row}
 use borrow.Author.Rules.{rules}
 use Rattle.tables.proofs.table.load.Goals as goal
 
+-- a start that is not `Record`
 no_record : {x : Start} (s : Start) → ((h : Header) → s ≡ Record h → ⊥) → s ≡ x → (x ≡ End) ⊎ (x ≡ Broken)
 no_record End k e = inl (sym e)
 no_record Broken k e = inr (sym e)

@@ -1,5 +1,4 @@
 -- `tables::table::load` meets its contract: in every turn the table is what is read and what the rest of the bytes adds. Assumes nothing.
--- a start that is not `Record`
 use Prim.Native.Nat.{◌-◌}
 use lib.ListN.{length}
 use Rattle.tables.proofs.Loading.{Reading}

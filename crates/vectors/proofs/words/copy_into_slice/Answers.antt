@@ -1,5 +1,4 @@
 -- `vectors::words::copy_into_slice` meets its contract: past the two tests it is a gather, and a refused call changes nothing. Assumes nothing.
--- past the first test the vector is valid
 use mathlib.Core.Path.{◌≡◌, sym, ap, ◌∙◌}
 use mathlib.Core.Bool.{true}
 use lib.ListN.{length}
@@ -9,8 +8,9 @@ use Rattle.vectors.proofs.Moving.{copies_invalid, copies_other, copies_true, byt
 use Rattle.vectors.proofs.words.copy_into_slice.Goals as goal
 use Rattle.vectors.proofs.words.copy_into_slice.Goals.{Else-not-is_valid}
 
-valid-of : (c : Else-not-is_valid) → is_valid (length c.args.«data».now) (vector_from c.args.words.now) ≡ true
-valid-of c = sym c.is_valid.ensures ∙ c.if-not-is_valid.false
+-- past the first test the vector is valid
+valid_of : (c : Else-not-is_valid) → is_valid (length c.args.«data».now) (vector_from c.args.words.now) ≡ true
+valid_of c = sym c.is_valid.ensures ∙ c.if-not-is_valid.false
 
 pub returns-then-not-is_valid : goal.returns-then-not-is_valid
 returns-then-not-is_valid c = let k = refused _ _ _ (copies_invalid _ _ _ (sym c.is_valid.ensures ∙ c.if-not-is_valid.true)) in
@@ -21,11 +21,11 @@ returns-then-slice-len c = let k = refused _ _ _ (copies_other _ _ _ (rw c.len.e
     record { outcome = k.0; bytes = k.1 }
 
 pub gather-requires : goal.gather-requires
-gather-requires c = copies_true _ _ _ (valid-of (goal.at.gather-requires c).Else-not-is_valid) (rw c.len.ensures at c.if-slice-len.false)
+gather-requires c = copies_true _ _ _ (valid_of (goal.at.gather-requires c).Else-not-is_valid) (rw c.len.ensures at c.if-slice-len.false)
 
 pub shape_of-slice : goal.shape_of-slice
-shape_of-slice c = ap length c.gather.ensures ∙ bytes_total _ _ (valid-of (goal.at.shape_of-slice c).Else-not-is_valid) ∙ sym (rw c.len.ensures at c.if-slice-len.false)
+shape_of-slice c = ap length c.gather.ensures ∙ bytes_total _ _ (valid_of (goal.at.shape_of-slice c).Else-not-is_valid) ∙ sym (rw c.len.ensures at c.if-slice-len.false)
 
 pub returns : goal.returns
-returns c = let k = carried_out_lem _ _ _ _ (copies_true _ _ _ (valid-of (goal.at.returns c).Else-not-is_valid) (rw c.len.ensures at c.if-slice-len.false)) c.gather.ensures in
+returns c = let k = carried_out_lem _ _ _ _ (copies_true _ _ _ (valid_of (goal.at.returns c).Else-not-is_valid) (rw c.len.ensures at c.if-slice-len.false)) c.gather.ensures in
     record { outcome = k.0; bytes = k.1 }

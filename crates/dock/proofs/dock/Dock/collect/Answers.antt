@@ -1,5 +1,4 @@
 -- `dock::dock::Dock::collect` meets its contract: 205, 208, then the answer, and the slot is vacant. Assumes nothing.
--- what a collect answers: 205, 208 for a slot past the eight and for a job that has not ended, else the answer
 use borrow.Author.Tests.{lt-ltb, le-ltb}
 use mathlib.Core.Path.{◌≡◌, sym, ◌∙◌}
 use mathlib.Core.Bool.{true, false}
@@ -20,6 +19,7 @@ use Rattle.dock.specs.Tell.{collect_of}
 use Rattle.dock.proofs.dock.Dock.collect.Goals as goal
 use Rattle.dock.proofs.dock.Dock.collect.Goals.{Else-not-lent_fits}
 
+-- what a collect answers: 205, 208 for a slot past the eight and for a job that has not ended, else the answer
 module _ (d : Dock) (p m n : ℕ) where
   unlent : lent_fits d.buffers m n ≡ false → ◌≡◌ {A = Collects} (record { dock = d; answer = Refused Buffer }) (collect_of d p m n)
   unfolding collect_of
@@ -30,9 +30,9 @@ module _ (d : Dock) (p m n : ℕ) where
     unfolding collect_of
     no_slot h = simp (f, le-ltb p 8 h)
 
-    not-ended : p < 8 → has_ended (state_at d p).phase ≡ false → ◌≡◌ {A = Collects} (record { dock = d; answer = Refused Slot }) (collect_of d p m n)
+    not_ended : p < 8 → has_ended (state_at d p).phase ≡ false → ◌≡◌ {A = Collects} (record { dock = d; answer = Refused Slot }) (collect_of d p m n)
     unfolding collect_of
-    not-ended h e = simp (f, lt-ltb p 8 h, e)
+    not_ended h e = simp (f, lt-ltb p 8 h, e)
 
     collected : (x : State) (v : IoVector) → p < 8 → has_ended (state_at d p).phase ≡ true → x ≡ vacant → v ≡ vector_of [] → ◌≡◌ {A = Collects} (record { dock = with_job d p d.blockers x v; answer = Final (state_at d p).answer }) (collect_of d p m n)
     unfolding collect_of
@@ -49,7 +49,7 @@ pub returns-then-slot-ge-SLOTS : goal.returns-then-slot-ge-SLOTS
 returns-then-slot-ge-SLOTS c = no_slot c.args.self c.args.slot _ _ (fit_is (goal.at.returns-then-slot-ge-SLOTS c).Else-not-lent_fits) c.if-slot-ge-SLOTS.true
 
 pub returns-then-not-has_ended : goal.returns-then-not-has_ended
-returns-then-not-has_ended c = not-ended c.args.self c.args.slot _ _ (fit_is (goal.at.returns-then-not-has_ended c).Else-not-lent_fits) c.if-slot-ge-SLOTS.false (sym c.has_ended.ensures ∙ c.if-not-has_ended.true)
+returns-then-not-has_ended c = not_ended c.args.self c.args.slot _ _ (fit_is (goal.at.returns-then-not-has_ended c).Else-not-lent_fits) c.if-slot-ge-SLOTS.false (sym c.has_ended.ensures ∙ c.if-not-has_ended.true)
 
 pub returns : goal.returns
 returns c = collected c.args.self c.args.slot _ _ (fit_is (goal.at.returns c).Else-not-lent_fits) c.make_vacant-free.result c.new-none.result c.if-slot-ge-SLOTS.false (sym c.has_ended.ensures ∙ c.if-not-has_ended.false) c.make_vacant-free.ensures c.new-none.ensures

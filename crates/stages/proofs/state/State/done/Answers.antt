@@ -1,5 +1,4 @@
 -- `stages::state::State::done` meets its contract: each arm's phases are its cases of the definition. Assumes nothing.
--- a state in the phase ph
 use mathlib.Core.Path.{◌≡◌, refl, sym, ap, ◌∙◌}
 use mathlib.Core.List.{[], ◌∷◌}
 use mathlib.Core.Logic.{⊎_elim}
@@ -17,8 +16,9 @@ use Rattle.stages.specs.declared.told.Step.TheVariants.{Stays, Ends}
 use Rattle.stages.specs.contracts.state.Phase.{enum}
 use Rattle.stages.proofs.state.State.done.Goals as goal
 
-in-case : (s : Settings) (x : State) (ph : Phase) {t : Step} → x.phase ≡ ph → t ≡ done_next ph s x → t ≡ done_next x.phase s x
-in-case s x ph e q = q ∙ sym (ap (λ (p : Phase). done_next p s x) e)
+-- a state in the phase ph
+in_case : (s : Settings) (x : State) (ph : Phase) {t : Step} → x.phase ≡ ph → t ≡ done_next ph s x → t ≡ done_next x.phase s x
+in_case s x ph e q = q ∙ sym (ap (λ (p : Phase). done_next p s x) e)
 
 -- the phases of a stage's last request, and those with which a job ends
 abbrev Last : ℕ → Type 0
@@ -53,8 +53,8 @@ onlies s x DiscardRequest k = refl
 
 pub returns-in-FirstRead : goal.returns-in-FirstRead
 returns-in-FirstRead c = let a = c.args in
-    in-case a.settings a.self _ c.in-FirstRead.is (ap Stays (c.set_phase.ensures ∙ ap (λ (p : Phase). in_phase p a.self) c.pass_first_read.ensures))
+    in_case a.settings a.self _ c.in-FirstRead.is (ap Stays (c.set_phase.ensures ∙ ap (λ (p : Phase). in_phase p a.self) c.pass_first_read.ensures))
 
 pub returns-in-SecondRead : goal.returns-in-SecondRead
 returns-in-SecondRead c = let a = c.args in
-    in-case a.settings a.self _ c.in-SecondRead.is (ap Stays c.set_phase-in-SecondRead.ensures)
+    in_case a.settings a.self _ c.in-SecondRead.is (ap Stays c.set_phase-in-SecondRead.ensures)

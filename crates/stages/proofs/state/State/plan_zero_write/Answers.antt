@@ -1,5 +1,4 @@
 -- `stages::state::State::plan_zero_write` meets its contract: each answer of the padding is its case of the definition. Assumes nothing.
--- the call's transfer is the definition's
 use mathlib.Core.Path.{◌≡◌, refl, sym, ap, ◌∙◌}
 use Prim.Native.Nat.{◌<◌, ◌≤◌}
 use Rattle.arithmetic.specs.declared.padding.Transfer.{Transfer}
@@ -12,14 +11,15 @@ use Rattle.stages.proofs.Plans.{padded_parts, too_long, in_bounce_lem, refused_i
 use Rattle.stages.proofs.state.State.plan_zero_write.Goals as goal
 use Rattle.stages.proofs.state.State.plan_zero_write.Goals.{After-plan_transfer-transfer}
 
-transfer-is : (c : After-plan_transfer-transfer) → let a = c.args in c.plan_transfer-transfer.result ≡ transfer a.settings a.part
-transfer-is c =
+-- the call's transfer is the definition's
+transfer_is : (c : After-plan_transfer-transfer) → let a = c.args in c.plan_transfer-transfer.result ≡ transfer a.settings a.part
+transfer_is c =
     let a = c.args in
     zeroes_transfer_lem a.settings a.part _ _ _ c.size-n.ensures c.length_align.ensures c.is_multiple.ensures c.plan_transfer-transfer.ensures
 
 -- the plan by that transfer
 by : (c : After-plan_transfer-transfer) (x : Transfer) {p : Plan} → let a = c.args in c.plan_transfer-transfer.result ≡ x → p ≡ zeroes_by a.settings a.self.job a.self.range a.self.middle a.course a.part x → p ≡ zeroes_plan a.settings a.self.job a.self.range a.self.middle a.course a.part
-by c x e q = let a = c.args in zeroes_by_lem a.settings a.self.job a.self.range a.self.middle a.course a.part x (transfer-is c) e q
+by c x e q = let a = c.args in zeroes_by_lem a.settings a.self.job a.self.range a.self.middle a.course a.part x (transfer_is c) e q
 
 pub returns-then-settings-n : goal.returns-then-settings-n
 returns-then-settings-n c = let a = c.args in
@@ -39,7 +39,7 @@ returns-then-settings-s c = by (goal.at.returns-then-settings-s c).After-plan_tr
 
 pub padded_stage-stage-requires : goal.padded_stage-stage-requires
 padded_stage-stage-requires c = let a = c.args in
-    holds (bounced a.settings.align a.part.start (size_of a.part) _ c.in-Bounced.s (sym (transfer-is (goal.at.padded_stage-stage-requires c).After-plan_transfer-transfer) ∙ c.in-Bounced.is))
+    holds (bounced a.settings.align a.part.start (size_of a.part) _ c.in-Bounced.s (sym (transfer_is (goal.at.padded_stage-stage-requires c).After-plan_transfer-transfer) ∙ c.in-Bounced.is))
 
 pub returns : goal.returns
 returns c = by (goal.at.returns c).After-plan_transfer-transfer (Bounced c.in-Bounced.s) c.in-Bounced.is

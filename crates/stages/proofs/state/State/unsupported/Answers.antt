@@ -1,5 +1,4 @@
 -- `stages::state::State::unsupported` meets its contract: each arm's phases are its cases of the definition. Assumes nothing.
--- a state in the phase ph
 use mathlib.Core.Path.{◌≡◌, refl, sym, ap, ◌∙◌}
 use mathlib.Core.List.{[], ◌∷◌}
 use mathlib.Core.Logic.{⊎_elim}
@@ -17,8 +16,9 @@ use Rattle.stages.specs.declared.told.Step.TheVariants.{Ends}
 use Rattle.stages.specs.contracts.state.Phase.{enum}
 use Rattle.stages.proofs.state.State.unsupported.Goals as goal
 
-in-case : (s : Settings) (x : State) (ph : Phase) {t : Step} → x.phase ≡ ph → t ≡ unsupported_next ph s x → t ≡ unsupported_next x.phase s x
-in-case s x ph e q = q ∙ sym (ap (λ (p : Phase). unsupported_next p s x) e)
+-- a state in the phase ph
+in_case : (s : Settings) (x : State) (ph : Phase) {t : Step} → x.phase ≡ ph → t ≡ unsupported_next ph s x → t ≡ unsupported_next x.phase s x
+in_case s x ph e q = q ∙ sym (ap (λ (p : Phase). unsupported_next p s x) e)
 
 -- the phases before ZeroRequest
 abbrev Before : ℕ → Type 0
@@ -46,8 +46,8 @@ others s x DiscardRequest k = absurd (omega (arith, below 9 k))
 
 pub returns-in-ZeroRequest : goal.returns-in-ZeroRequest
 returns-in-ZeroRequest c = let a = c.args in
-    in-case a.settings a.self ZeroRequest c.in-ZeroRequest.is c.write_chunk.ensures
+    in_case a.settings a.self ZeroRequest c.in-ZeroRequest.is c.write_chunk.ensures
 
 pub returns-in-DiscardRequest : goal.returns-in-DiscardRequest
 returns-in-DiscardRequest c = let a = c.args in
-    in-case a.settings a.self DiscardRequest c.in-DiscardRequest.is c.ends.ensures
+    in_case a.settings a.self DiscardRequest c.in-DiscardRequest.is c.ends.ensures

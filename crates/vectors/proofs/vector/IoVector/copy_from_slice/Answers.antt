@@ -1,5 +1,4 @@
 -- `vectors::vector::IoVector::copy_from_slice` meets its contract: past the two tests it is a scatter, and a refused call changes nothing. Assumes nothing.
--- past the first test the vector is valid
 use mathlib.Core.Path.{◌≡◌, sym, ap, ◌∙◌}
 use mathlib.Core.Bool.{true}
 use lib.ListN.{length}
@@ -10,8 +9,9 @@ use Rattle.vectors.proofs.Moving.{copies_invalid, copies_other, copies_true, ref
 use Rattle.vectors.proofs.vector.IoVector.copy_from_slice.Goals as goal
 use Rattle.vectors.proofs.vector.IoVector.copy_from_slice.Goals.{Else-not-is_valid}
 
-valid-of : (c : Else-not-is_valid) → is_valid (length c.args.«data».now) c.args.self ≡ true
-valid-of c = sym c.is_valid.ensures ∙ c.if-not-is_valid.false
+-- past the first test the vector is valid
+valid_of : (c : Else-not-is_valid) → is_valid (length c.args.«data».now) c.args.self ≡ true
+valid_of c = sym c.is_valid.ensures ∙ c.if-not-is_valid.false
 
 pub returns-then-not-is_valid : goal.returns-then-not-is_valid
 returns-then-not-is_valid c = let k = refused _ _ _ (copies_invalid _ _ _ (sym c.is_valid.ensures ∙ c.if-not-is_valid.true)) in
@@ -22,11 +22,11 @@ returns-then-slice-self c = let k = refused _ _ _ (copies_other _ _ _ c.if-slice
     record { outcome = k.0; bytes = k.1 }
 
 pub scatter-requires : goal.scatter-requires
-scatter-requires c = copies_true _ _ _ (valid-of (goal.at.scatter-requires c).Else-not-is_valid) c.if-slice-self.false
+scatter-requires c = copies_true _ _ _ (valid_of (goal.at.scatter-requires c).Else-not-is_valid) c.if-slice-self.false
 
 pub shape_of-data : goal.shape_of-data
-shape_of-data c = ap length c.scatter.ensures ∙ scatter_length _ _ _ (valid _ _ (valid-of (goal.at.shape_of-data c).Else-not-is_valid)).fit.lie
+shape_of-data c = ap length c.scatter.ensures ∙ scatter_length _ _ _ (valid _ _ (valid_of (goal.at.shape_of-data c).Else-not-is_valid)).fit.lie
 
 pub returns : goal.returns
-returns c = let k = carried_out_lem _ _ _ _ (copies_true _ _ _ (valid-of (goal.at.returns c).Else-not-is_valid) c.if-slice-self.false) c.scatter.ensures in
+returns c = let k = carried_out_lem _ _ _ _ (copies_true _ _ _ (valid_of (goal.at.returns c).Else-not-is_valid) c.if-slice-self.false) c.scatter.ensures in
     record { outcome = k.0; bytes = k.1 }

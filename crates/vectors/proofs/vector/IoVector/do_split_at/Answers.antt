@@ -1,5 +1,4 @@
 -- `vectors::vector::IoVector::do_split_at` meets its contract: at or past the total no segment is looked at; before it a walk from the nearer end finds the position. Assumes nothing.
--- past half, from the last segment
 use mathlib.Core.Path.{◌≡◌, ◌∙◌}
 use Prim.Native.Nat.{◌<◌}
 use native.Mathlib.Omega.{arith}

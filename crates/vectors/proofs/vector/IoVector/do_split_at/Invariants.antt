@@ -1,5 +1,4 @@
 -- `vectors::vector::IoVector::do_split_at` meets its contract: at or past the total no segment is looked at; before it a walk from the nearer end finds the position. Assumes nothing.
--- past half, from the last segment
 use Prim.Native.Nat.{◌-◌}
 use Rattle.vectors.proofs.Walking.{Forth}
 use Rattle.vectors.proofs.Walking.{Back}

@@ -1,5 +1,4 @@
 -- `vectors::vector::IoVector::glue` meets its contract: the last segment made longer, or one more where there is room. Assumes nothing.
--- what the test has shown
 use mathlib.Core.Path.{◌≡◌, sym, ◌∙◌}
 use mathlib.Core.Bool.{true, false}
 use Rattle.vectors.specs.Vectors.{segments_of}
@@ -8,6 +7,7 @@ use Rattle.vectors.proofs.Gluing.{glue_touching, glue_full, glue_room, glue_adde
 use Rattle.vectors.proofs.vector.IoVector.glue.Goals as goal
 use Rattle.vectors.proofs.vector.IoVector.glue.Goals.{Else-last_touches, Then-last_touches}
 
+-- what the test has shown
 touching : (c : Then-last_touches) → last_touches (segments_of c.args.self) c.args.segment ≡ true
 touching c = sym c.last_touches.ensures ∙ c.if-last_touches.true
 

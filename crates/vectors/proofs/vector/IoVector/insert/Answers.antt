@@ -1,5 +1,4 @@
 -- `vectors::vector::IoVector::insert` meets its contract: each step glues what the tests showed to fit. Assumes nothing.
--- what the tests have shown
 use mathlib.Core.Path.{◌≡◌, sym, ◌∙◌}
 use mathlib.Core.Bool.{true, ◌&&◌}
 use mathlib.Core.List.{[]}
@@ -16,6 +15,7 @@ use borrow.Author.Rules.{rules}
 use Rattle.vectors.proofs.vector.IoVector.insert.Goals as goal
 use Rattle.vectors.proofs.vector.IoVector.insert.Goals.{Else-not-is_asked, Start}
 
+-- what the tests have shown
 wide_of : (c : Start) → length c.args.self.segments ≡ 16
 wide_of c = search (rules, array_long)
 
