@@ -1,6 +1,7 @@
 -- Laws that the proofs of loops cite: one that looks for a number, and one that fills a list place by place. Assumes nothing.
 use Rattle.std.specs.Prelude.{ℕ, zero, suc, ◌+◌, ◌≤◌, ◌<◌, ◌≡◌, refl, Bool, true, false, ◌||◌, List, map, length, take, get_or, set}
-use Rattle.std.proofs.Common.{eq-or-lt_of_le, le_of_suc-le-suc, add-one, arith, sym, ap, ◌∙◌, ⊎_elim, length-set, take_all, take-suc, take-suc-set, get_or-set_other}
+use Rattle.std.proofs.Common.{eq-or-lt_of_le, le_of_suc-le-suc, add-one, arith, sym, ap, ◌∙◌, ⊎_elim, length-set, take_all, take-suc}
+use Rattle.std.proofs.Common.{take-suc-set, get_or-set_other}
 use Rattle.std.proofs.Math.Bool.{or-true}
 use Rattle.std.proofs.lemmas.List.{length-map}
 use Rattle.std.proofs.Math.ListN.{get_or-map}
@@ -41,7 +42,8 @@ unfolding any_below
 any_found zero test e = absurd (let z : ◌≡◌ {A = ℕ} 0 1 = cc in omega arith)
 any_found (suc n) test e = go (test n) refl e (any_found n test)
   where
-    go : (b : Bool) → test n ≡ b → (any_below n test || b) ≡ true → (any_below n test ≡ true → (i : ℕ) × (i < n) × (test i ≡ true)) → (i : ℕ)
+    go : (b : Bool) → test n ≡ b → (any_below n test || b) ≡ true → (any_below n test ≡ true → (i : ℕ) × (i < n) × (test i ≡ true))
+        → (i : ℕ)
         × (i < suc n) × (test i ≡ true)
     go true p q f = (n, omega arith, p)
     go false p q f = let r = f (or_first (any_below n test) q) in (r.0, omega arith, r.2)

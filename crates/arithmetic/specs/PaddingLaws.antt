@@ -12,7 +12,8 @@ use Rattle.arithmetic.specs.RoundingLaws.{multiple_add, multiple_sub, multiple_t
 use Rattle.arithmetic.specs.RoundingLaws.{up_ge, up_near, up_multiple, up_least, up_same, true_fits}
 use Rattle.arithmetic.specs.Settings.{alignments_fit, length_align}
 use Rattle.arithmetic.specs.SettingsLaws.{and_left, and_right, Aligned, aligned, both}
-use Rattle.arithmetic.specs.Padding.{padded_start, rounded_end, padded_length, padded_end, padding_fits, head_of, tail_of, span_of, padded_of}
+use Rattle.arithmetic.specs.Padding.{padded_start, rounded_end, padded_length, padded_end, padding_fits, head_of, tail_of, span_of}
+use Rattle.arithmetic.specs.Padding.{padded_of}
 use Rattle.arithmetic.specs.Padding.{padding_of, is_direct, bounced, transfer_of, padding_refusal, reads_of, within, is_read}
 use Rattle.arithmetic.specs.declared.refusals.Refusal.{Refusal}
 use Rattle.arithmetic.specs.declared.refusals.Refusal.TheVariants.{Unfit, Overflow}

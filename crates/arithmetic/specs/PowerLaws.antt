@@ -1,7 +1,9 @@
 -- Laws of powers of two, for any exponent: the powers of two are the positive numbers that have no digit in common with the number before
 -- them, which masks a remainder, and the greater of two powers is a multiple of both. Assumes nothing.
-use Rattle.std.specs.Prelude.{◌≡◌, refl, Bool, true, false, ◌&&◌, ◌||◌, ◌⊎◌, ℕ, zero, suc, ◌+◌, ◌-◌, ◌*◌, ◌/◌, ◌%◌, ◌^◌, ◌<◌, ◌≤◌, max, eqb, leb}
-use Rattle.std.proofs.Common.{sym, ap, ◌∙◌, inl, inr, ⊎_elim, le_refl, le_of_suc-le-suc, eq-or-lt_of_le, arith, pow-add, pow_mono, eqb-true, eq-eqb, leb-true, le-leb}
+use Rattle.std.specs.Prelude.{◌≡◌, refl, Bool, true, false, ◌&&◌, ◌||◌, ◌⊎◌, ℕ, zero, suc, ◌+◌, ◌-◌, ◌*◌, ◌/◌, ◌%◌, ◌^◌, ◌<◌, ◌≤◌, max}
+use Rattle.std.specs.Prelude.{eqb, leb}
+use Rattle.std.proofs.Common.{sym, ap, ◌∙◌, inl, inr, ⊎_elim, le_refl, le_of_suc-le-suc, eq-or-lt_of_le, arith, pow-add, pow_mono}
+use Rattle.std.proofs.Common.{eqb-true, eq-eqb, leb-true, le-leb}
 use Rattle.std.proofs.Math.Bool.{or-true, and-eq-true_iff}
 use Rattle.std.proofs.Math.Nat.{pow-succ', mul-mod_left, mod_self, max-eq_left, max-eq_right}
 use Rattle.std.proofs.Math.Decide.{dec_le, ℕ_discrete}

@@ -109,7 +109,8 @@ pub opened : (s : Settings) (b : Buffers) → opening_of s b ≡ Done → Openab
 unfolding opening_of buffers_fit
 opened s b e = go (settings_fit s) (buffers_fit s b) refl refl e
   where
-    go : (x y : Bool) → settings_fit s ≡ x → buffers_fit s b ≡ y → pick x (pick y Done (Refused Buffer)) (Refused Unfit) ≡ Done → Openable s b
+    go : (x y : Bool) → settings_fit s ≡ x → buffers_fit s b ≡ y → pick x (pick y Done (Refused Buffer)) (Refused Unfit) ≡ Done
+        → Openable s b
     go true true f q e =
         let t1 = fits (b.«data».address + b.«data».length) in
         let t2 = fits (b.scratch.address + b.scratch.length) in

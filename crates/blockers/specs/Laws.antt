@@ -187,7 +187,8 @@ none_entered p = elim (dec_lt p 8) [
 
 none_noted : (p q : ℕ) → p < 8 → q < 8 → has_noted no_blockers p q ≡ false
 unfolding no_blockers
-none_noted p q h g = ap (λ (x : Blocker). get_or x.noted q false) (get_or-replicate 8 p vacant nowhere h) ∙ get_or-replicate 8 q false false g
+none_noted p q h g =
+    ap (λ (x : Blocker). get_or x.noted q false) (get_or-replicate 8 p vacant nowhere h) ∙ get_or-replicate 8 q false false g
 
 pub none_reached : Reached no_blockers (λ p. 0) 0
 unfolding no_blockers
@@ -415,7 +416,8 @@ unfolding waits_of
 waits_for b p e = let o = any_found 8 _ e in (o.0, o.1, and_left _ _ o.2, and_right (has_noted b p o.0) _ o.2)
 
 -- a blocker whose noted ones have all left does not wait
-pub all_left : (b : Blockers) (p : ℕ) → ((q : ℕ) → q < 8 → has_noted b p q ≡ true → is_entered (blocker_at b q) ≡ false) → waits_of p b ≡ false
+pub all_left : (b : Blockers) (p : ℕ) → ((q : ℕ) → q < 8 → has_noted b p q ≡ true → is_entered (blocker_at b q) ≡ false)
+    → waits_of p b ≡ false
 unfolding waits_of
 all_left b p f = any_none 8 _ (λ q h. neither (has_noted b p q) (is_entered (blocker_at b q)) (f q h))
   where

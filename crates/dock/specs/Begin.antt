@@ -15,7 +15,8 @@ use Rattle.vectors.specs.declared.vector.Alignment.TheVariants.{Aligned, Unalign
 use Rattle.blockers.specs.Blockers.{entered_of, strength}
 use Rattle.blockers.specs.declared.Blockers.{Blockers}
 use Rattle.blockers.specs.declared.Changed.{Changed}
-use Rattle.stages.specs.Stages.{size_of, blocked_of, is_blocking, uses_bounce, is_sound, zero_job, read_plan, write_plan, zero_plan, discard_plan}
+use Rattle.stages.specs.Stages.{size_of, blocked_of, is_blocking, uses_bounce, is_sound, zero_job, read_plan, write_plan, zero_plan}
+use Rattle.stages.specs.Stages.{discard_plan}
 use Rattle.stages.specs.declared.state.Job.{Job}
 use Rattle.stages.specs.declared.state.Job.TheVariants.{Read, Write, Zeroes, AllocatedZeroes, Discard}
 use Rattle.stages.specs.declared.state.Phase.{Phase}

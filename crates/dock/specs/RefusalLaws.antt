@@ -10,7 +10,8 @@ use Rattle.arithmetic.specs.declared.refusals.Outcome.{Outcome}
 use Rattle.arithmetic.specs.declared.refusals.Outcome.TheVariants.{Done, Refused}
 use Rattle.arithmetic.specs.declared.settings.Settings.{Settings}
 use Rattle.arithmetic.specs.declared.settings.Buffers.{Buffers}
-use Rattle.vectors.specs.Vectors.{put, scatter_of, segments_of, copies, is_valid, vector_of, segments_fit, all_segments, size_of as total_of}
+use Rattle.vectors.specs.Vectors.{put, scatter_of, segments_of, copies, is_valid, vector_of, segments_fit, all_segments}
+use Rattle.vectors.specs.Vectors.{size_of as total_of}
 use Rattle.vectors.specs.SegmentLaws.{vector_valid}
 use Rattle.vectors.specs.declared.vector.IoVector.{IoVector}
 use Rattle.blockers.specs.declared.Blockers.{Blockers}
@@ -21,7 +22,8 @@ use Rattle.stages.specs.declared.plan.Plan.TheVariants.{Done as NothingToDo, Sta
 use Rattle.stages.specs.declared.told.Step.{Step}
 use Rattle.stages.specs.declared.told.Step.TheVariants.{Stays, Ends, Enters}
 use Rattle.dock.specs.Dock.{vacant, state_at, vector_at, lent_fits, is_out_by, first_free}
-use Rattle.dock.specs.Begin.{fills, is_bounced_write, source_of, source_fits, merged_at, filled, blockers_with, Entering, enter_at, admit_by}
+use Rattle.dock.specs.Begin.{fills, is_bounced_write, source_of, source_fits, merged_at, filled, blockers_with, Entering, enter_at}
+use Rattle.dock.specs.Begin.{admit_by}
 use Rattle.dock.specs.Begin.{admit_at, Begins, with_job, stored_with, vector_for, decided_for, begin_of}
 use Rattle.dock.specs.Next.{is_sound_in}
 use Rattle.dock.specs.Tell.{hands, is_bounced_read, copied_at, handed, blockers_without, Stepped, steps, refused_step, ends_at, enters_by}

@@ -1,6 +1,7 @@
 -- What the calls on a slot rely on: which jobs are sound there, what is filled and copied out then, the lowest free slot, and how a begin
 -- is decided. Assumes nothing.
-use Rattle.std.specs.Prelude.{◌≡◌, refl, Bool, true, false, ◌&&◌, ◌||◌, List, [], ◌∷◌, ℕ, zero, suc, ◌+◌, ◌*◌, ◌<◌, leb, ltb, eqb, length, get_or}
+use Rattle.std.specs.Prelude.{◌≡◌, refl, Bool, true, false, ◌&&◌, ◌||◌, List, [], ◌∷◌, ℕ, zero, suc, ◌+◌, ◌*◌, ◌<◌, leb, ltb, eqb, length}
+use Rattle.std.specs.Prelude.{get_or}
 use Rattle.std.proofs.Common.{sym, ap, ◌∙◌, add-one, arith, ltb-true, lt-ltb, le-leb}
 use Rattle.arithmetic.specs.Rounding.{pick}
 use Rattle.arithmetic.specs.Refusals.{when_done}
@@ -88,7 +89,8 @@ pub sound_share : (x : State) (s : Settings) (b : Buffers) → is_sound_in x s b
 unfolding is_sound_in
 sound_share x s b k = and_left (is_sound s.bounce x) (leb (8 * s.bounce) b.scratch.length) k
 
-pub leads_sound : (p : ℕ) (s : Settings) (b : Buffers) (x : State) (code m n : ℕ) → p < 8 → lent_fits b m n ≡ true → is_sound_in x s b ≡ true →
+pub leads_sound : (p : ℕ) (s : Settings) (b : Buffers) (x : State) (code m n : ℕ) → p < 8 → lent_fits b m n ≡ true
+    → is_sound_in x s b ≡ true →
     (t : Step) → answered_of s x code ≡ Leads t
     → StepSound p s b x n t
 leads_sound p s b x code m n h l k t e = by t (leads_told s x code t e)
@@ -138,7 +140,8 @@ met_all xs vs j v met i h e = e ∙ ap (λ (n : ℕ). meets_itself j v || any_be
 abbrev pub NoneFree : List State → ℕ → Type 0
 NoneFree xs i = (k : ℕ) → k < i → is_free (get_or xs k no_state).phase ≡ false
 
-pub lowest_here : (xs : List State) (i : ℕ) → NoneFree xs i → i < length xs → is_free (get_or xs i no_state).phase ≡ true → i ≡ first_free xs
+pub lowest_here : (xs : List State) (i : ℕ) → NoneFree xs i → i < length xs → is_free (get_or xs i no_state).phase ≡ true
+    → i ≡ first_free xs
 unfolding first_free
 lowest_here [] i f h e = absurd (omega arith)
 lowest_here (x ∷ xs) zero f h e = simp e

@@ -2,7 +2,8 @@
 ghost use Rattle.std.specs.Prelude.{true, ◌≡◌, ◌+◌, ◌<◌, ◌^◌, length};
 ghost use Rattle.stages.specs.Stages.{is_sound};
 ghost use Rattle.dock.specs.Dock.{is_out_by};
-ghost use Rattle.dock.specs.Next.{due_in, next_of, is_sound_in, is_sound_at, in_scratch, in_data, piece_by, piece_in, piece_at, piece_of, part_of};
+ghost use Rattle.dock.specs.Next.{due_in, next_of, is_sound_in, is_sound_at, in_scratch, in_data, piece_by, piece_in, piece_at, piece_of};
+ghost use Rattle.dock.specs.Next.{part_of};
 ghost use Rattle.dock.specs.Next.{bytes_at, piece_bytes};
 
 use crate::dock::{Dock, SLOTS, lent_fits};

@@ -1,7 +1,8 @@
 // Vectors and blockers alone, for a host that builds its vectors by calls, and for comparing them with imago's.
 ghost use Rattle.std.specs.Prelude.{◌≡◌, length};
 ghost use Rattle.arithmetic.specs.Offsets.{range_of};
-ghost use Rattle.vectors.specs.Vectors.{segment, push_of, insert_of, append_of, split_of, split_tail_of, copies, bytes_of, scatter_of, segments_of};
+ghost use Rattle.vectors.specs.Vectors.{segment, push_of, insert_of, append_of, split_of, split_tail_of, copies, bytes_of, scatter_of};
+ghost use Rattle.vectors.specs.Vectors.{segments_of};
 ghost use Rattle.vectors.specs.Vectors.{is_valid, fill_of, alignment_of};
 ghost use Rattle.blockers.specs.Blockers.{entered_of, left_of, waits_of, strength};
 ghost use Rattle.dock_words.specs.View.{flag_of, flag_word, blockers_of};

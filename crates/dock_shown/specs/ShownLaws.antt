@@ -53,12 +53,17 @@ module _ (d : Dock) (p m n : ℕ) where
 
 -- ---- a begin, shown
 
-module _ (begun z : Begun) (e : begun ≡ z) (d : Dock) (m n : ℕ) (words : List ℕ) (w : words ≡ shown_words (shown_begun z d m n).answer) where
+module _
+    (begun z : Begun) (e : begun ≡ z) (d : Dock) (m n : ℕ) (words : List ℕ)
+    (w : words ≡ shown_words (shown_begun z d m n).answer) where
   -- one that took no slot leaves every word
   pub begun_kept : (shown_begun z d m n).dock ≡ d → (x v : List ℕ)
       → ShowsAs (shown_begun begun d m n) words d × same_two (is_admitted begun) x v x v
   begun_kept k x v = (
-    (w ∙ sym (ap (λ (b : Begun). shown_words (shown_begun b d m n).answer) e), sym k ∙ sym (ap (λ (b : Begun). (shown_begun b d m n).dock) e)),
+    (
+      w ∙ sym (ap (λ (b : Begun). shown_words (shown_begun b d m n).answer) e),
+      sym k ∙ sym (ap (λ (b : Begun). (shown_begun b d m n).dock) e),
+    ),
     (same_words _ _, same_words _ _),
   )
 
@@ -66,7 +71,10 @@ module _ (begun z : Begun) (e : begun ≡ z) (d : Dock) (m n : ℕ) (words : Lis
       → ShowsAs (shown_begun begun d m n) words d' × same_two (is_admitted begun) x v x' v'
   begun_shown t d' k x v x' v' =
       let u = ap is_admitted e ∙ t in (
-        (w ∙ sym (ap (λ (b : Begun). shown_words (shown_begun b d m n).answer) e), k ∙ sym (ap (λ (b : Begun). (shown_begun b d m n).dock) e)),
+        (
+          w ∙ sym (ap (λ (b : Begun). shown_words (shown_begun b d m n).answer) e),
+          k ∙ sym (ap (λ (b : Begun). (shown_begun b d m n).dock) e),
+        ),
         (done_words _ _ _ u, done_words _ _ _ u),
       )
 

@@ -69,7 +69,8 @@ pub record ToldWords : Type 0 where
 
 -- what a call left, by its words
 abbrev pub tells_words : Outcome → List ℕ → List ℕ → List ℕ → List ℕ → ToldWords
-tells_words o b x memory scratch = record { outcome = o; blockers = blockers_of b; states = states_of x; memory = memory; scratch = scratch }
+tells_words o b x memory scratch =
+    record { outcome = o; blockers = blockers_of b; states = states_of x; memory = memory; scratch = scratch }
 
 -- a step of slot p, stored where it is done
 abbrev pub stored_words_by : Outcome → Blockers → List State → ℕ → Stepped → ToldWords
@@ -99,7 +100,8 @@ pub record BegunWords : Type 0 where
   pub scratch : List ℕ
 
 abbrev pub begins_words : Begun → List ℕ → List ℕ → List ℕ → List ℕ → BegunWords
-begins_words a b x v scratch = record { answer = a; blockers = blockers_of b; states = states_of x; vectors = vectors_of v; scratch = scratch }
+begins_words a b x v scratch =
+    record { answer = a; blockers = blockers_of b; states = states_of x; vectors = vectors_of v; scratch = scratch }
 
 -- a job with the vector v, in the slot that it is admitted to
 abbrev pub stored_job_by : Begun → Blockers → List State → List IoVector → IoVector → Admits → BegunWords
@@ -111,7 +113,8 @@ stored_job_by (Admitted p) b xs vs v a = record {
   vectors = set vs p v;
   scratch = a.scratch;
 }
-stored_job_by (BeginRefused r) b xs vs v a = record { answer = BeginRefused r; blockers = b; states = xs; vectors = vs; scratch = a.scratch }
+stored_job_by (BeginRefused r) b xs vs v a =
+    record { answer = BeginRefused r; blockers = b; states = xs; vectors = vs; scratch = a.scratch }
 
 abbrev pub stored_job : Blockers → List State → List IoVector → IoVector → Admits → BegunWords
 stored_job b xs vs v a = stored_job_by a.answer b xs vs v a

@@ -1,5 +1,6 @@
 -- What is put is what is got: a row's words decoded and coded, and a row among the rows. Assumes nothing.
-use Rattle.std.specs.Prelude.{◌≡◌, refl, Bool, true, false, ◌&&◌, List, [], ◌∷◌, ◌++◌, map, ℕ, zero, suc, ◌+◌, ◌-◌, ◌*◌, ◌<◌, ltb, length, take, drop, get_or, set}
+use Rattle.std.specs.Prelude.{◌≡◌, refl, Bool, true, false, ◌&&◌, List, [], ◌∷◌, ◌++◌, map, ℕ, zero, suc, ◌+◌, ◌-◌, ◌*◌, ◌<◌, ltb, length}
+use Rattle.std.specs.Prelude.{take, drop, get_or, set}
 use Rattle.std.proofs.Common.{sym, ap, ◌∙◌, add-zero, mod-eq_of_lt, arith, length-set, get_or-drop, get_or-set_other, lt-ltb}
 use Rattle.std.proofs.lemmas.List.{length-map, drop-set-add}
 use Rattle.std.proofs.Math.ListN.{get_or-map}
@@ -20,7 +21,8 @@ use Rattle.stages.specs.declared.state.Course.TheVariants.{Last, Middle, Head, C
 use Rattle.stages.specs.declared.state.State.{State}
 use Rattle.dock.specs.Dock.{no_state, no_vector}
 use Rattle.arithmetic.specs.Rows.{row, put, rows_get, rows_put, row_word, row_length, row_set, part_put}
-use Rattle.dock_words.specs.View.{flag_of, flag_word, phase_of, phase_tag, job_of, job_tag, course_of, course_tag, kind_of, kind_tag, stage_of}
+use Rattle.dock_words.specs.View.{flag_of, flag_word, phase_of, phase_tag, job_of, job_tag, course_of, course_tag, kind_of, kind_tag}
+use Rattle.dock_words.specs.View.{stage_of}
 use Rattle.dock_words.specs.View.{state_from, state_words, blocker_of, blocker_words}
 use Rattle.vectors.specs.Words.{vector_from, vector_words}
 use Rattle.dock_words.specs.View.{blockers_of, states_of, vectors_of}

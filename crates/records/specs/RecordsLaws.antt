@@ -1,7 +1,9 @@
 -- Laws of the house form: a byte string is the record that it starts with and those behind it; what was written as records is read as
 -- these, and a record of which bytes are missing is broken. Assumes nothing.
-use Rattle.std.specs.Prelude.{◌≡◌, refl, Bool, true, false, ◌||◌, ◌⊎◌, List, [], ◌∷◌, ◌++◌, ℕ, zero, suc, ◌+◌, ◌-◌, ◌<◌, ◌≤◌, ltb, eqb, length, take, drop, get_or}
-use Rattle.std.proofs.Common.{ap, ◌∙◌, inl, inr, arith, length-drop, length-append, get_or-drop, take_at, drop_at, length-take-le, div-add-mod'}
+use Rattle.std.specs.Prelude.{◌≡◌, refl, Bool, true, false, ◌||◌, ◌⊎◌, List, [], ◌∷◌, ◌++◌, ℕ, zero, suc, ◌+◌, ◌-◌, ◌<◌, ◌≤◌, ltb, eqb}
+use Rattle.std.specs.Prelude.{length, take, drop, get_or}
+use Rattle.std.proofs.Common.{ap, ◌∙◌, inl, inr, arith, length-drop, length-append, get_or-drop, take_at, drop_at, length-take-le}
+use Rattle.std.proofs.Common.{div-add-mod'}
 use Rattle.std.proofs.Math.Bool.{or-true}
 use borrow.Author.Tests.{eq-eqb, ne_eqb, lt-ltb, le-ltb, ltb-false}
 use Rattle.arithmetic.specs.Rounding.{pick}

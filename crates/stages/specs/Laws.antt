@@ -16,7 +16,8 @@ use Rattle.arithmetic.specs.SettingsLaws.{and_left, accepted}
 use Rattle.arithmetic.specs.Refusals.{number_of}
 use Rattle.arithmetic.specs.Padding.{transfer_of, reads_of, padded_length, padding_fits, padded_of, span_of, is_direct, bounced}
 use Rattle.arithmetic.specs.PaddingLaws.{Spans, Transfers, transfers, end_ge, start_le}
-use Rattle.arithmetic.specs.Zeroes.{cut_fits, middle_start, middle_end, has_middle, cut_of, zero_cut_of, discard_cut_of, chunk_length, chunk_of}
+use Rattle.arithmetic.specs.Zeroes.{cut_fits, middle_start, middle_end, has_middle, cut_of, zero_cut_of, discard_cut_of, chunk_length}
+use Rattle.arithmetic.specs.Zeroes.{chunk_of}
 use Rattle.arithmetic.specs.ZeroesLaws.{chunk_some, head_pads, tail_pads, whole_pads, chunk_pads}
 use Rattle.arithmetic.specs.declared.refusals.Refusal.{Refusal}
 use Rattle.arithmetic.specs.declared.refusals.Refusal.TheVariants.{Unfit, TooLong, Overflow}
@@ -37,7 +38,8 @@ use Rattle.arithmetic.specs.declared.zeroes.DiscardCut.TheVariants.{Nothing as N
 use Rattle.arithmetic.specs.declared.zeroes.DiscardCut.TheVariants.{Refused as DiscardRefused}
 use Rattle.arithmetic.specs.declared.zeroes.Chunk.TheVariants.{Nothing as NoChunk, Next, Refused as ChunkRefused}
 use Rattle.stages.specs.Stages.{size_of, direct_stage, first_of, second_of, padded_stage, first_phase, state_of, asked, bounced_phase}
-use Rattle.stages.specs.Stages.{vector_by, vector_plan, read_plan, write_plan, zeroes_by, zeroes_plan, zero_by, zero_job, zero_plan, discard_by}
+use Rattle.stages.specs.Stages.{vector_by, vector_plan, read_plan, write_plan, zeroes_by, zeroes_plan, zero_by, zero_job, zero_plan}
+use Rattle.stages.specs.Stages.{discard_by}
 use Rattle.stages.specs.Stages.{discard_plan, in_phase, ended_with, later_stage, zeroes_next, chunk_by, chunk_next, tail_next, head_next}
 use Rattle.stages.specs.Stages.{stage_done, done_next, unsupported_next, told_of, is_pending, uses_bounce, second_at, lies_in, is_sound}
 use Rattle.stages.specs.Transfers.{splits, wholes, discards}
@@ -345,7 +347,8 @@ module _ (s : Settings) (j : Job) (w m : Range) (c : Course) (r : Range) where
   zeroes_opens p x e = rw e at (zeroes_start p)
 
 module _ (s : Settings) (o : StoreOffset) (n : ℕ) where
-  zero_by_lem : (t : Bool) (x : ZeroCut) → zero_cut_of s.align o n ≡ x → Starts (Opens s (zero_job t) (asked o n)) (zero_by s (zero_job t) o n x)
+  zero_by_lem : (t : Bool) (x : ZeroCut) → zero_cut_of s.align o n ≡ x
+      → Starts (Opens s (zero_job t) (asked o n)) (zero_by s (zero_job t) o n x)
   unfolding cut_of has_middle
   zero_by_lem t NoCut e = tt
   zero_by_lem t (Whole r) e =

@@ -1,7 +1,8 @@
 // The state of one job.
 ghost use Rattle.std.specs.Prelude.{◌≡◌, ◌+◌, leb};
 ghost use Rattle.arithmetic.specs.Offsets.{buffer_at, range_of};
-ghost use Rattle.stages.specs.Stages.{size_of, is_free, has_ended, is_blocking, uses_bounce, second_at, lies_in, is_sound, zero_kind, request};
+ghost use Rattle.stages.specs.Stages.{size_of, is_free, has_ended, is_blocking, uses_bounce, second_at, lies_in, is_sound, zero_kind};
+ghost use Rattle.stages.specs.Stages.{request};
 ghost use Rattle.stages.specs.Stages.{request_of};
 
 use arithmetic::offsets::{BufferOffset, InBuffer, Range, StoreOffset};

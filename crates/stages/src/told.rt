@@ -1,7 +1,8 @@
 // What a told code leads to.
 ghost use Rattle.std.specs.Prelude.{◌≡◌, ltb};
 ghost use Rattle.arithmetic.specs.Rounding.{pick};
-ghost use Rattle.stages.specs.Stages.{size_of, in_phase, ended_with, later_stage, zeroes_next, chunk_next, tail_next, head_next, stage_done};
+ghost use Rattle.stages.specs.Stages.{size_of, in_phase, ended_with, later_stage, zeroes_next, chunk_next, tail_next, head_next};
+ghost use Rattle.stages.specs.Stages.{stage_done};
 ghost use Rattle.stages.specs.Stages.{done_next, unsupported_next};
 
 use crate::plan::Plan;

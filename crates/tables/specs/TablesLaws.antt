@@ -1,7 +1,9 @@
 -- Laws of drive tables: what makes a record a row; every table that is loaded has 1 to 64 rows, and each of them fits; a row by its index.
 -- Assumes nothing.
-use Rattle.std.specs.Prelude.{◌≡◌, refl, Bool, true, false, ◌&&◌, List, [], ◌∷◌, ◌++◌, ◌⊎◌, ℕ, zero, suc, ◌+◌, ◌-◌, ◌<◌, ◌≤◌, ltb, eqb, length, get_or, replicate}
-use Rattle.std.proofs.Common.{sym, ap, ◌∙◌, inl, inr, arith, length-take, length-append, get_or-take, lt-ltb, le-ltb, ne_eqb, ltb-true, eqb-true}
+use Rattle.std.specs.Prelude.{◌≡◌, refl, Bool, true, false, ◌&&◌, List, [], ◌∷◌, ◌++◌, ◌⊎◌, ℕ, zero, suc, ◌+◌, ◌-◌, ◌<◌, ◌≤◌, ltb, eqb}
+use Rattle.std.specs.Prelude.{length, get_or, replicate}
+use Rattle.std.proofs.Common.{sym, ap, ◌∙◌, inl, inr, arith, length-take, length-append, get_or-take, lt-ltb, le-ltb, ne_eqb, ltb-true}
+use Rattle.std.proofs.Common.{eqb-true}
 use Rattle.std.proofs.lemmas.List.{length-replicate}
 use Rattle.std.proofs.Math.ListN.{get_or-append}
 use Rattle.std.proofs.lemmas.Bool.{eqb-false}
@@ -11,7 +13,8 @@ use Rattle.arithmetic.specs.declared.refusals.Refusal.TheVariants.{Unfit, Table 
 use Rattle.arithmetic.specs.declared.settings.Alignments.{Alignments}
 use Rattle.arithmetic.specs.declared.settings.Profile.TheVariants.{Of, Refused as NoProfile}
 use Rattle.records.specs.Records.{Form, end, broken, entry, form_of}
-use Rattle.tables.specs.Tables.{row_of, entry_of, Rows, these, refused, before, with_entry, rows_from, table_of, no_row, table_with, load_of}
+use Rattle.tables.specs.Tables.{row_of, entry_of, Rows, these, refused, before, with_entry, rows_from, table_of, no_row, table_with}
+use Rattle.tables.specs.Tables.{load_of}
 use Rattle.tables.specs.Tables.{rows_of, profile_in}
 use Rattle.tables.specs.declared.table.Table.{Table}
 use Rattle.tables.specs.declared.table.Entry.{Entry}

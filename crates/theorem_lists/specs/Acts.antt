@@ -92,8 +92,10 @@ allowed w m (collect p) e = lent_own w m
 
 pub lawful : (w : World) (m : Plain) (rest : List Act) → all_allowed w rest ≡ true → Lawful w m (events_of w rest)
 lawful w m [] e = tt
-lawful w m (a ∷ rest) e =
-    (allowed w m a (and_left _ _ e), lawful (step w (event_of w a)) (plain_step m (fed w (event_of w a))) rest (and_right (is_allowed w a) _ e))
+lawful w m (a ∷ rest) e = (
+  allowed w m a (and_left _ _ e),
+  lawful (step w (event_of w a)) (plain_step m (fed w (event_of w a))) rest (and_right (is_allowed w a) _ e),
+)
 
 -- ---- a lawful list goes on
 

@@ -13,7 +13,8 @@ use Rattle.arithmetic.specs.declared.settings.Buffers.{Buffers}
 use Rattle.vectors.specs.Vectors.{is_valid, copies, vector_of, alignment_of}
 use Rattle.vectors.specs.declared.vector.IoVector.{IoVector}
 use Rattle.blockers.specs.Blockers.{is_entered, blocker_at}
-use Rattle.stages.specs.Stages.{size_of, is_free, has_ended, is_pending, is_blocking, is_sound, asked, read_plan, write_plan, zero_job, zero_plan}
+use Rattle.stages.specs.Stages.{size_of, is_free, has_ended, is_pending, is_blocking, is_sound, asked, read_plan, write_plan, zero_job}
+use Rattle.stages.specs.Stages.{zero_plan}
 use Rattle.stages.specs.Stages.{discard_plan, told_of}
 use Rattle.stages.specs.Laws.{StageOnStore, Opens, Starts, read_opens, write_opens, zero_opens, discard_opens, Continues, Finishes}
 use Rattle.stages.specs.Laws.{told_stays, told_ends, told_enters, never}

@@ -21,8 +21,10 @@ use Rattle.arithmetic.specs.declared.zeroes.DiscardCut.TheVariants.{Nothing as N
 use Rattle.arithmetic.specs.declared.zeroes.DiscardCut.TheVariants.{Refused as DiscardRefused}
 use Rattle.arithmetic.specs.declared.zeroes.Chunk.{Chunk}
 use Rattle.arithmetic.specs.declared.zeroes.Chunk.TheVariants.{Nothing as NoChunk, Next, Refused as ChunkRefused}
-use Rattle.stages.specs.Stages.{size_of, direct_stage, padded_stage, first_phase, asked, vector_by, read_plan, write_plan, zeroes_by, zeroes_plan}
-use Rattle.stages.specs.Stages.{zero_job, zero_by, zero_plan, discard_by, discard_plan, ended_with, later_stage, zeroes_next, chunk_by, chunk_next}
+use Rattle.stages.specs.Stages.{size_of, direct_stage, padded_stage, first_phase, asked, vector_by, read_plan, write_plan, zeroes_by}
+use Rattle.stages.specs.Stages.{zeroes_plan}
+use Rattle.stages.specs.Stages.{zero_job, zero_by, zero_plan, discard_by, discard_plan, ended_with, later_stage, zeroes_next, chunk_by}
+use Rattle.stages.specs.Stages.{chunk_next}
 use Rattle.stages.specs.Stages.{tail_next, head_next, stage_done, done_next, unsupported_next, told_of, is_blocking}
 use Rattle.stages.specs.Laws.{Starts, starts_within, starts_some, never}
 use Rattle.stages.specs.declared.state.Job.{Job}

@@ -13,7 +13,8 @@ use Rattle.arithmetic.specs.declared.settings.Settings.{Settings}
 use Rattle.arithmetic.specs.declared.settings.Buffers.{Buffers}
 use Rattle.vectors.specs.Vectors.{vector_of}
 use Rattle.vectors.specs.declared.vector.IoVector.{IoVector}
-use Rattle.blockers.specs.Blockers.{present, is_entered, blocker_at, no_blockers, vacant as no-blocker, nowhere as past, entered_of, left_of}
+use Rattle.blockers.specs.Blockers.{present, is_entered, blocker_at, no_blockers, vacant as no_blocker, nowhere as past, entered_of}
+use Rattle.blockers.specs.Blockers.{left_of}
 use Rattle.blockers.specs.Blockers.{strength}
 use Rattle.blockers.specs.Reached.{Reached}
 use Rattle.blockers.specs.Laws.{enter_done, entered_other, entered_own, enter_reached, ranked, leave_done, left_kind, left_range, left_own}
@@ -194,6 +195,10 @@ fresh_held s b e = record {
   clock = 0;
   blockers = none_reached;
   slots =
-      λ p h. rw (get_or-replicate 8 p vacant no_state h, get_or-replicate 8 p (vector_of []) no_vector h, get_or-replicate 8 p no-blocker past h)
-      (none_held s.bounce b.«data».length (vector_of []) Absent no-blocker.range refl);
+      λ p h. rw (
+        get_or-replicate 8 p vacant no_state h,
+        get_or-replicate 8 p (vector_of []) no_vector h,
+        get_or-replicate 8 p no_blocker past h,
+      )
+      (none_held s.bounce b.«data».length (vector_of []) Absent no_blocker.range refl);
 }

@@ -29,7 +29,8 @@ module _ (address n m l : ℕ) (h : address + n < 18446744073709551616) where
       let r = all_aligned_lem ps (and_right (lies_in n p) (all_segments (lies_in n) ps) e) in
       rw (f, r)
 
-  pub aligned_valid : (v : IoVector) → is_valid n v ≡ true → lies_aligned address m l (segments_of v) ≡ all_aligned address m l (segments_of v)
+  pub aligned_valid : (v : IoVector) → is_valid n v ≡ true
+      → lies_aligned address m l (segments_of v) ≡ all_aligned address m l (segments_of v)
   aligned_valid v e = all_aligned_lem (segments_of v) (valid n v e).fit.lie
 
 -- ---- M = R = 1

@@ -1,7 +1,8 @@
 -- Laws of the bytes of segments: lengths, joined lists, what scatter and fill keep, and which byte stands where. Assumes nothing.
 use Rattle.std.specs.Prelude.{◌≡◌, refl, Bool, true, false, ◌||◌, ◌⊎◌, ℕ, zero, suc, ◌+◌, ◌-◌, ◌≤◌, ◌<◌, get_or, replicate}
 use Rattle.std.proofs.Math.Path.{sym, ap, subst}
-use Rattle.std.proofs.Common.{◌∙◌, inl, inr, ⊎_elim, zero-add, suc-add, length-append, length-take, drop_of_length-le, take-append-drop, take_all, take_at, drop_at, get_or-take, get_or-drop, get_or-append-add, take-add, lt-ltb, le-ltb, le-leb}
+use Rattle.std.proofs.Common.{◌∙◌, inl, inr, ⊎_elim, zero-add, suc-add, length-append, length-take, drop_of_length-le, take-append-drop}
+use Rattle.std.proofs.Common.{take_all, take_at, drop_at, get_or-take, get_or-drop, get_or-append-add, take-add, lt-ltb, le-ltb, le-leb}
 use Rattle.std.proofs.Math.Bool.{or-true}
 use mathlib.Core.List.{List, [], ◌∷◌, ◌++◌, append_assoc, append-nil}
 use Rattle.std.proofs.Math.Decide.{dec_lt}
@@ -214,11 +215,13 @@ fill_is l (p ∷ ps) b =
     fill_is (put l p.start (replicate n b)) ps b
     ∙ (rw (← replicate-append-replicate n m b, take_at (replicate n b) (replicate m b) n r, drop_at (replicate n b) (replicate m b) n r))
 
-pub fill_length : (l : List ℕ) (ps : List Segment) (b : ℕ) → all_segments (lies_in (length l)) ps ≡ true → length (fill_of l ps b) ≡ length l
+pub fill_length : (l : List ℕ) (ps : List Segment) (b : ℕ) → all_segments (lies_in (length l)) ps ≡ true
+    → length (fill_of l ps b) ≡ length l
 fill_length l ps b e = ap length (fill_is l ps b) ∙ scatter_length l ps (replicate (size_of ps) b) e
 
 -- off the segments every byte is as it was
-pub scatter_off : (l : List ℕ) (ps : List Segment) (src : List ℕ) (k : ℕ) → all_segments (lies_in (length l)) ps ≡ true → covered ps k ≡ false
+pub scatter_off : (l : List ℕ) (ps : List Segment) (src : List ℕ) (k : ℕ) → all_segments (lies_in (length l)) ps ≡ true
+    → covered ps k ≡ false
     → get_or (scatter_of l ps src) k 0 ≡ get_or l k 0
 unfolding scatter_of covered any_segment
 scatter_off l [] src k e o = refl
@@ -246,7 +249,8 @@ fill_on l (p ∷ ps) b k e o = go (any_segment (in_segment k) ps) refl
     here : any_segment (in_segment k) ps ≡ false → (in_segment k p || any_segment (in_segment k) ps) ≡ true → in_segment k p ≡ true
     here f t = or_first (in_segment k p) (rw f at t)
 
-    go : (t : Bool) → any_segment (in_segment k) ps ≡ t → (any_segment (in_segment k) ps ≡ true → get_or (fill_of (put l p.start bs) ps b) k 0
+    go : (t : Bool) → any_segment (in_segment k) ps ≡ t
+        → (any_segment (in_segment k) ps ≡ true → get_or (fill_of (put l p.start bs) ps b) k 0
         ≡ b) → get_or (fill_of (put l p.start bs) ps b) k 0 ≡ b
     go true t f = f t
     go false t f =
@@ -290,7 +294,8 @@ scatter_others l (q ∷ qs) ps src d e o =
     )
 
 -- what is scattered over segments that do not overlap is gathered from them again
-pub gather_scatter : (l : List ℕ) (ps : List Segment) (src : List ℕ) → all_segments (lies_in (length l)) ps ≡ true → self_overlap_of ps ≡ false
+pub gather_scatter : (l : List ℕ) (ps : List Segment) (src : List ℕ) → all_segments (lies_in (length l)) ps ≡ true
+    → self_overlap_of ps ≡ false
     → length src ≡ size_of ps
     → bytes_of (scatter_of l ps src) ps ≡ src
 unfolding scatter_of bytes_of size_of self_overlap_of
@@ -357,7 +362,8 @@ covered_place (p ∷ ps) k e = ⊎_elim (λ a. here a) (λ b. there (covered_pla
 -- ---- segments glued
 
 -- bytes go where they went into the two lists
-pub scatter_glued : (l : List ℕ) (ps qs : List Segment) (src : List ℕ) → all_segments (lies_in (length l)) ps ≡ true → size_of ps ≤ length src
+pub scatter_glued : (l : List ℕ) (ps qs : List Segment) (src : List ℕ) → all_segments (lies_in (length l)) ps ≡ true
+    → size_of ps ≤ length src
     → scatter_of l (glued ps qs) src ≡ scatter_of l (ps ++ qs) src
 unfolding scatter_of glued seam size_of
 scatter_glued l [] qs src e h = refl

@@ -44,7 +44,8 @@ module _ (n : ℕ) (v : IoVector) where
   unfolding insert_of
   inserted i p = when_asked (leb i v.count && lies_in n p) (inserted_at i (segments_of v) p)
 
-  pub appended : (w : IoVector) → EditedTo n (glued (segments_of v) (segments_of w)) (append_of n v w) ⊎ (append_of n v w ≡ refused_vector v)
+  pub appended : (w : IoVector)
+      → EditedTo n (glued (segments_of v) (segments_of w)) (append_of n v w) ⊎ (append_of n v w ≡ refused_vector v)
   unfolding append_of
   appended w = when_asked (is_valid n w) (glued (segments_of v) (segments_of w))
 

@@ -119,7 +119,8 @@ from_filled : (x : ℕ) (qs : List Segment) → all_segments not_empty qs ≡ tr
 unfolding all_segments run_from not_empty
 from_filled x [] f = refl
 from_filled x (q ∷ qs) f = elim (ℕ_discrete (x + 1) q.start) [
-  | yes e ↦ rw (from_next x q qs e) (both _ _ (lt-ltb 0 (q.length + 1) (omega arith)) (and_right (not_empty q) (all_segments not_empty qs) f))
+  | yes e ↦
+      rw (from_next x q qs e) (both _ _ (lt-ltb 0 (q.length + 1) (omega arith)) (and_right (not_empty q) (all_segments not_empty qs) f))
   | no e ↦ rw (from_apart x q qs e) f
 ]
 
@@ -267,7 +268,8 @@ module _ (n : ℕ) where
     })
 
   -- a call on a valid vector whose segments would be ps
-  changed_runs : (v : IoVector) (ps : List Segment) → is_valid n v ≡ true → Separate ps → changed_to n v ps ≡ runs_or_refused v (positions ps)
+  changed_runs : (v : IoVector) (ps : List Segment) → is_valid n v ≡ true → Separate ps
+      → changed_to n v ps ≡ runs_or_refused v (positions ps)
   unfolding changed_to runs_or_refused segments_fit
   changed_runs v ps e a =
       let r : runs (positions ps) ≡ ps =
@@ -329,7 +331,8 @@ kept n v ps c e f r = ⊎_elim (λ d. rw d.segments f) (λ d. rw d e) r
 module _ (n : ℕ) (v : IoVector) (e : NoneTouch v) where
   pub push_keeps : (p : Segment) → NoneTouch (push_of n v p).vector
   unfolding none_touch touches_first
-  push_keeps p = kept n v (glued (segments_of v) (p ∷ [])) (push_of n v p) e (glued_none_touch (p ∷ []) (segments_of v) e refl) (pushed n v p)
+  push_keeps p =
+      kept n v (glued (segments_of v) (p ∷ [])) (push_of n v p) e (glued_none_touch (p ∷ []) (segments_of v) e refl) (pushed n v p)
 
   pub insert_keeps : (i : ℕ) (p : Segment) → NoneTouch (insert_of n v i p).vector
   unfolding inserted_at none_touch touches_first
@@ -354,7 +357,9 @@ module _ (n : ℕ) (v : IoVector) (e : NoneTouch v) where
       ps = segments_of v
 
       go : (t : Bool) → is_valid n v ≡ t → NoneTouch (split_of n v mid).head × NoneTouch (split_of n v mid).tail
-      go true f = rw f (rw (segments_of_lem (head_of ps mid), segments_of_lem (tail_of ps mid)) (head_none_touch ps mid e, tail_none_touch ps mid e))
+      go true f =
+          rw f (rw (segments_of_lem (head_of ps mid), segments_of_lem (tail_of ps mid))
+          (head_none_touch ps mid e, tail_none_touch ps mid e))
       go false f = rw f (e, refl)
 
   pub split_tail_keeps : (mid : ℕ) → NoneTouch (split_tail_of n v mid).vector

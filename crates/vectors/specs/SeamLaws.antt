@@ -211,7 +211,8 @@ module _ (i : ℕ) (ps : List Segment) (p : Segment) where
   inserted_size = omega (arith, glued_size (drop i ps) (glued (take i ps) (p ∷ [])), glued_size (p ∷ []) (take i ps), size_cut i ps)
 
   -- the bytes before the index, those of p, and the rest
-  pub inserted_bytes : (d : List ℕ) → bytes_of d (inserted_at i ps p) ≡ bytes_of d (take i ps) ++ (bytes_of d (p ∷ []) ++ bytes_of d (drop i ps))
+  pub inserted_bytes : (d : List ℕ)
+      → bytes_of d (inserted_at i ps p) ≡ bytes_of d (take i ps) ++ (bytes_of d (p ∷ []) ++ bytes_of d (drop i ps))
   unfolding inserted_at
   inserted_bytes d =
       glued_bytes (drop i ps) d (glued (take i ps) (p ∷ []))
@@ -284,7 +285,8 @@ module _ (a : Alignments) (address : ℕ) where
       go true g = rw g
       go false g = rw g (f (rw g at e))
 
-  pub glued_stays_aligned : (ps qs : List Segment) → is_aligned_of a address (ps ++ qs) ≡ true → is_aligned_of a address (glued ps qs) ≡ true
+  pub glued_stays_aligned : (ps qs : List Segment) → is_aligned_of a address (ps ++ qs) ≡ true
+      → is_aligned_of a address (glued ps qs) ≡ true
   glued_stays_aligned ps qs = still_aligned (ps ++ qs) (glued ps qs) (two_aligned address a.mem (length_align a) ps qs)
 
   pub inserted_stays_aligned : (i : ℕ) (ps : List Segment) (p : Segment) → is_aligned_of a address (take i ps ++ (p ∷ drop i ps)) ≡ true

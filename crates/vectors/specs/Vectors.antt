@@ -1,6 +1,7 @@
 -- Document 01, "Vector": the segments of a vector as a list, and what each call makes of it.
 -- A vector that a call returns is `vector_of` its list of segments: what stands past the count is zero.
-use Rattle.std.specs.Prelude.{Bool, true, false, ◌&&◌, ◌||◌, List, [], ◌∷◌, ◌++◌, ℕ, ◌+◌, ◌-◌, ◌*◌, max, min, ltb, leb, eqb, length, take, drop, replicate}
+use Rattle.std.specs.Prelude.{Bool, true, false, ◌&&◌, ◌||◌, List, [], ◌∷◌, ◌++◌, ℕ, ◌+◌, ◌-◌, ◌*◌, max, min, ltb, leb, eqb, length, take}
+use Rattle.std.specs.Prelude.{drop, replicate}
 use Rattle.arithmetic.specs.Rounding.{pick, fits, is_multiple}
 use Rattle.arithmetic.specs.Settings.{alignments_fit, length_align}
 use Rattle.arithmetic.specs.declared.refusals.Refusal.TheVariants.{Unfit, Segment as BadSegment, Buffer}
