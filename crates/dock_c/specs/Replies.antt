@@ -111,7 +111,7 @@ TellsAs t r d memory scratch = (r ≡ outcome_number t.outcome) × (d ≡ t.dock
 abbrev pub CollectsAs : Collects → ℕ → Dock → Type 0
 CollectsAs c r d = (r ≡ collected_number c.answer) × (d ≡ c.dock)
 
--- the same of a call on a vector, in every word: an edit, of which a refusal leaves the vector, and so the words (law vector-same of
+-- the same of a call on a vector, in every word: an edit, of which a refusal leaves the vector, and so the words (law vector_same of
 -- dock_words); a split, whose tail a refusal leaves, and one for the tail alone; bytes that are moved where a test holds
 abbrev pub EditsAs : Edited → ℕ → List ℕ → Type 0
 EditsAs c r words = (r ≡ outcome_number c.outcome) × (words ≡ vector_words c.vector)

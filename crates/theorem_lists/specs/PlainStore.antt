@@ -1,6 +1,6 @@
 -- Document 01's plain byte store: one byte for each offset, and each place's job with the codes told. It knows no blocker, scratch or
 -- waiting of the dock. It steps a job by the rules of crate stages: a plan gives its first stage, told_of what a code leads to, Stage.asked
--- and Stage.request the ranges of what is out. The laws read-opens, write-opens, zero-opens and discard-opens there tie a plan to what was
+-- and Stage.request the ranges of what is out. The laws read_opens, write_opens, zero_opens and discard_opens there tie a plan to what was
 -- handed to begin: its kind, and its range.
 use Rattle.std.specs.Prelude.{true, List, [], ◌∷◌, ℕ, ◌+◌, eqb}
 use Rattle.std.proofs.Math.Option.{Option, none, some}
