@@ -4,14 +4,14 @@ use mathlib.Core.List.{List, [], ◌∷◌, ◌++◌, append_assoc, append-nil}
 use Prim.Native.Nat.{ℕ, suc, ◌+◌, ◌-◌, ◌≤◌, ◌<◌}
 use native.Mathlib.Numerals.{add-one}
 use native.Mathlib.Omega.{arith}
-use lib.ListN.{length, take, drop, get_or, set, replicate, length-append, length-take, length-drop}
-use lib.Seq.{set-append_seam, append_snoc, take-suc, get_or-drop, get_or-take, take-take}
+use lib.ListN.{length, take, drop, get_or, set, replicate, length-append, length-take}
+use lib.Seq.{set-append_seam, append_snoc, take-suc, take-take, take_all}
+use Rattle.std.proofs.lemmas.List.{drop-take}
 use Rattle.vectors.specs.declared.vector.Segment.{Segment}
 use Rattle.vectors.specs.declared.vector.IoVector.{IoVector}
 use Rattle.vectors.specs.Vectors.{none, segments_of, size_of, vector_of}
 use Rattle.vectors.specs.Joining.{Room, Joins, Gluing}
 use Rattle.vectors.specs.SegmentLaws.{size_append, size_cut, segments_of_lem}
-use Rattle.vectors.proofs.Pass.{nth, in_use}
 
 -- a vector that is one of a list is that of its own segments
 pub plain_of : (v : IoVector) (ps : List Segment) → v ≡ vector_of ps → v ≡ vector_of (segments_of v)
@@ -36,68 +36,68 @@ with_room v p r =
     let n : v.count ≡ length (segments_of v) = ap (λ (w : IoVector). w.count) r.plain in
     with_is v (segments_of v) p r.plain (omega (arith, r.few))
 
--- ---- the loop of `join`
+-- ---- the loop of `join`, over a part of the other's segments
 
-pub record Joining (v₀ w : IoVector) (s n : ℕ) (v : IoVector) (i : ℕ) : Type 0 where
-  pub wide : length w.segments ≡ 16
-  pub asked : Joins v₀ w s n
-  pub reach : i ≤ n
-  pub is : v ≡ vector_of (segments_of v₀ ++ take i (drop s (segments_of w)))
+-- the part that the loop goes over
+abbrev pub part : IoVector → ℕ → ℕ → List Segment
+part w s n = take (s + n - s) (drop s w.segments)
 
-pub join_start : (v w : IoVector) (s n : ℕ) → length w.segments ≡ 16 → Joins v w s n → Joining v w s n v 0
-join_start v w s n l j = record { wide = l; asked = j; reach = omega arith; is = j.plain ∙ ap vector_of (sym (append-nil (segments_of v))) }
+part_is : (w : IoVector) (s n : ℕ) → s + n ≤ w.count → part w s n ≡ take n (drop s (segments_of w))
+part_is w s n h =
+    let e : s + n - s ≡ n = omega arith in
+    ap (λ (m : ℕ). take m (drop s w.segments)) e
+    ∙ sym (drop-take s n w.segments) ∙ ap (drop s) (sym (take-take (s + n) w.count w.segments h)) ∙ drop-take s n (segments_of w)
 
-module _ (v₀ w : IoVector) (s n : ℕ) (v : IoVector) (i : ℕ) (g : Joining v₀ w s n v i) where
-  pub join_end : n ≤ i → v ≡ vector_of (segments_of v₀ ++ take n (drop s (segments_of w)))
-  join_end h = let e : i ≡ n = omega (arith, g.reach) in rw e at g.is
+-- of v₀, before which qs may be joined, i are behind its own
+pub record Joining (v₀ : IoVector) (qs : List Segment) (v : IoVector) (i : ℕ) : Type 0 where
+  pub plain : v₀ ≡ vector_of (segments_of v₀)
+  pub few : v₀.count + length qs ≤ 16
+  pub small : v₀.total + size_of qs ≤ 1048576
+  pub is : v ≡ vector_of (segments_of v₀ ++ take i qs)
 
-  module _ (h : i < n) where
-    abbrev qs : List Segment
-    qs = drop s (segments_of w)
+pub join_start : (v w : IoVector) (s n : ℕ) → Joins v w s n → Joining v (part w s n) v 0
+join_start v w s n j = record {
+  plain = j.plain;
+  few = omega (arith, length-take (s + n - s) (drop s w.segments), j.few);
+  small = rw (part_is w s n j.whole) j.small;
+  is = j.plain ∙ ap vector_of (sym (append-nil (segments_of v)));
+}
 
-    long : i < length qs
-    long = simp length-drop (omega (arith, in_use w g.wide g.asked.most, g.asked.whole))
+pub join_end : (v₀ w : IoVector) (s n : ℕ) (v : IoVector) (i : ℕ) → Joins v₀ w s n → Joining v₀ (part w s n) v i → length (part w s n) ≤ i
+    → v ≡ vector_of (segments_of v₀ ++ take n (drop s (segments_of w)))
+join_end v₀ w s n v i j g h =
+    g.is ∙ ap (λ (l : List Segment). vector_of (segments_of v₀ ++ l)) (take_all i (part w s n) h ∙ part_is w s n j.whole)
 
-    pub reads : s + i < 16
-    reads = omega (arith, g.asked.whole, g.asked.most)
+module _ (v₀ : IoVector) (qs : List Segment) (v : IoVector) (i : ℕ) (g : Joining v₀ qs v i) (h : i < length qs) where
+  taken : take (i + 1) qs ≡ take i qs ++ (get_or qs i none ∷ [])
+  taken = rw add-one (take-suc qs i none h)
 
-    next : get_or qs i none ≡ nth w (s + i)
-    next = get_or-drop s (segments_of w) i none ∙ get_or-take w.count w.segments (s + i) none (omega (arith, g.asked.whole))
+  size_taken : size_of (take (i + 1) qs) ≡ size_of (take i qs) + (get_or qs i none).length
+  unfolding size_of
+  size_taken = ap size_of taken ∙ size_append (take i qs) (get_or qs i none ∷ []) ∙ (omega arith)
 
-    taken : take (i + 1) qs ≡ take i qs ++ (nth w (s + i) ∷ [])
-    taken = rw add-one (take-suc qs i none long ∙ ap (λ (p : Segment). take i qs ++ (p ∷ [])) next)
+  pub join_room : Room v (get_or qs i none)
+  unfolding vector_of
+  join_room =
+      let c : v.count ≡ length (segments_of v₀ ++ take i qs) = ap (λ (u : IoVector). u.count) g.is in
+      let t : v.total ≡ size_of (segments_of v₀ ++ take i qs) = ap (λ (u : IoVector). u.total) g.is in
+      let c₀ : v₀.count ≡ length (segments_of v₀) = ap (λ (u : IoVector). u.count) g.plain in
+      let t₀ : v₀.total ≡ size_of (segments_of v₀) = ap (λ (u : IoVector). u.total) g.plain in
+      record {
+        plain = plain_of v (segments_of v₀ ++ take i qs) g.is;
+        few = omega (arith, length-append (segments_of v₀) (take i qs), length-take i qs, g.few);
+        small = omega (arith, size_append (segments_of v₀) (take i qs), size_taken, size_cut (i + 1) qs, g.small);
+      }
 
-    size_taken : size_of (take (i + 1) qs) ≡ size_of (take i qs) + (nth w (s + i)).length
-    unfolding size_of
-    size_taken = ap size_of taken ∙ size_append (take i qs) (nth w (s + i) ∷ []) ∙ (omega arith)
-
-    size_most : size_of (take (i + 1) qs) ≤ size_of (take n qs)
-    size_most =
-        let e : take (i + 1) (take n qs) ≡ take (i + 1) qs = take-take (i + 1) n qs (omega arith) in
-        omega (arith, ap size_of e, size_cut (i + 1) (take n qs))
-
-    pub join_room : Room v (nth w (s + i))
-    unfolding vector_of
-    join_room =
-        let c : v.count ≡ length (segments_of v₀ ++ take i qs) = ap (λ (u : IoVector). u.count) g.is in
-        let t : v.total ≡ size_of (segments_of v₀ ++ take i qs) = ap (λ (u : IoVector). u.total) g.is in
-        let c₀ : v₀.count ≡ length (segments_of v₀) = ap (λ (u : IoVector). u.count) g.asked.plain in
-        let t₀ : v₀.total ≡ size_of (segments_of v₀) = ap (λ (u : IoVector). u.total) g.asked.plain in
-        record {
-          plain = plain_of v (segments_of v₀ ++ take i qs) g.is;
-          few = omega (arith, length-append (segments_of v₀) (take i qs), length-take i qs, g.asked.few);
-          small = omega (arith, size_append (segments_of v₀) (take i qs), size_taken, size_most, g.asked.small);
-        }
-
-    pub join_next : (u : IoVector) → u ≡ vector_of (segments_of v ++ (nth w (s + i) ∷ [])) → Joining v₀ w s n u (i + 1)
-    join_next u e =
-        let s₁ : segments_of v ≡ segments_of v₀ ++ take i qs = rw g.is (segments_of_lem (segments_of v₀ ++ take i qs)) in
-        record {
-          wide = g.wide;
-          asked = g.asked;
-          reach = omega arith;
-          is = e ∙ ap vector_of (ap (λ (l : List Segment). l ++ (nth w (s + i) ∷ [])) s₁ ∙ append_assoc (segments_of v₀) (take i qs) (nth w (s + i) ∷ []) ∙ ap (λ (l : List Segment). segments_of v₀ ++ l) (sym taken));
-        }
+  pub join_next : (u : IoVector) → u ≡ vector_of (segments_of v ++ (get_or qs i none ∷ [])) → Joining v₀ qs u (i + 1)
+  join_next u e =
+      let s₁ : segments_of v ≡ segments_of v₀ ++ take i qs = rw g.is (segments_of_lem (segments_of v₀ ++ take i qs)) in
+      record {
+        plain = g.plain;
+        few = g.few;
+        small = g.small;
+        is = e ∙ ap vector_of (ap (λ (l : List Segment). l ++ (get_or qs i none ∷ [])) s₁ ∙ append_assoc (segments_of v₀) (take i qs) (get_or qs i none ∷ []) ∙ ap (λ (l : List Segment). segments_of v₀ ++ l) (sym taken));
+      }
 
 -- ---- what a caller of `join` and `add` shows, over the vector of a list
 

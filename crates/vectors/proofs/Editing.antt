@@ -1,4 +1,7 @@
 -- What insert and append show of a vector: each step of the building, and which lists fit. Assumes nothing.
+use Rattle.std.specs.Prelude.{Ok, Option, Some, None}
+use Rattle.std.specs.Option.{ok_or}
+use Rattle.arithmetic.specs.declared.refusals.Refusal.TheVariants.{Segment as BadSegment}
 use mathlib.Core.Path.{◌≡◌, refl, sym, ap, ◌∙◌}
 use mathlib.Core.Bool.{Bool, true, false, ◌&&◌, and-false, false≢true}
 use mathlib.Core.List.{List, [], ◌∷◌}
@@ -9,10 +12,8 @@ use lib.ListN.{length, take, drop, length-take, length-drop, drop_of_length-le}
 use lib.Seq.{take_all}
 use borrow.Author.Tests.{le-leb, lt-leb, leb-true}
 use Rattle.arithmetic.specs.SettingsLaws.{and_left, and_right, both}
-use Rattle.arithmetic.specs.declared.refusals.Outcome.TheVariants.{Done}
 use Rattle.vectors.specs.declared.vector.Segment.{Segment}
 use Rattle.vectors.specs.declared.vector.IoVector.{IoVector}
-use Rattle.vectors.specs.declared.vector.Glued.{Glued}
 use Rattle.vectors.specs.Vectors.{segments_of, size_of, lies_in, all_segments, segments_fit, vector_of, is_valid, glued, refused_vector}
 use Rattle.vectors.specs.Vectors.{changed_to, push_of, inserted_at, insert_of, append_of}
 use Rattle.vectors.specs.Joining.{Joins, Gluing, GluesAll, glued_of}
@@ -25,26 +26,26 @@ use Rattle.vectors.proofs.Gluing.{glued_is, glued_not}
 -- ---- what a call returns whose segments would be js, of a valid vector
 
 module _ (n : ℕ) (v : IoVector) (js : List Segment) where
-  too_many : 16 < length js → refused_vector v ≡ changed_to n v js
+  too_many : 16 < length js → refused_vector ≡ changed_to n v js
   unfolding changed_to segments_fit
   too_many h = rw (lt-leb (length js) 16 h, and-false)
 
-  too_long : 1048576 < size_of js → refused_vector v ≡ changed_to n v js
+  too_long : 1048576 < size_of js → refused_vector ≡ changed_to n v js
   unfolding changed_to segments_fit
   too_long h = rw (lt-leb (size_of js) 1048576 h, and-false (all_segments (lies_in n) js), and-false, and-false)
 
   changed : (u : IoVector) → is_valid n v ≡ true → all_segments (lies_in n) js ≡ true → length js ≤ 16 → size_of js ≤ 1048576 → u ≡ vector_of js
-      → record { vector = u; outcome = Done } ≡ changed_to n v js
+      → Ok u ≡ changed_to n v js
   unfolding changed_to segments_fit
   changed u e a h k f = rw (e, a, le-leb (length js) 16 h, le-leb (size_of js) 1048576 k, f)
 
 -- what was glued behind the vector of xs
-module _ (u : IoVector) (xs qs : List Segment) (e : u ≡ vector_of xs) (r : Glued) (g : r ≡ glued_of u qs) where
-  fitting : r.fits ≡ true → (r.vector ≡ vector_of (glued xs qs)) × (length (glued xs qs) ≤ 16)
-  fitting f = rw (its e) at (glued_is u qs r g f)
+module _ (u : IoVector) (xs qs : List Segment) (e : u ≡ vector_of xs) where
+  fitting : (r : IoVector) → Some r ≡ glued_of u qs → (r ≡ vector_of (glued xs qs)) × (length (glued xs qs) ≤ 16)
+  fitting r g = rw (its e) at (glued_is u qs r g)
 
-  not_fitting : r.fits ≡ false → 16 < length (glued xs qs)
-  not_fitting f = rw (its e) at (glued_not u qs r g f)
+  not_fitting : None ≡ glued_of u qs → 16 < length (glued xs qs)
+  not_fitting g = rw (its e) at (glued_not u qs g)
 
 -- ---- tests of what other calls returned
 
@@ -57,11 +58,11 @@ both_are e f = rw (e, f)
 -- ---- insert
 
 pub insert_not : (n : ℕ) (v : IoVector) (i : ℕ) (p : Segment) → ((leb i v.count && is_valid n v) && lies_in n p) ≡ false
-    → refused_vector v ≡ insert_of n v i p
+    → refused_vector ≡ insert_of n v i p
 unfolding insert_of changed_to
 insert_not n v i p t = go (leb i v.count) (lies_in n p) (is_valid n v) refl refl refl
   where
-    go : (a b c : Bool) → leb i v.count ≡ a → lies_in n p ≡ b → is_valid n v ≡ c → refused_vector v ≡ insert_of n v i p
+    go : (a b c : Bool) → leb i v.count ≡ a → lies_in n p ≡ b → is_valid n v ≡ c → refused_vector ≡ insert_of n v i p
     go false b c e f g = rw e
     go true false c e f g = rw (e, f)
     go true true false e f g = rw (e, f, g)
@@ -104,7 +105,7 @@ module _ (n : ℕ) (v : IoVector) (i : ℕ) (p : Segment) (wide : length v.segme
       let b = and_right (all_segments (lies_in n) (take i ps)) (all_segments (lies_in n) (drop i ps)) a in
       glued_lies (drop i ps) n b front (glued_lies (p ∷ []) n (both _ _ lie refl) (take i ps) f)
 
-  pub insert_long : 1048576 - v.total < p.length → refused_vector v ≡ insert_of n v i p
+  pub insert_long : 1048576 - v.total < p.length → refused_vector ≡ insert_of n v i p
   insert_long h = too_long n v (glued front (drop i ps)) (omega (arith, sizes, insert_valid.total, insert_valid.fit.small)) ∙ insert_is
 
   module _ (h : p.length ≤ 1048576 - v.total) where
@@ -123,39 +124,33 @@ module _ (n : ℕ) (v : IoVector) (i : ℕ) (p : Segment) (wide : length v.segme
           gluing_of u (take i ps) e p.length (omega (arith, length-take i ps, long, insert_valid.few))
           (omega (arith, size_cut i ps, insert_valid.total, insert_valid.fit.small))
 
-      module _ (r : Glued) (g : r ≡ glued_of u (p ∷ [])) where
-        pub insert_full : r.fits ≡ false → refused_vector v ≡ insert_of n v i p
-        insert_full f =
-            too_many n v (glued front (drop i ps))
-            (omega (arith, not_fitting u (take i ps) (p ∷ []) e r g f, glued_longer front (drop i ps))) ∙ insert_is
+      pub insert_full : (q : Option IoVector) → q ≡ glued_of u (p ∷ []) → q ≡ None → ok_or q BadSegment ≡ insert_of n v i p
+      insert_full q g z =
+          ap (λ (r : Option IoVector). ok_or r BadSegment) z
+          ∙ too_many n v (glued front (drop i ps))
+          (omega (arith, not_fitting u (take i ps) (p ∷ []) e (sym z ∙ g), glued_longer front (drop i ps))) ∙ insert_is
 
-        module _ (f : r.fits ≡ true) where
-          first_is : (r.vector ≡ vector_of front) × (length front ≤ 16)
-          first_is = fitting u (take i ps) (p ∷ []) e r g f
+      module _ (r : IoVector) (g : Some r ≡ glued_of u (p ∷ [])) where
+        first_is : (r ≡ vector_of front) × (length front ≤ 16)
+        first_is = fitting u (take i ps) (p ∷ []) e r g
 
-          rest : take (v.count - i) (drop i ps) ≡ drop i ps
-          rest = take_all (v.count - i) (drop i ps) (simp length-drop (omega (arith, long)))
+        rest : take (v.count - i) (drop i ps) ≡ drop i ps
+        rest = take_all (v.count - i) (drop i ps) (simp length-drop (omega (arith, long)))
 
-          pub insert_rest : GluesAll r.vector v i (v.count - i)
-          insert_rest = record {
-            asked = gluing_of r.vector front first_is.0 (size_of (take (v.count - i) (drop i ps))) first_is.1
-                (rw rest (omega (arith, small, glued_size (drop i ps) front)));
-            whole = omega (arith, insert_reach);
-            most = insert_valid.few;
-          }
+        pub insert_rest : GluesAll r v i (v.count - i)
+        insert_rest = record {
+          asked = gluing_of r front first_is.0 (size_of (take (v.count - i) (drop i ps))) first_is.1
+              (rw rest (omega (arith, small, glued_size (drop i ps) front)));
+          whole = omega (arith, insert_reach);
+          most = insert_valid.few;
+        }
 
-          module _ (q : Glued) (k : q ≡ glued_of r.vector (take (v.count - i) (drop i ps))) where
-            whole : q ≡ glued_of r.vector (drop i ps)
-            whole = k ∙ ap (glued_of r.vector) rest
-
-            pub insert_over : q.fits ≡ false → refused_vector v ≡ insert_of n v i p
-            insert_over z =
-                too_many n v (glued front (drop i ps)) (not_fitting r.vector front (drop i ps) first_is.0 q whole z) ∙ insert_is
-
-            pub insert_done : q.fits ≡ true → record { vector = q.vector; outcome = Done } ≡ insert_of n v i p
-            insert_done z =
-                let y = fitting r.vector front (drop i ps) first_is.0 q whole z in
-                changed n v (glued front (drop i ps)) q.vector (valid_true n v insert_valid) all_lie y.1 small y.0 ∙ insert_is
+        pub insert_whole : (q : Option IoVector) → q ≡ glued_of r (take (v.count - i) (drop i ps)) → ok_or q BadSegment ≡ insert_of n v i p
+        insert_whole None k =
+            too_many n v (glued front (drop i ps)) (not_fitting r front (drop i ps) first_is.0 (k ∙ ap (glued_of r) rest)) ∙ insert_is
+        insert_whole (Some u') k =
+            let y = fitting r front (drop i ps) first_is.0 u' (k ∙ ap (glued_of r) rest) in
+            changed n v (glued front (drop i ps)) u' (valid_true n v insert_valid) all_lie y.1 small y.0 ∙ insert_is
 
 -- push is an insert at the end
 pub push_is : (n : ℕ) (v : IoVector) (p : Segment) → insert_of n v v.count p ≡ push_of n v p
@@ -170,11 +165,11 @@ push_is n v p =
 
 -- ---- append
 
-pub append_not : (n : ℕ) (v w : IoVector) → (is_valid n w && is_valid n v) ≡ false → refused_vector v ≡ append_of n v w
+pub append_not : (n : ℕ) (v w : IoVector) → (is_valid n w && is_valid n v) ≡ false → refused_vector ≡ append_of n v w
 unfolding append_of changed_to
 append_not n v w t = go (is_valid n w) (is_valid n v) refl refl
   where
-    go : (a b : Bool) → is_valid n w ≡ a → is_valid n v ≡ b → refused_vector v ≡ append_of n v w
+    go : (a b : Bool) → is_valid n w ≡ a → is_valid n v ≡ b → refused_vector ≡ append_of n v w
     go false b e f = rw e
     go true false e f = rw (e, f)
     go true true e f = absurd (false≢true (sym (rw (e, f) at t)))
@@ -197,7 +192,7 @@ module _ (n : ℕ) (v w : IoVector) (wide : length v.segments ≡ 16) (wide' : l
   both_sizes : size_of js ≡ v.total + w.total
   both_sizes = omega (arith, glued_size (segments_of w) (segments_of v), append_valid.total, other.total)
 
-  pub append_long : 1048576 - v.total < w.total → refused_vector v ≡ append_of n v w
+  pub append_long : 1048576 - v.total < w.total → refused_vector ≡ append_of n v w
   append_long h = too_long n v js (omega (arith, both_sizes, append_valid.total, append_valid.fit.small)) ∙ append_is
 
   own : take v.count (segments_of v) ≡ segments_of v
@@ -225,17 +220,12 @@ module _ (n : ℕ) (v w : IoVector) (wide : length v.segments ≡ 16) (wide' : l
       most = other.few;
     }
 
-    module _ (r : Glued) (k : r ≡ glued_of u (take w.count (segments_of w))) where
-      all_of : r ≡ glued_of u (segments_of w)
-      all_of = k ∙ ap (glued_of u) others
-
-      pub append_over : r.fits ≡ false → refused_vector v ≡ append_of n v w
-      append_over f = too_many n v js (not_fitting u (segments_of v) (segments_of w) is_own r all_of f) ∙ append_is
-
-      pub append_done : r.fits ≡ true → record { vector = r.vector; outcome = Done } ≡ append_of n v w
-      append_done f =
-          let y = fitting u (segments_of v) (segments_of w) is_own r all_of f in
-          changed n v js r.vector (valid_true n v append_valid)
-          (glued_lies (segments_of w) n other.fit.lie (segments_of v) append_valid.fit.lie) y.1
-          (omega (arith, both_sizes, append_valid.total, append_valid.fit.small)) y.0
-          ∙ append_is
+    pub append_whole : (q : Option IoVector) → q ≡ glued_of u (take w.count (segments_of w)) → ok_or q BadSegment ≡ append_of n v w
+    append_whole None k =
+        too_many n v js (not_fitting u (segments_of v) (segments_of w) is_own (k ∙ ap (glued_of u) others)) ∙ append_is
+    append_whole (Some r) k =
+        let y = fitting u (segments_of v) (segments_of w) is_own r (k ∙ ap (glued_of u) others) in
+        changed n v js r (valid_true n v append_valid)
+        (glued_lies (segments_of w) n other.fit.lie (segments_of v) append_valid.fit.lie) y.1
+        (omega (arith, both_sizes, append_valid.total, append_valid.fit.small)) y.0
+        ∙ append_is

@@ -1,4 +1,5 @@
 -- A vector with segments glued behind its own: the last one made longer, or one more, and the rest joined. Assumes nothing.
+use Rattle.std.specs.Prelude.{Some, None}
 use mathlib.Core.Path.{◌≡◌, refl, sym, ap, ◌∙◌}
 use mathlib.Core.Bool.{Bool, true, false, ◌||◌, not, false≢true}
 use mathlib.Core.List.{List, [], ◌∷◌, ◌++◌}
@@ -11,7 +12,6 @@ use lib.Seq.{set-append_left, length-take-le}
 use borrow.Author.Tests.{le-leb, lt-leb, ltb-true, ltb-false, eq-eqb, ne_eqb}
 use Rattle.vectors.specs.declared.vector.Segment.{Segment}
 use Rattle.vectors.specs.declared.vector.IoVector.{IoVector}
-use Rattle.vectors.specs.declared.vector.Glued.{Glued}
 use Rattle.vectors.specs.Vectors.{none, segments_of, size_of, vector_of, touches, glued}
 use Rattle.vectors.specs.Joining.{Room, Joins, last_touches, Gluing, Lengthens, GluesAll, glued_of}
 use Rattle.vectors.specs.SegmentLaws.{size_cut, size_at}
@@ -106,34 +106,24 @@ module _ (v : IoVector) (q : Segment) (wide : length v.segments ≡ 16) (g : Len
 
 -- what `glue` and `glue_all` return
 module _ (v : IoVector) (qs : List Segment) where
-  pub glue_fits : (u : IoVector) → length (glued (segments_of v) qs) ≤ 16 → u ≡ vector_of (glued (segments_of v) qs)
-      → record { vector = u; fits = true } ≡ glued_of v qs
+  pub glue_fits : (u : IoVector) → length (glued (segments_of v) qs) ≤ 16 → u ≡ vector_of (glued (segments_of v) qs) → Some u ≡ glued_of v qs
   unfolding glued_of
   glue_fits u h e = rw (le-leb _ _ h, e)
 
-  pub glue_over : 16 < length (glued (segments_of v) qs) → record { vector = v; fits = false } ≡ glued_of v qs
+  pub glue_over : 16 < length (glued (segments_of v) qs) → None ≡ glued_of v qs
   unfolding glued_of
   glue_over h = rw (lt-leb _ _ h)
 
   -- what the caller learns of it
-  pub glued_is : (r : Glued) → r ≡ glued_of v qs → r.fits ≡ true
-      → (r.vector ≡ vector_of (glued (segments_of v) qs)) × (length (glued (segments_of v) qs) ≤ 16)
-  unfolding glued_of
-  glued_is r e f = elim (dec_le (length (glued (segments_of v) qs)) 16) [
-    | yes h ↦ (ap (λ (g : Glued). g.vector) (e ∙ sym (glue_fits (vector_of (glued (segments_of v) qs)) h refl)), h)
-    | no h ↦ absurd (false≢true (ap (λ (g : Glued). g.fits) (glue_over (omega arith) ∙ sym e) ∙ f))
+  pub glued_is : (r : IoVector) → Some r ≡ glued_of v qs → (r ≡ vector_of (glued (segments_of v) qs)) × (length (glued (segments_of v) qs) ≤ 16)
+  glued_is r e = elim (dec_le (length (glued (segments_of v) qs)) 16) [
+    | yes h ↦ let f = glue_fits (vector_of (glued (segments_of v) qs)) h refl in ((cc), h)
+    | no h ↦ let f = glue_over (omega arith) in cc
   ]
 
-  glued_same : (r : Glued) → r ≡ glued_of v qs → r.fits ≡ false → r.vector ≡ v
-  glued_same r e f = elim (dec_le (length (glued (segments_of v) qs)) 16) [
-    | yes h ↦ absurd (false≢true (sym f ∙ ap (λ (g : Glued). g.fits) (e ∙ sym (glue_fits (vector_of (glued (segments_of v) qs)) h refl))))
-    | no h ↦ ap (λ (g : Glued). g.vector) (e ∙ sym (glue_over (omega arith)))
-  ]
-
-  pub glued_not : (r : Glued) → r ≡ glued_of v qs → r.fits ≡ false → 16 < length (glued (segments_of v) qs)
-  unfolding glued_of
-  glued_not r e f = elim (dec_le (length (glued (segments_of v) qs)) 16) [
-    | yes h ↦ absurd (false≢true (sym f ∙ ap (λ (g : Glued). g.fits) (e ∙ sym (glue_fits (vector_of (glued (segments_of v) qs)) h refl))))
+  pub glued_not : None ≡ glued_of v qs → 16 < length (glued (segments_of v) qs)
+  glued_not e = elim (dec_le (length (glued (segments_of v) qs)) 16) [
+    | yes h ↦ let f = glue_fits (vector_of (glued (segments_of v) qs)) h refl in cc
     | no h ↦ omega arith
   ]
 
@@ -141,21 +131,21 @@ module _ (v : IoVector) (qs : List Segment) where
 
 module _ (v : IoVector) (q : Segment) (g : Gluing v q.length) where
   pub glue_touching : last_touches (segments_of v) q ≡ true → (u : IoVector) → u ≡ vector_of (glued (segments_of v) (q ∷ []))
-      → record { vector = u; fits = true } ≡ glued_of v (q ∷ [])
+      → Some u ≡ glued_of v (q ∷ [])
   glue_touching t u e = glue_fits v (q ∷ []) u (omega (arith, glued_length q (segments_of v) t, plain_count g, g.few)) e
 
   module _ (t : last_touches (segments_of v) q ≡ false) where
     apart : length (glued (segments_of v) (q ∷ [])) ≡ v.count + 1
     apart = ap length (glued_apart q (segments_of v) t) ∙ length-append (segments_of v) (q ∷ []) ∙ (omega (arith, plain_count g))
 
-    pub glue_full : v.count ≡ 16 → record { vector = v; fits = false } ≡ glued_of v (q ∷ [])
+    pub glue_full : v.count ≡ 16 → None ≡ glued_of v (q ∷ [])
     glue_full h = glue_over v (q ∷ []) (omega (arith, apart))
 
     pub glue_room : (v.count ≡ 16 → ⊥) → Room v q
     glue_room h = record { plain = g.plain; few = omega (arith, g.few); small = g.small }
 
     pub glue_added : (v.count ≡ 16 → ⊥) → (u : IoVector) → u ≡ vector_of (segments_of v ++ (q ∷ []))
-        → record { vector = u; fits = true } ≡ glued_of v (q ∷ [])
+        → Some u ≡ glued_of v (q ∷ [])
     glue_added h u e =
         glue_fits v (q ∷ []) u (omega (arith, apart, g.few)) (e ∙ ap vector_of (sym (glued_apart q (segments_of v) t)))
 
@@ -165,7 +155,7 @@ module _ (v w : IoVector) (s n : ℕ) (g : GluesAll v w s n) where
   abbrev qs : List Segment
   qs = take n (drop s (segments_of w))
 
-  pub glue_nothing : n ≡ 0 → record { vector = v; fits = true } ≡ glued_of v qs
+  pub glue_nothing : n ≡ 0 → Some v ≡ glued_of v qs
   glue_nothing z =
       let e : glued (segments_of v) qs ≡ segments_of v = rw z (glued_nothing (segments_of v)) in
       glue_fits v qs v (omega (arith, ap length e, plain_count g.asked, g.asked.few)) (g.asked.plain ∙ ap vector_of (sym e))
@@ -199,52 +189,34 @@ module _ (v w : IoVector) (s n : ℕ) (g : GluesAll v w s n) where
     pub asks_first : Gluing v q.length
     asks_first = record { plain = g.asked.plain; few = g.asked.few; small = omega (arith, g.asked.small, sizes) }
 
-    module _ (r : Glued) (e : r ≡ glued_of v (q ∷ [])) where
-      -- the count of what was glued, whether it fits or not
-      pub first_few : r.vector.count ≤ 16
-      first_few = go r.fits refl
-        where
-          go : (t : Bool) → r.fits ≡ t → r.vector.count ≤ 16
-          go true f = let i = glued_is v (q ∷ []) r e f in omega (arith, count_of r.vector _ i.0, i.1)
-          go false f = rw (glued_same v (q ∷ []) r e f) g.asked.few
+    -- the first does not fit
+    pub glue_refused : None ≡ glued_of v (q ∷ []) → None ≡ glued_of v qs
+    glue_refused e = glue_over v qs (omega (arith, length_is, glued_not v (q ∷ []) e))
 
-      pub glue_refused : (not r.fits || ltb (16 - r.vector.count) (n - 1)) ≡ true → record { vector = v; fits = false } ≡ glued_of v qs
-      glue_refused t = go r.fits refl
-        where
-          go : (b : Bool) → r.fits ≡ b → record { vector = v; fits = false } ≡ glued_of v qs
-          go true f =
-              let i = glued_is v (q ∷ []) r e f in
-              let h : 16 - r.vector.count < n - 1 = ltb-true _ _ (rw f at t) in
-              glue_over v qs (omega (arith, length_is, count_of r.vector _ i.0, h))
-          go false f = glue_over v qs (omega (arith, length_is, glued_not v (q ∷ []) r e f))
+    module _ (r : IoVector) (e : Some r ≡ glued_of v (q ∷ [])) where
+      is : r ≡ vector_of (glued (segments_of v) (q ∷ []))
+      is = (glued_is v (q ∷ []) r e).0
 
-      module _ (t : (not r.fits || ltb (16 - r.vector.count) (n - 1)) ≡ false) where
-        fitting : r.fits ≡ true
-        fitting = go r.fits refl
-          where
-            go : (b : Bool) → r.fits ≡ b → r.fits ≡ true
-            go true f = f
-            go false f = absurd (false≢true (sym (rw f at t)))
+      count : r.count ≡ length (glued (segments_of v) (q ∷ []))
+      count = count_of r _ is
 
-        is : r.vector ≡ vector_of (glued (segments_of v) (q ∷ []))
-        is = (glued_is v (q ∷ []) r e fitting).0
+      pub first_few : r.count ≤ 16
+      first_few = omega (arith, count, (glued_is v (q ∷ []) r e).1)
 
-        left : n - 1 ≤ 16 - r.vector.count
-        left = ltb-false _ _ (rw fitting at t)
+      pub glue_many : 16 - r.count < n - 1 → None ≡ glued_of v qs
+      glue_many h = glue_over v qs (omega (arith, length_is, count))
 
-        count : r.vector.count ≡ length (glued (segments_of v) (q ∷ []))
-        count = count_of r.vector _ is
-
-        pub glue_joins : Joins r.vector w (s + 1) (n - 1)
+      module _ (left : n - 1 ≤ 16 - r.count) where
+        pub glue_joins : Joins r w (s + 1) (n - 1)
         unfolding size_of
         glue_joins =
-            joins_of r.vector (glued (segments_of v) (q ∷ [])) is w (s + 1) (n - 1)
+            joins_of r (glued (segments_of v) (q ∷ [])) is w (s + 1) (n - 1)
             (omega (arith, left, count, first_few))
             (omega (arith, g.whole))
             g.most
             (omega (arith, glued_size (q ∷ []) (segments_of v), sizes, plain_total g.asked, g.asked.small))
 
-        pub glue_joined : (u : IoVector) → u ≡ vector_of (segments_of r.vector ++ rest) → record { vector = u; fits = true } ≡ glued_of v qs
+        pub glue_joined : (u : IoVector) → u ≡ vector_of (segments_of r ++ rest) → Some u ≡ glued_of v qs
         glue_joined u f =
             glue_fits v qs u (omega (arith, length_is, left, count, first_few))
             (grown (glued (segments_of v) (q ∷ [])) rest is f ∙ ap vector_of (sym whole_is))

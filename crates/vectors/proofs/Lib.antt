@@ -5,6 +5,5 @@ pub mod Gluing
 pub mod Editing
 pub mod Walking
 pub mod Splitting
-pub mod Copying
 pub mod Moving
 pub mod Testing

@@ -20,13 +20,6 @@ use Rattle.vectors.specs.SegmentLaws.{all_at, lies, Valid, valid}
 use Rattle.vectors.specs.ByteLaws.{length_put, take_put, bytes_length}
 use Rattle.vectors.proofs.Pass.{nth, in_use, same, first, size, none_left}
 
--- ---- the inner loop that fills: after i turns the front is done, and the rest is as it was
-
-pub fill_done : (i v : ℕ) (d : List ℕ) → i ≤ length d → length d ≤ i → replicate i v ++ drop i d ≡ replicate (length d) v
-fill_done i v d h k =
-    let e : i ≡ length d = omega arith in
-    rw (drop_of_length-le d k, append-nil) (ap (λ (n : ℕ). replicate n v) e)
-
 -- ---- a vector over data of n bytes
 
 pub record Base (v : IoVector) (n : ℕ) : Type 0 where

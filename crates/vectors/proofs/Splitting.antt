@@ -1,4 +1,5 @@
 -- The two vectors around a split's position. Assumes nothing.
+use Rattle.std.specs.Prelude.{Ok, Err}
 use mathlib.Core.Path.{◌≡◌, ap, ◌∙◌, subst}
 use mathlib.Core.Bool.{true, false}
 use mathlib.Core.List.{List, [], ◌∷◌, ◌++◌}
@@ -8,7 +9,6 @@ use lib.ListN.{length, take, drop, get_or, set, length-drop}
 use lib.Seq.{take_all, length-take-le}
 use borrow.Author.Tests.{eq-eqb, ne_eqb}
 use Rattle.arithmetic.specs.declared.refusals.Refusal.TheVariants.{Segment as BadSegment}
-use Rattle.arithmetic.specs.declared.refusals.Outcome.TheVariants.{Done, Refused}
 use Rattle.vectors.specs.declared.vector.Segment.{Segment}
 use Rattle.vectors.specs.declared.vector.IoVector.{IoVector}
 use Rattle.vectors.specs.declared.vector.SplitPosition.{SplitPosition}
@@ -121,25 +121,26 @@ module _ (v : IoVector) (c : SplitPosition) (wide : length v.segments ≡ 16) (g
 
 -- ---- what the splits return
 
-pub split_refused : (n : ℕ) (v u : IoVector) (mid : ℕ) → is_valid n v ≡ false → u ≡ vector_of [] → record { head = v; tail = u; looked = 0; outcome = Refused BadSegment } ≡ split_of n v mid
-unfolding split_of
-split_refused n v u mid e f = rw (e, f)
+module _ (n : ℕ) (v : IoVector) (mid : ℕ) where
+  pub split_refused : is_valid n v ≡ false → Err BadSegment ≡ split_of n v mid
+  unfolding split_of
+  split_refused e = rw e
 
-pub split_done : (n : ℕ) (v : IoVector) (mid : ℕ) (s : Split) (h t : IoVector) → is_valid n v ≡ true → s ≡ split_at (segments_of v) mid
-    → h ≡ vector_of (head_at (segments_of v) s.head) → t ≡ vector_of (tail_at (segments_of v) s.tail)
-    → record { head = h; tail = t; looked = s.looked; outcome = Done } ≡ split_of n v mid
-unfolding split_of
-split_done n v mid s h t e p f g =
-    let q = located n (segments_of v) mid (valid n v e).fit.lie in
-    rw (e, f, g, p, q.head, q.tail)
+  pub tail_refused : is_valid n v ≡ false → Err BadSegment ≡ split_tail_of n v mid
+  unfolding split_tail_of
+  tail_refused e = rw e
 
-pub tail_refused : (n : ℕ) (v : IoVector) (mid : ℕ) → is_valid n v ≡ false → record { vector = v; looked = 0; outcome = Refused BadSegment } ≡ split_tail_of n v mid
-unfolding split_tail_of
-tail_refused n v mid e = rw e
+  module _ (s : Split) (e : is_valid n v ≡ true) (p : s ≡ split_at (segments_of v) mid) where
+    pub split_done : (h t : IoVector) → h ≡ vector_of (head_at (segments_of v) s.head) → t ≡ vector_of (tail_at (segments_of v) s.tail)
+        → Ok (record { head = h; tail = t; looked = s.looked }) ≡ split_of n v mid
+    unfolding split_of
+    split_done h t f g =
+        let q = located n (segments_of v) mid (valid n v e).fit.lie in
+        rw (e, f, g, p, q.head, q.tail)
 
-pub tail_done : (n : ℕ) (v : IoVector) (mid : ℕ) (s : Split) (t : IoVector) → is_valid n v ≡ true → s ≡ split_at (segments_of v) mid
-    → t ≡ vector_of (tail_at (segments_of v) s.tail) → record { vector = t; looked = s.looked; outcome = Done } ≡ split_tail_of n v mid
-unfolding split_tail_of
-tail_done n v mid s t e p g =
-    let q = located n (segments_of v) mid (valid n v e).fit.lie in
-    rw (e, g, p, q.tail)
+    pub tail_done : (t : IoVector) → t ≡ vector_of (tail_at (segments_of v) s.tail)
+        → Ok (record { vector = t; looked = s.looked }) ≡ split_tail_of n v mid
+    unfolding split_tail_of
+    tail_done t g =
+        let q = located n (segments_of v) mid (valid n v e).fit.lie in
+        rw (e, g, p, q.tail)

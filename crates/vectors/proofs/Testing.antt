@@ -1,4 +1,5 @@
 -- The loops that test segments: overlap and alignment. Assumes nothing.
+use Rattle.std.specs.Prelude.{Ok, Err}
 use mathlib.Core.Path.{◌≡◌, refl, sym, ap, ◌∙◌, subst}
 use mathlib.Core.Bool.{Bool, true, false, ◌&&◌, ◌||◌, and-false}
 use Prim.Native.Nat.{ℕ, ◌+◌, ◌-◌, ◌≤◌, ◌<◌, max, min}
@@ -14,7 +15,6 @@ use Rattle.arithmetic.specs.SettingsLaws.{aligned}
 use Rattle.arithmetic.specs.declared.refusals.Refusal.TheVariants.{Unfit, Segment as BadSegment, Buffer}
 use Rattle.arithmetic.specs.declared.settings.Alignments.{Alignments}
 use Rattle.arithmetic.specs.declared.settings.Lent.{Lent}
-use Rattle.vectors.specs.declared.vector.Alignment.TheVariants.{Aligned, Unaligned, Refused as NotAsked}
 use Rattle.vectors.specs.declared.vector.Segment.{Segment}
 use Rattle.vectors.specs.declared.vector.IoVector.{IoVector}
 use Rattle.vectors.specs.Vectors.{none, segments_of, lies_in, all_segments, any_segment, shares, overlap_of, self_overlap_of, is_valid, all_aligned, is_aligned_at, lies_aligned, is_aligned_of, alignment_of}
@@ -196,33 +196,29 @@ module _ (v : IoVector) (address m l n i : ℕ) (g : Tested v address m l n i) w
 -- ---- what `is_aligned` returns
 
 module _ (a : Alignments) (lent : Lent) (v : IoVector) where
-  pub answer_unfit : alignments_fit a ≡ false → NotAsked Unfit ≡ alignment_of a lent v
+  pub answer_unfit : alignments_fit a ≡ false → Err Unfit ≡ alignment_of a lent v
   unfolding alignment_of
   answer_unfit e = rw e
 
   module _ (e : alignments_fit a ≡ true) where
-    pub answer_buffer : 18446744073709551616 ≤ lent.address + lent.length → NotAsked Buffer ≡ alignment_of a lent v
+    pub answer_buffer : 18446744073709551616 ≤ lent.address + lent.length → Err Buffer ≡ alignment_of a lent v
     unfolding alignment_of
     answer_buffer h = rw (e, fits_false (lent.address + lent.length) h)
 
     module _ (h : lent.address + lent.length < 18446744073709551616) where
-      pub answer_segment : is_valid lent.length v ≡ false → NotAsked BadSegment ≡ alignment_of a lent v
+      pub answer_segment : is_valid lent.length v ≡ false → Err BadSegment ≡ alignment_of a lent v
       unfolding alignment_of
       answer_segment f = rw (e, fits_true (lent.address + lent.length) h, f)
 
       module _ (f : is_valid lent.length v ≡ true) where
-        pub answer_trivial : (eqb a.mem 1 && eqb a.req 1) ≡ true → Aligned ≡ alignment_of a lent v
+        pub answer_trivial : (eqb a.mem 1 && eqb a.req 1) ≡ true → Ok true ≡ alignment_of a lent v
         unfolding alignment_of is_aligned_of
         answer_trivial t = rw (e, fits_true (lent.address + lent.length) h, f, t)
 
         pub answer_asked : (m : ℕ) → m ≡ length_align a → Addressed v lent.address a.mem m
         answer_asked m q = let k = aligned a e in record { long = lent.length; valid = f; fits = h; mem = k.mem.positive; len = rw q k.positive }
 
-        module _ (t : (eqb a.mem 1 && eqb a.req 1) ≡ false) (m : ℕ) (q : m ≡ length_align a) where
-          pub answer_yes : all_aligned lent.address a.mem m (segments_of v) ≡ true → Aligned ≡ alignment_of a lent v
-          unfolding alignment_of is_aligned_of
-          answer_yes y = let z : all_aligned lent.address a.mem (length_align a) (segments_of v) ≡ true = rw q at y in rw (e, fits_true (lent.address + lent.length) h, f, t, z)
-
-          pub answer_no : all_aligned lent.address a.mem m (segments_of v) ≡ false → Unaligned ≡ alignment_of a lent v
-          unfolding alignment_of is_aligned_of
-          answer_no y = let z : all_aligned lent.address a.mem (length_align a) (segments_of v) ≡ false = rw q at y in rw (e, fits_true (lent.address + lent.length) h, f, t, z)
+        pub answer_tested : (eqb a.mem 1 && eqb a.req 1) ≡ false → (m : ℕ) → m ≡ length_align a → (b : Bool)
+            → b ≡ all_aligned lent.address a.mem m (segments_of v) → Ok b ≡ alignment_of a lent v
+        unfolding alignment_of is_aligned_of
+        answer_tested t m q b y = rw (y, q, e, fits_true (lent.address + lent.length) h, f, t)

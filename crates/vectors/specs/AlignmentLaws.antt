@@ -1,5 +1,5 @@
 -- The alignment of a vector over data whose addresses fit is that of its segments, of which each address fits. Assumes nothing.
-use Rattle.std.specs.Prelude.{◌≡◌, Bool, true, false, ◌&&◌, ◌||◌, ℕ, ◌+◌, ◌<◌, max, eqb}
+use Rattle.std.specs.Prelude.{◌≡◌, Ok, Bool, true, false, ◌&&◌, ◌||◌, ℕ, ◌+◌, ◌<◌, max, eqb}
 use Rattle.std.proofs.Math.Path.{refl}
 use Rattle.std.proofs.Common.{sym, arith, eqb-true}
 use mathlib.Core.List.{List, [], ◌∷◌}
@@ -10,7 +10,6 @@ use Rattle.arithmetic.specs.Settings.{alignments_fit, length_align}
 use Rattle.arithmetic.specs.SettingsLaws.{and_left, and_right}
 use Rattle.arithmetic.specs.declared.settings.Alignments.{Alignments}
 use Rattle.arithmetic.specs.declared.settings.Lent.{Lent}
-use Rattle.vectors.specs.declared.vector.Alignment.TheVariants.{Aligned, Unaligned}
 use Rattle.vectors.specs.declared.vector.Segment.{Segment}
 use Rattle.vectors.specs.declared.vector.IoVector.{IoVector}
 use Rattle.vectors.specs.Vectors.{segments_of, lies_in, all_segments, is_valid, all_aligned, is_aligned_at, lies_aligned}
@@ -64,7 +63,7 @@ aligned_one a address ps = go (eqb a.mem 1) (eqb a.req 1) refl refl
 
 pub alignment_fit : (a : Alignments) (b : Lent) (v : IoVector) → alignments_fit a ≡ true → b.address + b.length < 18446744073709551616
     → is_valid b.length v ≡ true
-    → alignment_of a b v ≡ pick (lies_aligned b.address a.mem (length_align a) (segments_of v)) Aligned Unaligned
+    → alignment_of a b v ≡ Ok (lies_aligned b.address a.mem (length_align a) (segments_of v))
 unfolding alignment_of
 alignment_fit a b v e h f =
     rw (

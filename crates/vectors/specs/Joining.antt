@@ -1,9 +1,8 @@
 -- What the functions that build a vector ask of it, and what those that glue give.
-use Rattle.std.specs.Prelude.{◌≡◌, Bool, true, false, List, [], ◌∷◌, ℕ, ◌+◌, ◌≤◌, ◌<◌, leb, length, take, drop}
+use Rattle.std.specs.Prelude.{◌≡◌, Option, Some, None, Bool, true, false, List, [], ◌∷◌, ℕ, ◌+◌, ◌≤◌, ◌<◌, leb, length, take, drop}
 use Rattle.arithmetic.specs.Rounding.{pick}
 use Rattle.vectors.specs.declared.vector.Segment.{Segment}
 use Rattle.vectors.specs.declared.vector.IoVector.{IoVector}
-use Rattle.vectors.specs.declared.vector.Glued.{Glued}
 use Rattle.vectors.specs.Vectors.{vector_of, segments_of, size_of, touches, glued}
 
 -- one segment more fits
@@ -44,8 +43,5 @@ pub record GluesAll (v w : IoVector) (s n : ℕ) : Type 0 where
   pub most : w.count ≤ 16
 
 -- v with qs glued behind its segments, where the whole is at most 16
-unfoldable pub glued_of : IoVector → List Segment → Glued
-glued_of v qs =
-    pick (leb (length (glued (segments_of v) qs)) 16)
-    (record { vector = vector_of (glued (segments_of v) qs); fits = true })
-    (record { vector = v; fits = false })
+unfoldable pub glued_of : IoVector → List Segment → Option IoVector
+glued_of v qs = pick (leb (length (glued (segments_of v) qs)) 16) (Some (vector_of (glued (segments_of v) qs))) None

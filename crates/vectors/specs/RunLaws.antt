@@ -1,6 +1,6 @@
 -- What push, insert and append give, in positions of the data: the maximal runs, or 202 for more than 16; and that they and both splits
 -- keep a vector in which no two neighbours touch. Assumes nothing.
-use Rattle.std.specs.Prelude.{◌≡◌, Bool, ◌&&◌, not, ◌⊎◌, ℕ, zero, suc, ◌+◌, ◌-◌, ◌≤◌, ◌<◌, ltb, leb, length, take, get_or}
+use Rattle.std.specs.Prelude.{◌≡◌, Result, Ok, Err, Bool, ◌&&◌, not, ◌⊎◌, ℕ, zero, suc, ◌+◌, ◌-◌, ◌≤◌, ◌<◌, ltb, leb, length, take, get_or}
 use Rattle.std.proofs.Math.Path.{refl, sym, ap}
 use Rattle.std.proofs.Common.{◌∙◌, ⊎_elim, arith, length-append, get_or-append-add, eq-eqb, ne_eqb, lt-ltb, le-leb, ltb-true, le-ltb}
 use Rattle.std.proofs.Math.Bool.{true, false}
@@ -10,12 +10,16 @@ use Rattle.std.proofs.Math.ListN.{drop, get_or-append}
 use Rattle.std.proofs.Math.Seq.{append_snoc}
 use Rattle.std.proofs.lemmas.Bool.{not-true}
 use Rattle.arithmetic.specs.SettingsLaws.{and_left, and_right, both}
+use Rattle.arithmetic.specs.Rounding.{pick}
+use Rattle.arithmetic.specs.declared.refusals.Refusal.{Refusal}
+use Rattle.arithmetic.specs.declared.refusals.Refusal.TheVariants.{Segment as BadSegment}
 use Rattle.vectors.specs.declared.vector.Segment.{Segment}
 use Rattle.vectors.specs.declared.vector.IoVector.{IoVector}
-use Rattle.vectors.specs.declared.vector.Changed.{Changed}
+use Rattle.vectors.specs.declared.vector.Halves.{Halves}
+use Rattle.vectors.specs.declared.vector.Tail.{Tail}
 use Rattle.vectors.specs.Vectors.{segment, segments_of, size_of, lies_in, all_segments, segments_fit, is_valid, vector_of, touches, seam}
 use Rattle.vectors.specs.Vectors.{glued, refused_vector, changed_to, push_of, inserted_at, insert_of, append_of, head_of, tail_of, split_of}
-use Rattle.vectors.specs.Vectors.{split_tail_of}
+use Rattle.vectors.specs.Vectors.{vector_after, halves_of, rest_of, split_tail_of}
 use Rattle.vectors.specs.Runs.{not_empty, touches_first, none_touch, up_from, positions, run_from, runs, MaximalRuns, runs_or_refused}
 use Rattle.vectors.specs.Places.{place_of}
 use Rattle.vectors.specs.SegmentLaws.{valid, segments_of_lem, all_cut}
@@ -269,7 +273,7 @@ module _ (n : ℕ) where
 
   -- a call on a valid vector whose segments would be ps
   changed_runs : (v : IoVector) (ps : List Segment) → is_valid n v ≡ true → Separate ps
-      → changed_to n v ps ≡ runs_or_refused v (positions ps)
+      → changed_to n v ps ≡ runs_or_refused (positions ps)
   unfolding changed_to runs_or_refused segments_fit
   changed_runs v ps e a =
       let r : runs (positions ps) ≡ ps =
@@ -286,16 +290,16 @@ module _ (n : ℕ) where
       one = record { lie = both _ _ f refl; none_touch_lem = refl }
 
       -- push gives the maximal runs of the positions, or 202 for more than 16 runs or more than 1,048,576 positions
-      pub push_runs : push_of n v p ≡ runs_or_refused v (positions (segments_of v ++ (p ∷ [])))
+      pub push_runs : push_of n v p ≡ runs_or_refused (positions (segments_of v ++ (p ∷ [])))
       unfolding push_of
       push_runs =
           let ps = segments_of v in
           rw f (changed_runs v (glued ps (p ∷ [])) e (glued_separate ps (p ∷ []) own one)
-          ∙ ap (runs_or_refused v) (glued_positions ps (p ∷ [])))
+          ∙ ap runs_or_refused (glued_positions ps (p ∷ [])))
 
       -- and so does insert
       pub insert_runs : (i : ℕ) → i ≤ v.count →
-          insert_of n v i p ≡ runs_or_refused v (positions (take i (segments_of v) ++ (p ∷ drop i (segments_of v))))
+          insert_of n v i p ≡ runs_or_refused (positions (take i (segments_of v) ++ (p ∷ drop i (segments_of v))))
       unfolding insert_of inserted_at
       insert_runs i h =
           let ps = segments_of v in
@@ -306,35 +310,35 @@ module _ (n : ℕ) where
           ∙ ap (λ (l : List ℕ). l ++ positions (drop i ps)) (glued_positions (take i ps) (p ∷ []))
           ∙ sym (positions_append (take i ps ++ (p ∷ [])) (drop i ps)) ∙ ap positions (append_snoc (take i ps) p (drop i ps)) in
           rw (le-leb i v.count h, f) (changed_runs v (glued front (drop i ps)) e
-          (glued_separate front (drop i ps) (glued_separate (take i ps) (p ∷ []) a.0 one) a.1) ∙ ap (runs_or_refused v) x)
+          (glued_separate front (drop i ps) (glued_separate (take i ps) (p ∷ []) a.0 one) a.1) ∙ ap runs_or_refused x)
 
     -- and append
     pub append_runs : (w : IoVector) → is_valid n w ≡ true → none_touch (segments_of w) ≡ true →
-        append_of n v w ≡ runs_or_refused v (positions (segments_of v ++ segments_of w))
+        append_of n v w ≡ runs_or_refused (positions (segments_of v ++ segments_of w))
     unfolding append_of
     append_runs w f u =
         let ps = segments_of v in
         let qs = segments_of w in
         rw f (changed_runs v (glued ps qs) e (glued_separate ps qs own (record { lie = (valid n w f).fit.lie; none_touch_lem = u }))
-        ∙ ap (runs_or_refused v) (glued_positions ps qs))
+        ∙ ap runs_or_refused (glued_positions ps qs))
 
 -- ---- no two neighbours of a vector touch
 
 abbrev pub NoneTouch : IoVector → Type 0
 NoneTouch v = none_touch (segments_of v) ≡ true
 
--- a call keeps it where the segments that it would give do
-kept : (n : ℕ) (v : IoVector) (ps : List Segment) (c : Changed) → NoneTouch v → none_touch ps ≡ true
-    → EditedTo n ps c ⊎ (c ≡ refused_vector v) → NoneTouch c.vector
-kept n v ps c e f r = ⊎_elim (λ d. rw d.segments f) (λ d. rw d e) r
+-- what the caller has after a call keeps it where the segments that the call would give do
+kept : (n : ℕ) (v : IoVector) (ps : List Segment) (c : Result IoVector Refusal) → NoneTouch v → none_touch ps ≡ true
+    → EditedTo n ps c ⊎ (c ≡ refused_vector) → NoneTouch (vector_after v c)
+kept n v ps c e f r = ⊎_elim (λ d. rw d.done (rw d.segments f)) (λ d. rw d e) r
 
 module _ (n : ℕ) (v : IoVector) (e : NoneTouch v) where
-  pub push_keeps : (p : Segment) → NoneTouch (push_of n v p).vector
+  pub push_keeps : (p : Segment) → NoneTouch (vector_after v (push_of n v p))
   unfolding none_touch touches_first
   push_keeps p =
       kept n v (glued (segments_of v) (p ∷ [])) (push_of n v p) e (glued_none_touch (p ∷ []) (segments_of v) e refl) (pushed n v p)
 
-  pub insert_keeps : (i : ℕ) (p : Segment) → NoneTouch (insert_of n v i p).vector
+  pub insert_keeps : (i : ℕ) (p : Segment) → NoneTouch (vector_after v (insert_of n v i p))
   unfolding inserted_at none_touch touches_first
   insert_keeps i p =
       let ps = segments_of v in
@@ -343,32 +347,36 @@ module _ (n : ℕ) (v : IoVector) (e : NoneTouch v) where
       (glued_none_touch (drop i ps) (glued (take i ps) (p ∷ [])) (glued_none_touch (p ∷ []) (take i ps) c.0 refl) c.1)
       (inserted n v i p)
 
-  pub append_keeps : (w : IoVector) → NoneTouch w → NoneTouch (append_of n v w).vector
+  pub append_keeps : (w : IoVector) → NoneTouch w → NoneTouch (vector_after v (append_of n v w))
   append_keeps w f =
       kept n v (glued (segments_of v) (segments_of w)) (append_of n v w) e (glued_none_touch (segments_of w) (segments_of v) e f)
       (appended n v w)
 
   -- both parts of a split
-  pub split_keeps : (mid : ℕ) → NoneTouch (split_of n v mid).head × NoneTouch (split_of n v mid).tail
-  unfolding split_of none_touch vector_of
-  split_keeps mid = go (is_valid n v) refl
+  pub split_keeps : (mid : ℕ) (h : Halves) → split_of n v mid ≡ Ok h → NoneTouch h.head × NoneTouch h.tail
+  unfolding split_of
+  split_keeps mid h = go (is_valid n v)
     where
       ps : List Segment
       ps = segments_of v
 
-      go : (t : Bool) → is_valid n v ≡ t → NoneTouch (split_of n v mid).head × NoneTouch (split_of n v mid).tail
-      go true f =
-          rw f (rw (segments_of_lem (head_of ps mid), segments_of_lem (tail_of ps mid))
-          (head_none_touch ps mid e, tail_none_touch ps mid e))
-      go false f = rw f (e, refl)
+      parts : NoneTouch (halves_of v mid).head × NoneTouch (halves_of v mid).tail
+      parts = rw (segments_of_lem (head_of ps mid), segments_of_lem (tail_of ps mid)) (head_none_touch ps mid e, tail_none_touch ps mid e)
 
-  pub split_tail_keeps : (mid : ℕ) → NoneTouch (split_tail_of n v mid).vector
+      go : (t : Bool) → pick t (Ok (halves_of v mid)) (Err BadSegment) ≡ Ok h → NoneTouch h.head × NoneTouch h.tail
+      go true f = let i : h ≡ halves_of v mid = cc in rw i parts
+      go false f = cc
+
+  pub split_tail_keeps : (mid : ℕ) (t : Tail) → split_tail_of n v mid ≡ Ok t → NoneTouch t.vector
   unfolding split_tail_of
-  split_tail_keeps mid = go (is_valid n v) refl
+  split_tail_keeps mid t = go (is_valid n v)
     where
-      go : (t : Bool) → is_valid n v ≡ t → NoneTouch (split_tail_of n v mid).vector
-      go true f = rw f (rw (segments_of_lem (tail_of (segments_of v) mid)) (tail_none_touch (segments_of v) mid e))
-      go false f = rw f e
+      rest : NoneTouch (rest_of v mid).vector
+      rest = rw (segments_of_lem (tail_of (segments_of v) mid)) (tail_none_touch (segments_of v) mid e)
+
+      go : (b : Bool) → pick b (Ok (rest_of v mid)) (Err BadSegment) ≡ Ok t → NoneTouch t.vector
+      go true f = let i : t ≡ rest_of v mid = cc in rw i rest
+      go false f = cc
 
 -- ---- computed
 

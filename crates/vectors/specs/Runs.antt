@@ -1,10 +1,9 @@
 -- What segments that touch are joined to: the maximal runs of the positions in the data.
-use Rattle.std.specs.Prelude.{◌≡◌, Bool, true, false, ◌&&◌, not, List, [], ◌∷◌, ◌++◌, ℕ, zero, suc, ◌+◌, ltb, leb, eqb, length}
+use Rattle.std.specs.Prelude.{◌≡◌, Result, Ok, Bool, true, false, ◌&&◌, not, List, [], ◌∷◌, ◌++◌, ℕ, zero, suc, ◌+◌, ltb, leb, eqb, length}
 use Rattle.arithmetic.specs.Rounding.{pick}
-use Rattle.arithmetic.specs.declared.refusals.Outcome.TheVariants.{Done}
+use Rattle.arithmetic.specs.declared.refusals.Refusal.{Refusal}
 use Rattle.vectors.specs.declared.vector.Segment.{Segment}
 use Rattle.vectors.specs.declared.vector.IoVector.{IoVector}
-use Rattle.vectors.specs.declared.vector.Changed.{Changed}
 use Rattle.vectors.specs.Vectors.{segment, all_segments, touches, vector_of, refused_vector}
 
 -- p touches the first of the segments
@@ -46,7 +45,6 @@ pub record MaximalRuns (xs : List ℕ) (ps : List Segment) : Type 0 where
   pub filled : all_segments not_empty ps ≡ true
   pub longest : none_touch ps ≡ true
 
--- v with the runs of the positions xs as its segments: 202 for more than 16 of them, or more than 1,048,576 positions
-unfoldable pub runs_or_refused : IoVector → List ℕ → Changed
-runs_or_refused v xs =
-    pick (leb (length (runs xs)) 16 && leb (length xs) 1048576) (record { vector = vector_of (runs xs); outcome = Done }) (refused_vector v)
+-- the vector of the runs of the positions xs: 202 for more than 16 of them, or more than 1,048,576 positions
+unfoldable pub runs_or_refused : List ℕ → Result IoVector Refusal
+runs_or_refused xs = pick (leb (length (runs xs)) 16 && leb (length xs) 1048576) (Ok (vector_of (runs xs))) refused_vector

@@ -1,9 +1,10 @@
 -- Document 01, "Vector": the segments of a vector as a list, and what each call makes of it.
 -- A vector that a call returns is `vector_of` its list of segments: what stands past the count is zero.
 use Rattle.std.specs.Prelude.{Bool, true, false, ◌&&◌, ◌||◌, List, [], ◌∷◌, ◌++◌, ℕ, ◌+◌, ◌-◌, ◌*◌, max, min, ltb, leb, eqb, length, take}
-use Rattle.std.specs.Prelude.{drop, replicate}
+use Rattle.std.specs.Prelude.{drop, replicate, Result, Ok, Err}
 use Rattle.arithmetic.specs.Rounding.{pick, fits, is_multiple}
 use Rattle.arithmetic.specs.Settings.{alignments_fit, length_align}
+use Rattle.arithmetic.specs.declared.refusals.Refusal.{Refusal}
 use Rattle.arithmetic.specs.declared.refusals.Refusal.TheVariants.{Unfit, Segment as BadSegment, Buffer}
 use Rattle.arithmetic.specs.declared.refusals.Outcome.{Outcome}
 use Rattle.arithmetic.specs.declared.refusals.Outcome.TheVariants.{Done, Refused}
@@ -11,11 +12,8 @@ use Rattle.arithmetic.specs.declared.settings.Alignments.{Alignments}
 use Rattle.arithmetic.specs.declared.settings.Lent.{Lent}
 use Rattle.vectors.specs.declared.vector.Segment.{Segment}
 use Rattle.vectors.specs.declared.vector.IoVector.{IoVector}
-use Rattle.vectors.specs.declared.vector.Changed.{Changed}
 use Rattle.vectors.specs.declared.vector.Halves.{Halves}
 use Rattle.vectors.specs.declared.vector.Tail.{Tail}
-use Rattle.vectors.specs.declared.vector.Alignment.{Alignment}
-use Rattle.vectors.specs.declared.vector.Alignment.TheVariants.{Aligned, Unaligned, Refused as NotAsked}
 
 -- ---- what a vector is
 
@@ -75,30 +73,36 @@ glued [] qs = qs
 glued (p ∷ []) qs = seam p qs
 glued (p ∷ (r ∷ ps)) qs = p ∷ glued (r ∷ ps) qs
 
-abbrev pub refused_vector : IoVector → Changed
-refused_vector v = record { vector = v; outcome = Refused BadSegment }
+-- what a refused call gives: no vector
+abbrev pub refused_vector : Result IoVector Refusal
+refused_vector = Err BadSegment
+
+-- the vector that the caller has after a call: a refused one leaves v as it was
+abbrev pub vector_after : IoVector → Result IoVector Refusal → IoVector
+vector_after v (Ok w) = w
+vector_after v (Err r) = v
 
 -- v with the segments ps in the place of its own, where both fit: "The 17th-piece refusal counts pieces after joining", as ps is the
 -- joined list
-unfoldable pub changed_to : ℕ → IoVector → List Segment → Changed
-changed_to n v ps = pick (is_valid n v && segments_fit n ps) (record { vector = vector_of ps; outcome = Done }) (refused_vector v)
+unfoldable pub changed_to : ℕ → IoVector → List Segment → Result IoVector Refusal
+changed_to n v ps = pick (is_valid n v && segments_fit n ps) (Ok (vector_of ps)) refused_vector
 
 -- "A push or append whose first new piece starts where the last one ends shall lengthen that last piece." An empty segment is 202
 -- wherever it starts.
-unfoldable pub push_of : ℕ → IoVector → Segment → Changed
-push_of n v p = pick (lies_in n p) (changed_to n v (glued (segments_of v) (p ∷ []))) (refused_vector v)
+unfoldable pub push_of : ℕ → IoVector → Segment → Result IoVector Refusal
+push_of n v p = pick (lies_in n p) (changed_to n v (glued (segments_of v) (p ∷ []))) refused_vector
 
 -- ps with p before the one at i: "Insert joins on either side"
 unfoldable pub inserted_at : ℕ → List Segment → Segment → List Segment
 inserted_at i ps p = glued (glued (take i ps) (p ∷ [])) (drop i ps)
 
 -- an index past the count: 202
-unfoldable pub insert_of : ℕ → IoVector → ℕ → Segment → Changed
-insert_of n v i p = pick (leb i v.count && lies_in n p) (changed_to n v (inserted_at i (segments_of v) p)) (refused_vector v)
+unfoldable pub insert_of : ℕ → IoVector → ℕ → Segment → Result IoVector Refusal
+insert_of n v i p = pick (leb i v.count && lies_in n p) (changed_to n v (inserted_at i (segments_of v) p)) refused_vector
 
 -- as push does, the first of w's segments; the others stay behind it
-unfoldable pub append_of : ℕ → IoVector → IoVector → Changed
-append_of n v w = pick (is_valid n w) (changed_to n v (glued (segments_of v) (segments_of w))) (refused_vector v)
+unfoldable pub append_of : ℕ → IoVector → IoVector → Result IoVector Refusal
+append_of n v w = pick (is_valid n w) (changed_to n v (glued (segments_of v) (segments_of w))) refused_vector
 
 -- ---- split
 
@@ -121,24 +125,26 @@ is_past_half ps mid = ltb (size_of ps) (2 * mid)
 unfoldable pub looked_at : List Segment → ℕ → ℕ
 looked_at ps mid = pick (is_past_half ps mid) (length (tail_of ps mid)) (length (head_of ps mid))
 
--- "A split at or past the total gives the whole and an empty tail. A split at 0 of a vector with pieces gives an empty head." A refused
--- split looks at no segment.
-unfoldable pub split_of : ℕ → IoVector → ℕ → Halves
-split_of n v mid =
-    pick (is_valid n v)
-    (record {
+-- the two parts, and how many segments the walk to the split looked at
+abbrev pub halves_of : IoVector → ℕ → Halves
+halves_of v mid =
+    record {
       head = vector_of (head_of (segments_of v) mid);
       tail = vector_of (tail_of (segments_of v) mid);
       looked = looked_at (segments_of v) mid;
-      outcome = Done;
-    })
-    (record { head = v; tail = vector_of []; looked = 0; outcome = Refused BadSegment })
+    }
 
-unfoldable pub split_tail_of : ℕ → IoVector → ℕ → Tail
-split_tail_of n v mid =
-    pick (is_valid n v)
-    (record { vector = vector_of (tail_of (segments_of v) mid); looked = looked_at (segments_of v) mid; outcome = Done })
-    (record { vector = v; looked = 0; outcome = Refused BadSegment })
+-- the tail alone, and the same number
+abbrev pub rest_of : IoVector → ℕ → Tail
+rest_of v mid = record { vector = vector_of (tail_of (segments_of v) mid); looked = looked_at (segments_of v) mid }
+
+-- "A split at or past the total gives the whole and an empty tail. A split at 0 of a vector with pieces gives an empty head." A refused
+-- split gives neither, and looks at no segment.
+unfoldable pub split_of : ℕ → IoVector → ℕ → Result Halves Refusal
+split_of n v mid = pick (is_valid n v) (Ok (halves_of v mid)) (Err BadSegment)
+
+unfoldable pub split_tail_of : ℕ → IoVector → ℕ → Result Tail Refusal
+split_tail_of n v mid = pick (is_valid n v) (Ok (rest_of v mid)) (Err BadSegment)
 
 -- ---- bytes: "each area is filled or used up before the next" (POSIX readv, writev)
 
@@ -211,10 +217,10 @@ unfoldable pub is_aligned_of : Alignments → ℕ → List Segment → Bool
 is_aligned_of a address ps = (eqb a.mem 1 && eqb a.req 1) || all_aligned address a.mem (length_align a) ps
 
 -- 201 for unfit alignments, 205 where the data's address plus its length is past 2^64 - 1, 202 for no vector over the data
-unfoldable pub alignment_of : Alignments → Lent → IoVector → Alignment
+unfoldable pub alignment_of : Alignments → Lent → IoVector → Result Bool Refusal
 alignment_of a lent v =
     pick (alignments_fit a)
     (pick (fits (lent.address + lent.length))
-    (pick (is_valid lent.length v) (pick (is_aligned_of a lent.address (segments_of v)) Aligned Unaligned) (NotAsked BadSegment))
-    (NotAsked Buffer))
-    (NotAsked Unfit)
+    (pick (is_valid lent.length v) (Ok (is_aligned_of a lent.address (segments_of v))) (Err BadSegment))
+    (Err Buffer))
+    (Err Unfit)

@@ -3,7 +3,7 @@ ghost use Rattle.std.specs.Prelude.{◌≡◌};
 ghost use Rattle.vectors.specs.Vectors.{segments_of, all_aligned, alignment_of};
 ghost use Rattle.vectors.specs.Aligning.{Addressed};
 
-use crate::vector::{Alignment, IoVector};
+use crate::vector::IoVector;
 use arithmetic::offsets::{LARGEST, is_multiple};
 use arithmetic::refusals::Refusal;
 use arithmetic::settings::{Alignments, Lent};
@@ -11,26 +11,22 @@ use arithmetic::settings::{Alignments, Lent};
 impl IoVector {
     // Whether direct requests can use the segments. Refused: 201 for unfit alignments, then 205 for data that ends past
     // 2^64 - 1, then 202 for no vector over the data.
-    pub fn is_aligned(self, align: Alignments, data: Lent) -> Alignment
+    pub fn is_aligned(self, align: Alignments, data: Lent) -> Result<bool, Refusal>
         ensures { result ≡ alignment_of align «data» self }
     {
         if !align.is_fit() {
-            return Alignment::Refused(Refusal::Unfit);
+            return Err(Refusal::Unfit);
         }
         if LARGEST - data.address < data.length {
-            return Alignment::Refused(Refusal::Buffer);
+            return Err(Refusal::Buffer);
         }
         if !self.is_valid(data.length as usize) {
-            return Alignment::Refused(Refusal::Segment);
+            return Err(Refusal::Segment);
         }
         if (align.mem == 1) & (align.req == 1) {
-            return Alignment::Aligned;
+            return Ok(true);
         }
-        if self.has_aligned_segments(data.address, align.mem, align.length_align()) {
-            Alignment::Aligned
-        } else {
-            Alignment::Unaligned
-        }
+        Ok(self.has_aligned_segments(data.address, align.mem, align.length_align()))
     }
 
     // Whether every segment's address is a multiple of `mem` and its length of `len`, over data at `address`.

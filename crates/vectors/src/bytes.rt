@@ -5,82 +5,22 @@ ghost use Rattle.vectors.specs.Vectors.{segments_of, is_valid, bytes_of, scatter
 ghost use Rattle.vectors.specs.Vectors.{copied_into, copied_from, filled_with};
 
 use crate::vector::IoVector;
-use arithmetic::offsets::lesser;
 use arithmetic::refusals::{Outcome, Refusal};
-
-// Copies go by blocks, then by words, then byte by byte. Blocks and words are read into an array and written from it: the compiler is not
-// told that a part and its source are apart, but makes one move of each block and word.
-const BLOCK: usize = 4096;
-
-const WORD: usize = 8;
-
-// The block of `source` at `at` goes to the same place of `part`.
-fn copy_block(part: &mut [u8], source: &[u8], at: usize)
-    requires { (at + 4096 ≤ length part.old) × (at + 4096 ≤ length source.now) }
-    ensures { part.new ≡ paste part.old at (drop at source.now) 4096 }
-{
-    let mut bytes = [0u8; BLOCK];
-    let mut i = 0usize;
-    while i < BLOCK {
-        bytes[i] = source[at + i];
-        i += 1;
-    }
-    let mut j = 0usize;
-    while j < BLOCK {
-        part[at + j] = bytes[j];
-        j += 1;
-    }
-}
-
-// The word of `source` at `at` goes to the same place of `part`.
-fn copy_word(part: &mut [u8], source: &[u8], at: usize)
-    requires { (at + 8 ≤ length part.old) × (at + 8 ≤ length source.now) }
-    ensures { part.new ≡ paste part.old at (drop at source.now) 8 }
-{
-    let mut bytes = [0u8; WORD];
-    let mut i = 0usize;
-    while i < WORD {
-        bytes[i] = source[at + i];
-        i += 1;
-    }
-    let mut j = 0usize;
-    while j < WORD {
-        part[at + j] = bytes[j];
-        j += 1;
-    }
-}
 
 // The front of `part` becomes that of `source`: as many bytes as both have.
 pub fn copy_bytes(part: &mut [u8], source: &[u8])
     ensures { part.new ≡ take (length part.old) source.now
         ++ drop (length source.now) part.old }
 {
-    let n = lesser(part.len() as u64, source.len() as u64) as usize;
-    let mut i = 0usize;
-    while BLOCK <= n - i {
-        copy_block(part, source, i);
-        i += BLOCK;
-    }
-    while WORD <= n - i {
-        copy_word(part, source, i);
-        i += WORD;
-    }
-    while i < n {
-        part[i] = source[i];
-        i += 1;
-    }
+    let n = part.len().min(source.len());
+    part[..n].copy_from_slice(&source[..n]);
 }
 
 // Every byte of `part` becomes `value`.
 pub fn fill_bytes(part: &mut [u8], value: u8)
     ensures { part.new ≡ replicate (length part.old) value }
 {
-    let n = part.len();
-    let mut i = 0;
-    while i < n {
-        part[i] = value;
-        i += 1;
-    }
+    part.fill(value);
 }
 
 impl IoVector {

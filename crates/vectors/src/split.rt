@@ -4,7 +4,7 @@ ghost use Rattle.vectors.specs.Vectors.{vector_of, segments_of, split_of, split_
 ghost use Rattle.vectors.specs.Positions.{position, meeting, split_at, IsVector, head_at, tail_at, Cut};
 
 use crate::vector::{Halves, IoVector, Segment, Split, SplitPosition, Tail};
-use arithmetic::refusals::{Outcome, Refusal};
+use arithmetic::refusals::Refusal;
 
 // Head and tail meet `inside` bytes into segment `index`.
 fn meet(index: usize, inside: usize, looked: usize) -> Split
@@ -19,44 +19,33 @@ fn meet(index: usize, inside: usize, looked: usize) -> Split
 }
 
 impl IoVector {
-    // The first `mid` bytes, and the rest; and how many segments were looked at to find where.
-    pub fn split_at(self, mid: u64, data_len: usize) -> Halves
+    // The first `mid` bytes, and the rest; and how many segments were looked at to find where. Refused for no vector over the data.
+    pub fn split_at(self, mid: u64, data_len: usize) -> Result<Halves, Refusal>
         ensures { result ≡ split_of data_len self mid }
     {
         if !self.is_valid(data_len) {
-            return Halves {
-                head: self,
-                tail: IoVector::new(),
-                looked: 0,
-                outcome: Outcome::Refused(Refusal::Segment),
-            };
+            return Err(Refusal::Segment);
         }
         let split = self.do_split_at(mid);
-        Halves {
+        Ok(Halves {
             head: self.head_to(split.head),
             tail: self.tail_from(split.tail),
             looked: split.looked,
-            outcome: Outcome::Done,
-        }
+        })
     }
 
-    // The bytes from `mid` on.
-    pub fn split_tail_at(self, mid: u64, data_len: usize) -> Tail
+    // The bytes from `mid` on, and that number. Refused as split_at is.
+    pub fn split_tail_at(self, mid: u64, data_len: usize) -> Result<Tail, Refusal>
         ensures { result ≡ split_tail_of data_len self mid }
     {
         if !self.is_valid(data_len) {
-            return Tail {
-                vector: self,
-                looked: 0,
-                outcome: Outcome::Refused(Refusal::Segment),
-            };
+            return Err(Refusal::Segment);
         }
         let split = self.do_split_at(mid);
-        Tail {
+        Ok(Tail {
             vector: self.tail_from(split.tail),
             looked: split.looked,
-            outcome: Outcome::Done,
-        }
+        })
     }
 
     // Where the head of the first `mid` bytes ends and the tail starts; at or past the total, behind the last segment. Past

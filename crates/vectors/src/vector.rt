@@ -1,10 +1,10 @@
 // An I/O vector: up to 16 segments of the lent data, by value.
 ghost use Rattle.std.specs.Prelude.{◌≡◌, [], ◌∷◌, ◌++◌, ◌≤◌, eqb, take, drop};
-ghost use Rattle.vectors.specs.Vectors.{vector_of, segments_of, lies_in, is_valid, touches, glued, refused_vector};
+ghost use Rattle.vectors.specs.Vectors.{vector_of, segments_of, lies_in, is_valid, touches, glued};
 ghost use Rattle.vectors.specs.Vectors.{push_of, insert_of, append_of};
 ghost use Rattle.vectors.specs.Joining.{Room, Joins, last_touches, Lengthens, Gluing, GluesAll, glued_of};
 
-use arithmetic::refusals::{Outcome, Refusal};
+use arithmetic::refusals::Refusal;
 
 // A run of bytes of the lent data (document 01: a piece of a vector).
 #[derive(Clone, Copy)]
@@ -20,36 +20,19 @@ pub struct IoVector {
     pub total: u64,
 }
 
-// The vector after a call, and whether it was carried out; a refused call leaves it as it was.
-#[derive(Clone, Copy)]
-pub struct Changed {
-    pub vector: IoVector,
-    pub outcome: Outcome,
-}
-
-// A vector with segments glued behind it, and whether they fit; where they do not, it is as it was.
-#[derive(Clone, Copy)]
-pub struct Glued {
-    pub vector: IoVector,
-    pub fits: bool,
-}
-
-// The two parts of a split, and how many segments the walk to it looked at; of a refused one the vector as it was, an empty
-// one, and 0.
+// The two parts of a split, and how many segments the walk to it looked at.
 #[derive(Clone, Copy)]
 pub struct Halves {
     pub head: IoVector,
     pub tail: IoVector,
     pub looked: usize,
-    pub outcome: Outcome,
 }
 
-// The tail of a split alone; of a refused one the vector as it was.
+// The tail of a split alone, and how many segments the walk to it looked at.
 #[derive(Clone, Copy)]
 pub struct Tail {
     pub vector: IoVector,
     pub looked: usize,
-    pub outcome: Outcome,
 }
 
 // A place between two bytes of a vector: `inside` bytes into segment `index`.
@@ -65,14 +48,6 @@ pub struct Split {
     pub head: SplitPosition,
     pub tail: SplitPosition,
     pub looked: usize,
-}
-
-// Whether a vector's segments lie as direct requests need them.
-#[derive(Clone, Copy)]
-pub enum Alignment {
-    Aligned,
-    Unaligned,
-    Refused(Refusal),
 }
 
 pub(crate) const MAX_COUNT: usize = 16;
@@ -175,21 +150,17 @@ impl IoVector {
 
     // With n segments of `other`, from `start` on, at the end, as they are: nothing is looked at where the two meet. Each is
     // put in place, as `add` does it: by `add` the whole vector would be copied for each.
-    pub(crate) fn join(self, other: IoVector, start: usize, n: usize) -> IoVector
+    pub(crate) fn join(mut self, other: IoVector, start: usize, n: usize) -> IoVector
         requires { Joins self other start n }
         ensures { result ≡ vector_of (segments_of self ++ take n (drop start (segments_of other))) }
     {
-        let mut v = self;
-        let mut i = 0usize;
-        while i < n {
-            let p = other.segments[start + i];
-            let end = v.count;
-            v.segments[end] = p;
-            v.count = end + 1;
-            v.total += p.length as u64;
-            i += 1;
+        for segment in &other.segments[start..start + n] {
+            let end = self.count;
+            self.segments[end] = *segment;
+            self.count = end + 1;
+            self.total += segment.length as u64;
         }
-        v
+        self
     }
 
     // Whether the last segment ends where `next` starts.
@@ -221,66 +192,37 @@ impl IoVector {
     }
 
     // With `segment` at the end, as part of the last segment where they touch. It does not fit where it is a 17th.
-    fn glue(self, segment: Segment) -> Glued
+    fn glue(self, segment: Segment) -> Option<IoVector>
         requires { Gluing self segment.length }
         ensures { result ≡ glued_of self (segment ∷ []) }
     {
         if self.last_touches(segment) {
-            return Glued {
-                vector: self.lengthen(segment),
-                fits: true,
-            };
+            return Some(self.lengthen(segment));
         }
         if self.count == MAX_COUNT {
-            return Glued {
-                vector: self,
-                fits: false,
-            };
+            return None;
         }
-        Glued {
-            vector: self.add(segment),
-            fits: true,
-        }
+        Some(self.add(segment))
     }
 
     // With n segments of `other`, from `start` on, at the end: the first is glued. They do not fit where one is a 17th.
-    fn glue_all(self, other: IoVector, start: usize, n: usize) -> Glued
+    fn glue_all(self, other: IoVector, start: usize, n: usize) -> Option<IoVector>
         requires { GluesAll self other start n }
         ensures { result ≡ glued_of self (take n (drop start (segments_of other))) }
     {
         if n == 0 {
-            return Glued {
-                vector: self,
-                fits: true,
-            };
+            return Some(self);
         }
-        let first = self.glue(other.segments[start]);
-        let is_over = !first.fits | (MAX_COUNT - first.vector.count < n - 1);
-        if is_over {
-            return Glued {
-                vector: self,
-                fits: false,
-            };
+        let first = self.glue(other.segments[start])?;
+        if MAX_COUNT - first.count < n - 1 {
+            return None;
         }
-        Glued {
-            vector: first.vector.join(other, start + 1, n - 1),
-            fits: true,
-        }
-    }
-
-    // 202: the vector stays as it was.
-    pub(crate) fn refuse(self) -> Changed
-        ensures { result ≡ refused_vector self }
-    {
-        Changed {
-            vector: self,
-            outcome: Outcome::Refused(Refusal::Segment),
-        }
+        Some(first.join(other, start + 1, n - 1))
     }
 
     // With `segment` at the end: where it starts where the last one ends, that one is longer by it. Refused where the
     // vector is none over the data, or would then be none, or the segment lies outside or is empty.
-    pub fn push(self, segment: Segment, data_len: usize) -> Changed
+    pub fn push(self, segment: Segment, data_len: usize) -> Result<IoVector, Refusal>
         ensures { result ≡ push_of data_len self segment }
     {
         self.insert(self.count, segment, data_len)
@@ -288,53 +230,44 @@ impl IoVector {
 
     // With `segment` before the one at `index`, which is at most the count; on either side joined where they touch.
     // Refused as push is.
-    pub fn insert(self, index: usize, segment: Segment, data_len: usize) -> Changed
+    pub fn insert(
+        self,
+        index: usize,
+        segment: Segment,
+        data_len: usize,
+    ) -> Result<IoVector, Refusal>
         ensures { result ≡ insert_of data_len self index segment }
     {
         let n = self.count;
         let is_asked = (index <= n) & self.is_valid(data_len) & segment.lies_in(data_len);
         if !is_asked {
-            return self.refuse();
+            return Err(Refusal::Segment);
         }
         if MAX_TOTAL - self.total < segment.length as u64 {
-            return self.refuse();
+            return Err(Refusal::Segment);
         }
-        let front = IoVector::new().join(self, 0, index).glue(segment);
-        if !front.fits {
-            return self.refuse();
-        }
-        let whole = front.vector.glue_all(self, index, n - index);
-        if !whole.fits {
-            return self.refuse();
-        }
-        let vector = whole.vector;
-        Changed {
-            vector,
-            outcome: Outcome::Done,
-        }
+        let front = IoVector::new().join(self, 0, index);
+        let glued = front.glue(segment).ok_or(Refusal::Segment)?;
+        glued
+            .glue_all(self, index, n - index)
+            .ok_or(Refusal::Segment)
     }
 
     // With the segments of `other` at the end, the first of them as in push. Refused as push is, and where `other` is no
     // vector over the data.
-    pub fn append(self, other: IoVector, data_len: usize) -> Changed
+    pub fn append(self, other: IoVector, data_len: usize) -> Result<IoVector, Refusal>
         ensures { result ≡ append_of data_len self other }
     {
         let is_asked = other.is_valid(data_len) & self.is_valid(data_len);
         if !is_asked {
-            return self.refuse();
+            return Err(Refusal::Segment);
         }
         if MAX_TOTAL - self.total < other.total {
-            return self.refuse();
+            return Err(Refusal::Segment);
         }
         let front = IoVector::new().join(self, 0, self.count);
-        let whole = front.glue_all(other, 0, other.count);
-        if !whole.fits {
-            return self.refuse();
-        }
-        let vector = whole.vector;
-        Changed {
-            vector,
-            outcome: Outcome::Done,
-        }
+        front
+            .glue_all(other, 0, other.count)
+            .ok_or(Refusal::Segment)
     }
 }

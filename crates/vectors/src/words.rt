@@ -7,7 +7,7 @@ ghost use Rattle.vectors.specs.Aligning.{Addressed};
 ghost use Rattle.vectors.specs.Words.{vector_from, vector_words};
 
 use crate::bytes::copy_bytes;
-use crate::vector::{Alignment, IoVector, MAX_COUNT, MAX_TOTAL, Segment};
+use crate::vector::{IoVector, MAX_COUNT, MAX_TOTAL, Segment};
 use arithmetic::offsets::{LARGEST, is_multiple};
 use arithmetic::refusals::{Outcome, Refusal};
 use arithmetic::settings::{Alignments, Lent};
@@ -124,26 +124,22 @@ pub fn is_valid(words: &[u64; 34], data_len: usize) -> bool
 
 // Whether direct requests can use the segments. Refused: 201 for unfit alignments, then 205 for data that ends past 2^64 - 1,
 // then 202 for no vector over the data.
-pub fn is_aligned(words: &[u64; 34], align: Alignments, data: Lent) -> Alignment
+pub fn is_aligned(words: &[u64; 34], align: Alignments, data: Lent) -> Result<bool, Refusal>
     ensures { result ≡ alignment_of align «data» (vector_from words.now) }
 {
     if !align.is_fit() {
-        return Alignment::Refused(Refusal::Unfit);
+        return Err(Refusal::Unfit);
     }
     if LARGEST - data.address < data.length {
-        return Alignment::Refused(Refusal::Buffer);
+        return Err(Refusal::Buffer);
     }
     if !is_valid(words, data.length as usize) {
-        return Alignment::Refused(Refusal::Segment);
+        return Err(Refusal::Segment);
     }
     if (align.mem == 1) & (align.req == 1) {
-        return Alignment::Aligned;
+        return Ok(true);
     }
-    if has_aligned_segments(words, data.address, align.mem, align.length_align()) {
-        Alignment::Aligned
-    } else {
-        Alignment::Unaligned
-    }
+    Ok(has_aligned_segments(words, data.address, align.mem, align.length_align()))
 }
 
 // Whether every segment's address is a multiple of `mem` and its length of `len`, over data at `address`.

@@ -1,9 +1,7 @@
 -- `vectors::vector::IoVector::glue_all` meets its contract: the first is glued, and the rest joined where there is room. Assumes nothing.
-use mathlib.Core.Path.{◌≡◌}
-use lib.ListN.{length}
+use Rattle.std.proofs.Common.{◌≡◌, ◌∙◌, length, rules}
 use Rattle.arithmetic.specs.Loops.{array_long}
-use Rattle.vectors.proofs.Gluing.{glue_nothing, asks_first, first_few, glue_refused, glue_joins, glue_joined}
-use borrow.Author.Rules.{rules}
+use Rattle.vectors.proofs.Gluing.{glue_nothing, asks_first, first_few, glue_refused, glue_many, glue_joins, glue_joined}
 use Rattle.vectors.proofs.vector.IoVector.glue_all.Goals as goal
 use Rattle.vectors.proofs.vector.IoVector.glue_all.Goals.{Start}
 
@@ -13,18 +11,20 @@ wide_of c = search (rules, array_long)
 pub returns-then-n-eq0 : goal.returns-then-n-eq0
 returns-then-n-eq0 c = glue_nothing _ _ _ _ c.requires c.if-n-eq0.true
 
-pub glue-first-requires : goal.glue-first-requires
-glue-first-requires c = asks_first _ _ _ _ c.requires (wide_of (goal.at.glue-first-requires c).Start) c.if-n-eq0.false
+pub glue-requires : goal.glue-requires
+glue-requires c = asks_first _ _ _ _ c.requires (wide_of (goal.at.glue-requires c).Start) c.if-n-eq0.false
 
-pub overflow_sub-is_over : goal.overflow_sub-is_over
-overflow_sub-is_over c = first_few _ _ _ _ c.requires (wide_of (goal.at.overflow_sub-is_over c).Start) c.if-n-eq0.false c.glue-first.result c.glue-first.ensures
+pub returns-in_err-first : goal.returns-in_err-first
+returns-in_err-first c = c.from_residual.ensures ∙ glue_refused _ _ _ _ c.requires (wide_of (goal.at.returns-in_err-first c).Start) c.if-n-eq0.false c.in_err-first.ensures
 
-pub returns-then-is_over : goal.returns-then-is_over
-returns-then-is_over c = glue_refused _ _ _ _ c.requires (wide_of (goal.at.returns-then-is_over c).Start) c.if-n-eq0.false c.glue-first.result c.glue-first.ensures c.if-is_over.true
+pub overflow_sub-first : goal.overflow_sub-first
+overflow_sub-first c = first_few _ _ _ _ c.requires (wide_of (goal.at.overflow_sub-first c).Start) c.if-n-eq0.false _ c.in_ok-first.ensures
+
+pub returns-then-first-n : goal.returns-then-first-n
+returns-then-first-n c = glue_many _ _ _ _ c.requires (wide_of (goal.at.returns-then-first-n c).Start) c.if-n-eq0.false _ c.in_ok-first.ensures c.if-first-n.true
 
 pub join-requires : goal.join-requires
-join-requires c = glue_joins _ _ _ _ c.requires (wide_of (goal.at.join-requires c).Start) c.if-n-eq0.false c.glue-first.result c.glue-first.ensures c.if-is_over.false
+join-requires c = glue_joins _ _ _ _ c.requires (wide_of (goal.at.join-requires c).Start) c.if-n-eq0.false _ c.in_ok-first.ensures c.if-first-n.false
 
 pub returns : goal.returns
-returns c = glue_joined _ _ _ _ c.requires (wide_of (goal.at.returns c).Start) c.if-n-eq0.false c.glue-first.result c.glue-first.ensures
-    c.if-is_over.false c.join.result c.join.ensures
+returns c = glue_joined _ _ _ _ c.requires (wide_of (goal.at.returns c).Start) c.if-n-eq0.false _ c.in_ok-first.ensures c.if-first-n.false _ c.join.ensures

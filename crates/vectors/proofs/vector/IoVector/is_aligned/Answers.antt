@@ -5,7 +5,7 @@ use Prim.Native.Nat.{◌+◌, ◌<◌}
 use native.Mathlib.Omega.{arith}
 use Rattle.arithmetic.specs.Settings.{alignments_fit}
 use Rattle.vectors.specs.Vectors.{is_valid}
-use Rattle.vectors.proofs.Testing.{answer_unfit, answer_buffer, answer_segment, answer_trivial, answer_asked, answer_yes, answer_no}
+use Rattle.vectors.proofs.Testing.{answer_unfit, answer_buffer, answer_segment, answer_trivial, answer_asked, answer_tested}
 use Rattle.vectors.proofs.vector.IoVector.is_aligned.Goals as goal
 use Rattle.vectors.proofs.vector.IoVector.is_aligned.Goals.{Else-data, Else-not-is_fit, Else-not-is_valid}
 
@@ -34,8 +34,5 @@ returns-then-align c = answer_trivial _ _ _ (fit_of (goal.at.returns-then-align 
 pub has_aligned_segments-requires : goal.has_aligned_segments-requires
 has_aligned_segments-requires c = answer_asked _ _ _ (fit_of (goal.at.has_aligned_segments-requires c).Else-not-is_fit) (fits_of (goal.at.has_aligned_segments-requires c).Else-data) (valid_of (goal.at.has_aligned_segments-requires c).Else-not-is_valid) _ c.length_align.ensures
 
-pub returns-then-has_aligned_segments : goal.returns-then-has_aligned_segments
-returns-then-has_aligned_segments c = answer_yes _ _ _ (fit_of (goal.at.returns-then-has_aligned_segments c).Else-not-is_fit) (fits_of (goal.at.returns-then-has_aligned_segments c).Else-data) (valid_of (goal.at.returns-then-has_aligned_segments c).Else-not-is_valid) c.if-align.false _ c.length_align.ensures (sym c.has_aligned_segments.ensures ∙ c.if-has_aligned_segments.true)
-
-pub returns-else-has_aligned_segments : goal.returns-else-has_aligned_segments
-returns-else-has_aligned_segments c = answer_no _ _ _ (fit_of (goal.at.returns-else-has_aligned_segments c).Else-not-is_fit) (fits_of (goal.at.returns-else-has_aligned_segments c).Else-data) (valid_of (goal.at.returns-else-has_aligned_segments c).Else-not-is_valid) c.if-align.false _ c.length_align.ensures (sym c.has_aligned_segments.ensures ∙ c.if-has_aligned_segments.false)
+pub returns : goal.returns
+returns c = answer_tested _ _ _ (fit_of (goal.at.returns c).Else-not-is_fit) (fits_of (goal.at.returns c).Else-data) (valid_of (goal.at.returns c).Else-not-is_valid) c.if-align.false _ c.length_align.ensures _ c.has_aligned_segments.ensures

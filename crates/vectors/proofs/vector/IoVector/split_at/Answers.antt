@@ -32,7 +32,7 @@ cut c p e =
     cut_of _ _ _ _ w (search rules) (valid _ _ (valid_of c.before)) e
 
 pub returns-then-not-is_valid : goal.returns-then-not-is_valid
-returns-then-not-is_valid c = split_refused _ _ _ _ (sym c.is_valid.ensures ∙ c.if-not-is_valid.true) c.new.ensures
+returns-then-not-is_valid c = split_refused _ _ c.args.mid (sym c.is_valid.ensures ∙ c.if-not-is_valid.true)
 
 pub do_split_at-split-requires : goal.do_split_at-split-requires
 do_split_at-split-requires c = record { over = _; is = valid_of (goal.at.do_split_at-split-requires c).Else-not-is_valid }
@@ -44,4 +44,4 @@ pub tail_from-requires : goal.tail_from-requires
 tail_from-requires c = cut (goal.at.tail_from-requires c).After-do_split_at-split _ (tail_is (goal.at.tail_from-requires c).After-do_split_at-split)
 
 pub returns : goal.returns
-returns c = split_done _ _ c.args.mid _ _ _ (valid_of (goal.at.returns c).Else-not-is_valid) c.do_split_at-split.ensures c.head_to.ensures c.tail_from.ensures
+returns c = split_done _ _ c.args.mid _ (valid_of (goal.at.returns c).Else-not-is_valid) c.do_split_at-split.ensures _ _ c.head_to.ensures c.tail_from.ensures

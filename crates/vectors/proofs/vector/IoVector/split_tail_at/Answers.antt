@@ -30,4 +30,4 @@ pub tail_from-requires : goal.tail_from-requires
 tail_from-requires c = let w : length c.args.self.segments ≡ 16 = search (rules, array_long) in cut_of _ _ _ _ w (search rules) (valid _ _ (valid_of (goal.at.tail_from-requires c).Else-not-is_valid)) (tail_is (goal.at.tail_from-requires c).After-do_split_at-split)
 
 pub returns : goal.returns
-returns c = tail_done _ _ c.args.mid _ _ (valid_of (goal.at.returns c).Else-not-is_valid) c.do_split_at-split.ensures c.tail_from.ensures
+returns c = tail_done _ _ c.args.mid _ (valid_of (goal.at.returns c).Else-not-is_valid) c.do_split_at-split.ensures _ c.tail_from.ensures
