@@ -7,7 +7,7 @@ use Prim.Native.Nat.{ℕ, suc, ◌+◌, ◌-◌, ◌≤◌, ◌<◌}
 use native.Mathlib.Decide.{dec_le, dec_lt, ℕ_discrete}
 use native.Mathlib.Omega.{arith}
 use lib.Dec.{ltb, eqb}
-use lib.ListN.{length, take, drop, get_or, set, replicate, length-append, length-drop}
+use lib.ListN.{length, take, drop, get_or, set, replicate, length-append, length-take, length-drop}
 use lib.Seq.{set-append_left, length-take-le}
 use borrow.Author.Tests.{le-leb, lt-leb, ltb-true, ltb-false, eq-eqb, ne_eqb}
 use Rattle.vectors.specs.declared.vector.Segment.{Segment}
@@ -19,19 +19,6 @@ use Rattle.vectors.specs.SeamLaws.{joint, glued_size, last_is, glued_last, glued
 use Rattle.vectors.proofs.Pass.{nth, in_use, same, first}
 use Rattle.vectors.proofs.Building.{count_of, total_of, joins_of, grown}
 
--- ---- whether a segment touches the next, by the difference of their starts
-
-pub starts_before : (p q : Segment) → q.start < p.start → false ≡ touches p q
-unfolding touches
-starts_before p q h = sym (ne_eqb (p.start + p.length) q.start (omega arith))
-
-pub touches_is : (p q : Segment) → p.start ≤ q.start → eqb (q.start - p.start) p.length ≡ touches p q
-unfolding touches
-touches_is p q h = elim (ℕ_discrete (p.start + p.length) q.start) [
-  | yes e ↦ eq-eqb (q.start - p.start) p.length (omega arith) ∙ sym (eq-eqb (p.start + p.length) q.start e)
-  | no e ↦ ne_eqb (q.start - p.start) p.length (omega arith) ∙ sym (ne_eqb (p.start + p.length) q.start e)
-]
-
 -- ---- the last segment
 
 -- the two numbers of a vector that is that of its segments
@@ -41,23 +28,20 @@ plain_count {v} g = sym (count_of v (segments_of v) g.plain)
 plain_total : {v : IoVector} {n : ℕ} → Gluing v n → size_of (segments_of v) ≡ v.total
 plain_total {v} g = sym (total_of v (segments_of v) g.plain)
 
--- a vector of no segments touches nothing
-pub none_last : (v : IoVector) (q : Segment) → v.count ≡ 0 → false ≡ last_touches (segments_of v) q
+-- no segments touch nothing
+pub none_last : (ps : List Segment) (q : Segment) → length ps < 1 → false ≡ last_touches ps q
 unfolding last_touches
-none_last v q e = rw e
+none_last [] q h = refl
+none_last (p ∷ ps) q h = absurd (omega (arith, h))
 
-pub last_of : (v : IoVector) (q : Segment) → length v.segments ≡ 16 → v.count ≤ 16 → 0 < v.count
-    → touches (nth v (v.count - 1)) q ≡ last_touches (segments_of v) q
-last_of v q w h k =
-    let l = in_use v w h in
-    ap (λ (p : Segment). touches p q) (sym (same v w (v.count - 1) (omega arith))) ∙ sym (last_is q (segments_of v) (v.count - 1) (omega arith))
+pub last_of : (ps : List Segment) (q : Segment) → 1 ≤ length ps → touches (get_or ps (length ps - 1) none) q ≡ last_touches ps q
+last_of ps q h = sym (last_is q ps (length ps - 1) (omega arith))
 
 -- a vector of no segments has no last one
 touching_some : (v : IoVector) (q : Segment) → last_touches (segments_of v) q ≡ true → 0 < v.count
-unfolding last_touches
 touching_some v q e = elim (dec_lt 0 v.count) [
   | yes h ↦ h
-  | no h ↦ let z : v.count ≡ 0 = omega arith in absurd (false≢true (none_last v q z ∙ e))
+  | no h ↦ let z : length (segments_of v) < 1 = omega (arith, length-take v.count v.segments) in absurd (false≢true (none_last (segments_of v) q z ∙ e))
 ]
 
 -- a vector of these fields is that of the list

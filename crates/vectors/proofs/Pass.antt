@@ -106,13 +106,3 @@ module _ (n : ℕ) (v : IoVector) (sum i : ℕ) (g : Checked n v sum i) where
       left = omega (arith, g.left, size v g.wide i within);
       small = omega (arith, g.small);
     }
-
--- ---- tests by differences, where sums may not fit
-
-pub lies_out : (n : ℕ) (p : Segment) → n < p.start → false ≡ lies_in n p
-unfolding lies_in
-lies_out n p h = let l : n < p.start + p.length = omega arith in simp (lt-leb (p.start + p.length) n l, and-false)
-
-pub lies_room : (n : ℕ) (p : Segment) → p.start ≤ n → (ltb 0 p.length && leb p.length (n - p.start)) ≡ lies_in n p
-unfolding lies_in
-lies_room n p h = rw (room n p.start p.length h)

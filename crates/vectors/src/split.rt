@@ -50,6 +50,7 @@ impl IoVector {
 
     // Where the head of the first `mid` bytes ends and the tail starts; at or past the total, behind the last segment. Past
     // half the total the walk goes from the last segment; tested by the difference, as twice `mid` may pass 2^64 - 1.
+    // Each walk stays a loop that counts: by the project's rule for splits it yields the position by break.
     fn do_split_at(self, mid: u64) -> Split
         requires { IsVector self }
         ensures { result ≡ split_at (segments_of self) mid }
@@ -94,16 +95,14 @@ impl IoVector {
         requires { Cut self position }
         ensures { result ≡ vector_of (head_at (segments_of self) position) }
     {
-        let index = position.index;
-        let inside = position.inside;
+        let SplitPosition { index, inside } = position;
         let head = IoVector::new().join(self, 0, index);
         if inside == 0 {
             return head;
         }
-        let p = self.segments[index];
         head.add(Segment {
-            start: p.start,
             length: inside,
+            ..self.segments[index]
         })
     }
 
@@ -112,16 +111,14 @@ impl IoVector {
         requires { Cut self position }
         ensures { result ≡ vector_of (tail_at (segments_of self) position) }
     {
-        let index = position.index;
-        let inside = position.inside;
+        let SplitPosition { index, inside } = position;
         let mut tail = IoVector::new().join(self, index, self.count - index);
         if inside == 0 {
             return tail;
         }
-        let first = tail.segments[0];
-        let start = first.start + inside;
-        let length = first.length - inside;
-        tail.segments[0] = Segment { start, length };
+        let first = &mut tail.segments[0];
+        first.start += inside;
+        first.length -= inside;
         tail.total -= inside as u64;
         tail
     }

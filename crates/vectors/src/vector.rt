@@ -56,23 +56,19 @@ pub(crate) const MAX_TOTAL: u64 = 1048576;
 
 impl Segment {
     // Whether it is not empty, and inside data of that length.
+    #[tactic(auto, unfolding(crate::specs::Vectors::lies_in))]
     pub(crate) fn lies_in(self, data_len: usize) -> bool
         ensures { result ≡ lies_in data_len self }
     {
-        if data_len < self.start {
-            return false;
-        }
-        (0 < self.length) & (self.length <= data_len - self.start)
+        self.start <= data_len && (0 < self.length) && self.length <= data_len - self.start
     }
 
     // Whether `next` starts where this one ends; by the difference, as the sum may pass 2^64 - 1.
+    #[tactic(auto, unfolding(crate::specs::Vectors::touches))]
     fn touches(self, next: Segment) -> bool
         ensures { result ≡ touches self next }
     {
-        if next.start < self.start {
-            return false;
-        }
-        next.start - self.start == self.length
+        self.start <= next.start && next.start - self.start == self.length
     }
 }
 
@@ -136,29 +132,33 @@ impl IoVector {
         self.total == sum
     }
 
+    // One segment more at the end, in place.
+    fn put_last(&mut self, segment: Segment)
+        requires { Room self.old segment }
+        ensures { self.new ≡ vector_of (segments_of self.old ++ (segment ∷ [])) }
+    {
+        self.segments[self.count] = segment;
+        self.count += 1;
+        self.total += segment.length as u64;
+    }
+
     // With one segment more at the end.
     pub(crate) fn add(mut self, segment: Segment) -> IoVector
         requires { Room self segment }
         ensures { result ≡ vector_of (segments_of self ++ (segment ∷ [])) }
     {
-        let end = self.count;
-        self.segments[end] = segment;
-        self.count = end + 1;
-        self.total += segment.length as u64;
+        self.put_last(segment);
         self
     }
 
     // With n segments of `other`, from `start` on, at the end, as they are: nothing is looked at where the two meet. Each is
-    // put in place, as `add` does it: by `add` the whole vector would be copied for each.
+    // put in place: by `add` the whole vector would be copied for each.
     pub(crate) fn join(mut self, other: IoVector, start: usize, n: usize) -> IoVector
         requires { Joins self other start n }
         ensures { result ≡ vector_of (segments_of self ++ take n (drop start (segments_of other))) }
     {
         for segment in &other.segments[start..start + n] {
-            let end = self.count;
-            self.segments[end] = *segment;
-            self.count = end + 1;
-            self.total += segment.length as u64;
+            self.put_last(*segment);
         }
         self
     }
@@ -168,12 +168,10 @@ impl IoVector {
         requires { self.count ≤ 16 }
         ensures { result ≡ last_touches (segments_of self) next }
     {
-        let n = self.count;
-        if n == 0 {
-            return false;
+        match &self.segments[..self.count] {
+            [.., last] => last.touches(next),
+            [] => false,
         }
-        let last = self.segments[n - 1];
-        last.touches(next)
     }
 
     // With the last segment longer by `next`, which it touches.
@@ -181,12 +179,7 @@ impl IoVector {
         requires { Lengthens self next }
         ensures { result ≡ vector_of (glued (segments_of self) (next ∷ [])) }
     {
-        let end = self.count - 1;
-        let last = self.segments[end];
-        self.segments[end] = Segment {
-            start: last.start,
-            length: last.length + next.length,
-        };
+        self.segments[self.count - 1].length += next.length;
         self.total += next.length as u64;
         self
     }

@@ -1,15 +1,10 @@
--- `vectors::vector::IoVector::last_touches` meets its contract: the last segment in use is the one before the count. Assumes nothing.
-use mathlib.Core.Path.{◌≡◌, ◌∙◌}
-use native.Mathlib.Omega.{arith}
-use lib.ListN.{length}
-use Rattle.arithmetic.specs.Loops.{array_long}
+-- `vectors::vector::IoVector::last_touches` meets its contract: the last segment in use is the last of the list. Assumes nothing.
+use Rattle.std.proofs.Common.{◌∙◌}
 use Rattle.vectors.proofs.Gluing.{none_last, last_of}
-use borrow.Author.Rules.{rules}
 use Rattle.vectors.proofs.vector.IoVector.last_touches.Goals as goal
 
-pub returns-then-n-eq0 : goal.returns-then-n-eq0
-returns-then-n-eq0 c = none_last c.args.self c.args.next c.if-n-eq0.true
+pub returns-in-empty : goal.returns-in-empty
+returns-in-empty c = none_last _ _ c.in-empty.len_below
 
-pub returns : goal.returns
-returns c = let wide : length c.args.self.segments ≡ 16 = search (rules, array_long) in
-    c.touches.ensures ∙ last_of c.args.self c.args.next wide c.requires (omega (arith, c.if-n-eq0.false))
+pub returns-in-len1-up : goal.returns-in-len1-up
+returns-in-len1-up c = c.touches.ensures ∙ last_of _ c.args.next c.in-len1-up.len_at_least

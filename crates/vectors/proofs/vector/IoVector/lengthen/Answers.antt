@@ -11,8 +11,8 @@ use Rattle.vectors.proofs.vector.IoVector.lengthen.Goals.{Start}
 wide_of : (c : Start) → length c.args.self.segments ≡ 16
 wide_of c = search (rules, array_long)
 
-pub overflow_sub-end : goal.overflow_sub-end
-overflow_sub-end c = some_left c.args.self c.args.next (wide_of (goal.at.overflow_sub-end c).Start) c.requires
+pub overflow_sub-self : goal.overflow_sub-self
+overflow_sub-self c = let wide : length c.args.self.segments ≡ 16 = search (rules, array_long) in some_left _ c.args.next wide c.requires
 
 pub overflow_add-self : goal.overflow_add-self
 overflow_add-self c = omega (arith, last_length c.args.self c.args.next (wide_of (goal.at.overflow_add-self c).Start) c.requires, c.requires.asked.small)

@@ -25,11 +25,11 @@ join-tail-requires c = tail_joins _ c.args.position (wide_of (goal.at.join-tail-
 pub returns-then-inside-eq0 : goal.returns-then-inside-eq0
 returns-then-inside-eq0 c = tail_clean _ c.args.position (wide_of (goal.at.returns-then-inside-eq0 c).Start) c.requires _ c.if-inside-eq0.true (joined (goal.at.returns-then-inside-eq0 c).After-join-tail)
 
-pub overflow_add-start : goal.overflow_add-start
-overflow_add-start c = omega (arith, (tail_ends _ _ (wide_of (goal.at.overflow_add-start c).Start) c.requires c.if-inside-eq0.false _ (joined (goal.at.overflow_add-start c).After-join-tail)).0)
+pub overflow_add-first : goal.overflow_add-first
+overflow_add-first c = omega (arith, (tail_ends _ _ (wide_of (goal.at.overflow_add-first c).Start) c.requires c.if-inside-eq0.false _ (joined (goal.at.overflow_add-first c).After-join-tail)).0)
 
-pub overflow_sub-length : goal.overflow_sub-length
-overflow_sub-length c = (tail_ends _ _ (wide_of (goal.at.overflow_sub-length c).Start) c.requires c.if-inside-eq0.false _ (joined (goal.at.overflow_sub-length c).After-join-tail)).1
+pub overflow_sub-first : goal.overflow_sub-first
+overflow_sub-first c = (tail_ends _ _ (wide_of (goal.at.overflow_sub-first c).Start) c.requires c.if-inside-eq0.false _ (joined (goal.at.overflow_sub-first c).After-join-tail)).1
 
 pub overflow_sub-tail : goal.overflow_sub-tail
 overflow_sub-tail c = (tail_ends _ _ (wide_of (goal.at.overflow_sub-tail c).Start) c.requires c.if-inside-eq0.false _ (joined (goal.at.overflow_sub-tail c).After-join-tail)).2
