@@ -1,7 +1,8 @@
 -- Document 01, "Events": begin. What is filled in the scratch, what is entered, and the order of refusals.
-use Rattle.std.specs.Prelude.{◌≡◌, Bool, true, false, List, [], ℕ, ◌+◌, ◌*◌, ◌<◌, ◌≤◌, ltb, length, set, replicate}
+use Rattle.std.specs.Prelude.{◌≡◌, Result, Ok, Err, Bool, true, false, List, [], ℕ, ◌+◌, ◌*◌, ◌<◌, ◌≤◌, ltb, length, set, replicate}
 use Rattle.arithmetic.specs.Rounding.{pick}
 use Rattle.arithmetic.specs.Refusals.{when_done}
+use Rattle.arithmetic.specs.declared.refusals.Refusal.{Refusal}
 use Rattle.arithmetic.specs.declared.refusals.Refusal.TheVariants.{Segment, Overlap, Full}
 use Rattle.arithmetic.specs.declared.refusals.Outcome.{Outcome}
 use Rattle.arithmetic.specs.declared.refusals.Outcome.TheVariants.{Done, Refused}
@@ -10,8 +11,6 @@ use Rattle.arithmetic.specs.declared.settings.Settings.{Settings}
 use Rattle.arithmetic.specs.declared.settings.Buffers.{Buffers}
 use Rattle.vectors.specs.Vectors.{put, bytes_of, segments_of, copies, is_valid, vector_of, alignment_of}
 use Rattle.vectors.specs.declared.vector.IoVector.{IoVector}
-use Rattle.vectors.specs.declared.vector.Alignment.{Alignment}
-use Rattle.vectors.specs.declared.vector.Alignment.TheVariants.{Aligned, Unaligned, Refused as NotAsked}
 use Rattle.blockers.specs.Blockers.{entered_of, strength}
 use Rattle.blockers.specs.declared.Blockers.{Blockers}
 use Rattle.blockers.specs.declared.Changed.{Changed}
@@ -143,10 +142,9 @@ selected_of Zeroes v = vector_of []
 selected_of AllocatedZeroes v = vector_of []
 selected_of Discard v = vector_of []
 
-abbrev pub is_aligned : Alignment → Bool
-is_aligned Aligned = true
-is_aligned Unaligned = false
-is_aligned (NotAsked r) = false
+abbrev pub is_aligned : Result Bool Refusal → Bool
+is_aligned (Ok t) = t
+is_aligned (Err r) = false
 
 -- the first stage of a job
 abbrev pub plan_of : Job → Settings → Buffers → StoreOffset → ℕ → IoVector → Plan

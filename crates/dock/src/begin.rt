@@ -13,7 +13,7 @@ use arithmetic::settings::{Alignments, Buffers, Lent, Settings};
 use blockers::{Blockers, Changed};
 use stages::plan::{Plan, plan_discard, plan_read, plan_write, plan_zeroes, zero_job};
 use stages::state::{Job, State, is_blocking};
-use vectors::vector::{Alignment, IoVector};
+use vectors::vector::IoVector;
 
 // What is asked of a begin: the job, and where on the store. A read and a write have the length of their vector, the others
 // `length` and no vector; what is not the job's is not looked at.
@@ -114,11 +114,10 @@ pub fn select_vector(job: Job, vector: IoVector) -> IoVector
 fn is_aligned(v: IoVector, align: Alignments, data: Lent) -> bool
     ensures { result ≡ is_aligned (alignment_of align «data» v) }
 {
-    let answer = v.is_aligned(align, data);
-    let Alignment::Aligned = answer else {
-        return false; // for what is no vector over the data too: begin refuses that before it looks at the plan
+    let Ok(aligned) = v.is_aligned(align, data) else {
+        return false; // for what is no vector over the data too: begin refuses that before it looks at the plan (let .. else: a project rule)
     };
-    true
+    aligned
 }
 
 // The first stage of what is asked: 207 and 206, or no request to make.

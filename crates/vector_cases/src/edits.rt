@@ -11,7 +11,7 @@ fn push(
     length: usize,
     data_len: usize,
 ) -> io::Result<()> {
-    show::changed(rt, label, v.push(Segment { start, length }, data_len))
+    show::changed(rt, label, v, v.push(Segment { start, length }, data_len))
 }
 
 fn insert(
@@ -22,33 +22,28 @@ fn insert(
     start: usize,
     length: usize,
 ) -> io::Result<()> {
-    show::changed(rt, label, v.insert(index, Segment { start, length }, 100))
+    show::changed(
+        rt,
+        label,
+        v,
+        v.insert(index, Segment { start, length }, 100),
+    )
 }
 
 fn append(rt: &impl Print, label: &[u8], v: IoVector, other: IoVector) -> io::Result<()> {
-    show::changed(rt, label, v.append(other, 2000000))
+    show::changed(rt, label, v, v.append(other, 2000000))
 }
 
 // n pushes of one byte, each behind the one before it: one segment.
 fn side_by_side(n: usize) -> IoVector {
-    let mut v = IoVector::new();
-    let mut i = 0usize;
-    while i < n {
-        v = show::more(v, i, 1);
-        i += 1;
-    }
-    v
+    (0..n).fold(IoVector::new(), |v, start| show::more(v, start, 1))
 }
 
 // n pushes of one byte, each before the one before it, the last at 0: n segments.
 fn downward(n: usize) -> IoVector {
-    let mut v = IoVector::new();
-    let mut left = n;
-    while 0 < left {
-        left -= 1;
-        v = show::more(v, left, 1);
-    }
-    v
+    (0..n)
+        .rev()
+        .fold(IoVector::new(), |v, start| show::more(v, start, 1))
 }
 
 pub fn first(rt: &impl Print) -> io::Result<()> {
@@ -152,7 +147,7 @@ pub fn high_joins(rt: &impl Print) -> io::Result<()> {
             },
             18446744073709551615,
         )
-        .vector;
+        .unwrap_or(IoVector::new());
     push(
         rt,
         b"push up to 2^64 - 1",
@@ -196,7 +191,8 @@ pub fn appends(rt: &impl Print) -> io::Result<()> {
     append(rt, b"append to nothing", IoVector::new(), half)?;
     append(rt, b"append 8 to 8", eight, eight)?;
     append(rt, b"append 9 to 8", eight, downward(9))?;
-    let nine = show::one(1, 1).append(eight, 100).vector;
+    let last = show::one(1, 1);
+    let nine = last.append(eight, 100).unwrap_or(last);
     append(
         rt,
         b"append 9 to 8, the last of which it touches",
@@ -208,6 +204,7 @@ pub fn appends(rt: &impl Print) -> io::Result<()> {
     show::changed(
         rt,
         b"append one outside of the data",
+        eight,
         eight.append(half, 100),
     )
 }

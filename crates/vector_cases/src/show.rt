@@ -1,7 +1,7 @@
 // One line a case: a label, then the answer.
-use arithmetic::refusals::Outcome;
+use arithmetic::refusals::{Outcome, Refusal};
 use std::io;
-use vectors::vector::{Alignment, Changed, Halves, IoVector, Segment, Tail};
+use vectors::vector::{Halves, IoVector, Segment, Tail};
 
 pub fn text(rt: &impl Print, bytes: &[u8]) -> io::Result<()> {
     rt.write_all(bytes)
@@ -15,12 +15,17 @@ fn widen(x: u8) -> u64 {
     x as u64
 }
 
-pub fn outcome(rt: &impl Print, o: Outcome) -> io::Result<()> {
-    let n = o.number();
-    if n == 0 {
-        text(rt, b"done")
-    } else {
-        number(rt, widen(n))
+fn done(rt: &impl Print, refusal: Option<Refusal>) -> io::Result<()> {
+    match refusal {
+        None => text(rt, b"done"),
+        Some(r) => number(rt, widen(r.number())),
+    }
+}
+
+fn outcome(rt: &impl Print, o: Outcome) -> io::Result<()> {
+    match o {
+        Outcome::Done => done(rt, None),
+        Outcome::Refused(r) => done(rt, Some(r)),
     }
 }
 
@@ -41,14 +46,8 @@ fn vector(rt: &impl Print, v: IoVector) -> io::Result<()> {
 }
 
 fn segments(rt: &impl Print, v: IoVector) -> io::Result<()> {
-    let n = v.count;
-    let mut i = 0usize;
-    while i < 16 {
-        if i < n {
-            let p = v.segments[i];
-            segment(rt, p)?;
-        }
-        i += 1;
+    for p in v.segments.iter().take(v.count) {
+        segment(rt, *p)?;
     }
     Ok(())
 }
@@ -60,40 +59,55 @@ pub fn vector_line(rt: &impl Print, label: &[u8], v: IoVector) -> io::Result<()>
     text(rt, b"\n")
 }
 
-pub fn changed(rt: &impl Print, label: &[u8], c: Changed) -> io::Result<()> {
+// What a call made of v: where it is refused, v as it was.
+pub fn changed(
+    rt: &impl Print,
+    label: &[u8],
+    v: IoVector,
+    c: Result<IoVector, Refusal>,
+) -> io::Result<()> {
     text(rt, label)?;
     text(rt, b": ")?;
-    let o = c.outcome;
-    outcome(rt, o)?;
+    done(rt, c.err())?;
     text(rt, b", ")?;
-    let v = c.vector;
-    vector(rt, v)?;
+    vector(rt, c.unwrap_or(v))?;
     text(rt, b"\n")
 }
 
-pub fn halves(rt: &impl Print, mid: u64, h: Halves) -> io::Result<()> {
+// The parts of v: where the split is refused, v as it was and an empty one.
+pub fn halves(
+    rt: &impl Print,
+    v: IoVector,
+    mid: u64,
+    h: Result<Halves, Refusal>,
+) -> io::Result<()> {
     text(rt, b"split at ")?;
     number(rt, mid)?;
     text(rt, b": ")?;
-    let o = h.outcome;
-    outcome(rt, o)?;
+    done(rt, h.err())?;
     text(rt, b", ")?;
-    let head = h.head;
-    vector(rt, head)?;
+    let parts = h.unwrap_or(Halves {
+        head: v,
+        tail: IoVector::new(),
+        looked: 0,
+    });
+    vector(rt, parts.head)?;
     text(rt, b" | ")?;
-    let tail = h.tail;
-    vector(rt, tail)?;
-    looked(rt, h.looked)
+    vector(rt, parts.tail)?;
+    looked(rt, parts.looked)
 }
 
-pub fn tail(rt: &impl Print, t: Tail) -> io::Result<()> {
+// The tail of v: where the split is refused, v as it was.
+pub fn tail(rt: &impl Print, v: IoVector, t: Result<Tail, Refusal>) -> io::Result<()> {
     text(rt, b": ")?;
-    let o = t.outcome;
-    outcome(rt, o)?;
+    done(rt, t.err())?;
     text(rt, b", ")?;
-    let v = t.vector;
-    vector(rt, v)?;
-    looked(rt, t.looked)
+    let rest = t.unwrap_or(Tail {
+        vector: v,
+        looked: 0,
+    });
+    vector(rt, rest.vector)?;
+    looked(rt, rest.looked)
 }
 
 fn looked(rt: &impl Print, n: usize) -> io::Result<()> {
@@ -127,23 +141,21 @@ pub fn bytes(rt: &impl Print, label: &[u8], o: Outcome, bytes: &[u8]) -> io::Res
     text(rt, b"\n")
 }
 
-pub fn alignment(rt: &impl Print, label: &[u8], a: Alignment) -> io::Result<()> {
+pub fn alignment(rt: &impl Print, label: &[u8], a: Result<bool, Refusal>) -> io::Result<()> {
     text(rt, label)?;
     match a {
-        Alignment::Aligned => text(rt, b": aligned\n"),
-        Alignment::Unaligned => text(rt, b": unaligned\n"),
-        Alignment::Refused(r) => number_line(rt, b"", widen(r.number())),
+        Ok(true) => text(rt, b": aligned\n"),
+        Ok(false) => text(rt, b": unaligned\n"),
+        Err(r) => number_line(rt, b"", widen(r.number())),
     }
 }
 
 // The vector of that segment alone, over data of 2,000,000 bytes.
 pub fn one(start: usize, length: usize) -> IoVector {
-    IoVector::new()
-        .push(Segment { start, length }, 2000000)
-        .vector
+    more(IoVector::new(), start, length)
 }
 
-// With one segment more, over data of 2,000,000 bytes.
+// With one segment more, over data of 2,000,000 bytes; without where that is refused.
 pub fn more(v: IoVector, start: usize, length: usize) -> IoVector {
-    v.push(Segment { start, length }, 2000000).vector
+    v.push(Segment { start, length }, 2000000).unwrap_or(v)
 }

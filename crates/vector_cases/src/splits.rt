@@ -4,13 +4,13 @@ use std::io;
 use vectors::vector::IoVector;
 
 fn split(rt: &impl Print, v: IoVector, mid: u64, data_len: usize) -> io::Result<()> {
-    show::halves(rt, mid, v.split_at(mid, data_len))
+    show::halves(rt, v, mid, v.split_at(mid, data_len))
 }
 
 fn tail(rt: &impl Print, v: IoVector, mid: u64, data_len: usize) -> io::Result<()> {
     show::text(rt, b"tail from ")?;
     show::number(rt, mid)?;
-    show::tail(rt, v.split_tail_at(mid, data_len))
+    show::tail(rt, v, v.split_tail_at(mid, data_len))
 }
 
 // Of 3, 4 and 5 bytes.
