@@ -1,47 +1,15 @@
 -- The searches that test segments: overlap and alignment. Assumes nothing.
-use Rattle.std.specs.Prelude.{◌≡◌, refl, Bool, true, false, ◌&&◌, ltb, List, [], ◌∷◌, ℕ, zero, suc, ◌+◌, ◌-◌, ◌≤◌, ◌<◌, max, min, length, drop, get_or}
+use Rattle.std.specs.Prelude.{◌≡◌, refl, Bool, true, false, List, [], ◌∷◌, ℕ, zero, suc, ◌+◌, ◌-◌, ◌<◌, length, drop, get_or}
 use Rattle.std.specs.Bool.{MatchBool}
 use Rattle.std.specs.List.{range_with_len, HoldsAt, AllWithin}
-use Rattle.std.proofs.Common.{sym, ap, ◌∙◌, subst, add-one, zero-add, arith, lt-ltb, le-ltb, length-take, length-drop, get_or-take, get_or-drop}
+use Rattle.std.proofs.Common.{sym, ap, ◌∙◌, subst, add-one, zero-add, arith, length-take, length-drop, get_or-take, get_or-drop}
 use Rattle.std.proofs.Math.Bool.{or-true, and-false}
-use Rattle.std.proofs.Math.Decide.{dec_lt}
 use Rattle.std.proofs.lemmas.List.FromFn.{length-range_with_len, get_or-range_with_len}
 use Rattle.vectors.specs.declared.vector.Segment.{Segment}
 use Rattle.vectors.specs.declared.vector.IoVector.{IoVector}
 use Rattle.vectors.specs.Vectors.{none, segments_of, all_segments, any_segment, shares, overlap_of, self_overlap_of, is_aligned_at, lies_aligned}
 use Rattle.vectors.specs.OverlapLaws.{any_here}
 use Rattle.vectors.proofs.Pass.{nth}
-
--- ---- two segments, by differences
-
--- the later start is q's
-share : (p q : Segment) → p.start ≤ q.start → (ltb (q.start - p.start) p.length && ltb 0 q.length) ≡ ltb (max p.start q.start) (min (p.start + p.length) (q.start + q.length))
-share p q h = elim (dec_lt (q.start - p.start) p.length) [
-  | yes a ↦ elim (dec_lt 0 q.length) [
-    | yes b ↦
-        let l : max p.start q.start < min (p.start + p.length) (q.start + q.length) = omega arith in
-        rw (lt-ltb _ _ a, lt-ltb _ _ b, lt-ltb _ _ l)
-    | no b ↦
-        let l : min (p.start + p.length) (q.start + q.length) ≤ max p.start q.start = omega arith in
-        let z : q.length ≤ 0 = omega arith in
-        rw (lt-ltb _ _ a, le-ltb 0 _ z, le-ltb _ _ l)
-  ]
-  | no a ↦
-      let l : min (p.start + p.length) (q.start + q.length) ≤ max p.start q.start = omega arith in
-      let z : p.length ≤ q.start - p.start = omega arith in
-      rw (le-ltb _ _ z, le-ltb _ _ l)
-]
-
-pub shares_left : (p q : Segment) → p.start ≤ q.start → (ltb (q.start - p.start) p.length && ltb 0 q.length) ≡ shares p q
-unfolding shares
-shares_left p q h = share p q h
-
-pub shares_right : (p q : Segment) → q.start < p.start → (ltb (p.start - q.start) q.length && ltb 0 p.length) ≡ shares p q
-unfolding shares
-shares_right p q h =
-    let a : max q.start p.start ≡ max p.start q.start = omega arith in
-    let b : min (q.start + q.length) (p.start + p.length) ≡ min (p.start + p.length) (q.start + q.length) = omega arith in
-    share q p (omega arith) ∙ (rw (a, b))
 
 -- ---- a test of the segments by their places
 
@@ -119,8 +87,8 @@ module _ (v : IoVector) (n : ℕ) (long : n ≡ length (segments_of v)) where
         sym (any_here test (drop a (segments_of v)) none e.0 (omega (arith, k.0, long, length-drop a (segments_of v))) (behind a e.0 k.0 ∙ k.1))
     any_from a false e =
         sym (any_none test (drop a (segments_of v)) (λ k h.
-            let l : a + k < n = omega (arith, long, length-drop a (segments_of v)) in
-            behind a k l ∙ at_number a n (λ i. test (nth v i)) false k (a + k) refl e l))
+        let l : a + k < n = omega (arith, long, length-drop a (segments_of v)) in
+        behind a k l ∙ at_number a n (λ i. test (nth v i)) false k (a + k) refl e l))
 
     pub all_from : (r : Bool) → Passed 0 n (λ i. test (nth v i)) r → r ≡ all_segments test (segments_of v)
     all_from true e = sym (all_here test (segments_of v) (λ i h.

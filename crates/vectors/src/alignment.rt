@@ -11,13 +11,13 @@ use arithmetic::settings::{Alignments, Lent};
 
 impl Segment {
     // Whether its address, over data at `address`, fits 64 bits and is a multiple of `mem`, and its length one of `len`.
+    #[tactic(auto, unfolding(crate::specs::Vectors::is_aligned_at, arithmetic::specs::Rounding::fits))]
     fn is_aligned_at(self, address: u64, mem: u64, len: u64) -> bool
         ensures { result ≡ is_aligned_at address mem len self }
     {
-        if LARGEST - address < self.start as u64 {
-            return false;
-        }
-        is_multiple(address + self.start as u64, mem) & is_multiple(self.length as u64, len)
+        self.start as u64 <= LARGEST - address
+            && is_multiple(address + self.start as u64, mem)
+            && is_multiple(self.length as u64, len)
     }
 }
 

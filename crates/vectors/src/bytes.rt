@@ -85,6 +85,7 @@ pub fn fill_bytes(part: &mut [u8], value: u8)
 }
 
 // `slice` becomes the bytes of the segments, joined in order.
+#[tactic(auto, using(crate::proofs::Moving::gather_fits))]
 fn gather<V: Segments>(v: &V, data: &[u8], slice: &mut [u8])
     requires { copies «data».now (V.vector v.now) (length slice.old) ≡ true }
     ensures { slice.new ≡ bytes_of «data».now (segments_of (V.vector v.now)) }
@@ -99,6 +100,7 @@ fn gather<V: Segments>(v: &V, data: &[u8], slice: &mut [u8])
 }
 
 // The bytes of `slice` go into the segments, each filled before the next.
+#[tactic(auto, using(crate::proofs::Moving::scatter_fits))]
 fn scatter<V: Segments>(v: &V, data: &mut [u8], slice: &[u8])
     requires { copies «data».old (V.vector v.now) (length slice.now) ≡ true }
     ensures { «data».new
@@ -114,6 +116,7 @@ fn scatter<V: Segments>(v: &V, data: &mut [u8], slice: &[u8])
 }
 
 // Every byte of the segments becomes `value`.
+#[tactic(auto, using(crate::proofs::Moving::fill_fits))]
 fn fill_segments<V: Segments>(v: &V, data: &mut [u8], value: u8)
     requires { is_valid (length «data».old) (V.vector v.now) ≡ true }
     ensures { «data».new
@@ -125,18 +128,22 @@ fn fill_segments<V: Segments>(v: &V, data: &mut [u8], value: u8)
     }
 }
 
-// `slice`, as long as the vector, becomes its bytes. Refused where it is of another length.
+// Whether a slice of that length can be copied to or from the vector's segments.
 #[tactic(auto, unfolding(crate::specs::Vectors::copies))]
+fn copies<V: Segments>(v: &V, data: &[u8], len: usize) -> bool
+    ensures { result ≡ copies «data».now (V.vector v.now) len }
+{
+    is_valid(v, data.len()) && len as u64 == v.total()
+}
+
+// `slice`, as long as the vector, becomes its bytes. Refused where it is of another length.
 pub fn copy_into_slice<V: Segments>(v: &V, data: &[u8], slice: &mut [u8]) -> Outcome
     ensures outcome { result
         ≡ outcome_of (copies «data».now (V.vector v.now) (length slice.old)) }
     ensures bytes { slice.new
         ≡ copied_into «data».now (V.vector v.now) slice.old }
 {
-    if !is_valid(v, data.len()) {
-        return Outcome::Refused(Refusal::Segment);
-    }
-    if slice.len() as u64 != v.total() {
+    if !copies(v, data, slice.len()) {
         return Outcome::Refused(Refusal::Segment);
     }
     gather(v, data, slice);
@@ -145,17 +152,13 @@ pub fn copy_into_slice<V: Segments>(v: &V, data: &[u8], slice: &mut [u8]) -> Out
 
 // The bytes of `slice`, as long as the vector, go into its segments in order: where these overlap, the later wins. Refused
 // where it is of another length.
-#[tactic(auto, unfolding(crate::specs::Vectors::copies))]
 pub fn copy_from_slice<V: Segments>(v: &V, data: &mut [u8], slice: &[u8]) -> Outcome
     ensures outcome { result
         ≡ outcome_of (copies «data».old (V.vector v.now) (length slice.now)) }
     ensures bytes { «data».new
         ≡ copied_from «data».old (V.vector v.now) slice.now }
 {
-    if !is_valid(v, data.len()) {
-        return Outcome::Refused(Refusal::Segment);
-    }
-    if slice.len() as u64 != v.total() {
+    if !copies(v, data, slice.len()) {
         return Outcome::Refused(Refusal::Segment);
     }
     scatter(v, data, slice);

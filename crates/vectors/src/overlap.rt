@@ -7,6 +7,7 @@ use crate::vector::{IoVector, MAX_COUNT, Segment};
 
 impl Segment {
     // The start of one lies in the other, and neither is empty. No end is computed, which may not fit.
+    #[tactic(auto, unfolding(crate::specs::Vectors::shares))]
     pub(crate) fn shares(self, other: Segment) -> bool
         ensures { result ≡ shares self other }
     {

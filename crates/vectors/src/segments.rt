@@ -24,6 +24,7 @@ pub trait Segments {
 }
 
 // Whether this is a vector over data of that length. The sum stays at most MAX_TOTAL.
+#[tactic(auto, using(crate::proofs::Pass::check_long, crate::proofs::Pass::check_end))]
 pub fn is_valid<V: Segments>(v: &V, data_len: usize) -> bool
     ensures { result ≡ is_valid data_len (V.vector v.now) }
 {
@@ -57,9 +58,6 @@ impl Segments for IoVector {
     }
 
     fn segment_at(&self, i: usize) -> Segment {
-        self.segments.get(i).copied().unwrap_or(Segment {
-            start: 0,
-            length: 0,
-        })
+        self.segments.get(i).copied().unwrap_or_default()
     }
 }

@@ -7,8 +7,8 @@ ghost use Rattle.vectors.specs.Joining.{Room, Joins, last_touches, Lengthens, Gl
 use crate::segments;
 use arithmetic::refusals::{Outcome, Refusal};
 
-// A run of bytes of the lent data (document 01: a piece of a vector).
-#[derive(Clone, Copy)]
+// A run of bytes of the lent data (document 01: a piece of a vector). The default is empty.
+#[derive(Clone, Copy, Default)]
 pub struct Segment {
     pub start: usize,
     pub length: usize,
@@ -82,6 +82,7 @@ pub(crate) const MAX_TOTAL: u64 = 1048576;
 
 impl Segment {
     // Whether it is not empty, and inside data of that length.
+    #[tactic(auto, unfolding(crate::specs::Vectors::lies_in))]
     pub(crate) fn lies_in(self, data_len: usize) -> bool
         ensures { result ≡ lies_in data_len self }
     {

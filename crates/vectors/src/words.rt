@@ -31,15 +31,13 @@ pub fn segment_at(words: &[u64; 34], i: usize) -> Segment
         let length = words[3 + 2 * i] as usize;
         return Segment { start, length };
     }
-    Segment {
-        start: 0,
-        length: 0,
-    }
+    Segment::default()
 }
 
 impl Segments for [u64; 34] {
     ghost vector = { vector_from };
 
+    #[tactic(auto, using(crate::specs::WordLaws::vector_wide))]
     fn buffer_count(&self) -> usize {
         buffer_count(self)
     }

@@ -1,6 +1,5 @@
 -- `vectors::bytes::fill_segments` meets its contract: what is to be filled is what is to be filled from segment i on. Assumes nothing.
 use Rattle.std.specs.Prelude.{◌+◌, ◌≤◌, ◌<◌, length}
-use Rattle.std.proofs.Common.{arith}
 use Rattle.vectors.proofs.Moving.{fill_fits, fill_step, fill_end, fill_start, filled_back}
 use Rattle.vectors.proofs.bytes.fill_segments.Goals as goal
 use Rattle.vectors.proofs.bytes.fill_segments.Goals.{After-segment_at-p}
@@ -11,12 +10,6 @@ fits g c = rw c.segment_at-p.ensures (fill_fits _ _ _ _ _ c.loop-i.invariant (rw
 
 pub loop-i-init : goal.loop-i-init
 loop-i-init g c = fill_start _ _ _ c.buffer_count-i-end.ensures.wide c.requires
-
-pub overflow_add-p : goal.overflow_add-p
-overflow_add-p g c = omega (arith, fits g (goal.at.overflow_add-p g c).After-segment_at-p)
-
-pub slice_bounds-fill_bytes-end : goal.slice_bounds-fill_bytes-end
-slice_bounds-fill_bytes-end g c = omega (arith, fits g (goal.at.slice_bounds-fill_bytes-end g c).After-segment_at-p)
 
 pub loop-i-preserved : goal.loop-i-preserved
 loop-i-preserved g c = let l = c.loop-i in

@@ -1,6 +1,5 @@
 -- `vectors::bytes::scatter` meets its contract: what is to be scattered is what is to be scattered from segment i on. Assumes nothing.
 use Rattle.std.specs.Prelude.{◌+◌, ◌≤◌, ◌<◌, length}
-use Rattle.std.proofs.Common.{arith}
 use Rattle.vectors.specs.ByteLaws.{copied_back}
 use Rattle.vectors.proofs.Moving.{scatter_fits, scatter_step, scatter_end, scatter_start}
 use Rattle.vectors.proofs.bytes.scatter.Goals as goal
@@ -12,18 +11,6 @@ fits g c = rw c.segment_at-p.ensures (scatter_fits _ _ _ _ _ _ c.loop-i.invarian
 
 pub loop-i-init : goal.loop-i-init
 loop-i-init g c = scatter_start _ _ _ c.buffer_count-i-end.ensures.wide c.requires
-
-pub overflow_add-next : goal.overflow_add-next
-overflow_add-next g c = omega (arith, fits g (goal.at.overflow_add-next g c).After-segment_at-p)
-
-pub overflow_add-p : goal.overflow_add-p
-overflow_add-p g c = omega (arith, fits g (goal.at.overflow_add-p g c).After-segment_at-p)
-
-pub slice_bounds-copy_bytes-end : goal.slice_bounds-copy_bytes-end
-slice_bounds-copy_bytes-end g c = omega (arith, fits g (goal.at.slice_bounds-copy_bytes-end g c).After-segment_at-p)
-
-pub slice_bounds-copy_bytes-end-in-loop-i : goal.slice_bounds-copy_bytes-end-in-loop-i
-slice_bounds-copy_bytes-end-in-loop-i g c = omega (arith, fits g (goal.at.slice_bounds-copy_bytes-end-in-loop-i g c).After-segment_at-p)
 
 pub loop-i-preserved : goal.loop-i-preserved
 loop-i-preserved g c = let l = c.loop-i in

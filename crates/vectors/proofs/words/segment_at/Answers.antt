@@ -1,6 +1,6 @@
 -- `vectors::words::segment_at` meets its contract: segment i stands in the two words from 2 + 2 i on, and there are 16. Assumes nothing.
-use Rattle.std.specs.Prelude.{◌≤◌, length}
-use Rattle.std.proofs.Common.{sym, arith}
+use Rattle.std.specs.Prelude.{◌≡◌, ◌≤◌, length, get_or}
+use Rattle.std.proofs.Common.{rules, sym, arith}
 use Rattle.std.proofs.Math.ListN.{get_or-eq_default}
 use Rattle.vectors.specs.Vectors.{none}
 use Rattle.vectors.specs.Words.{vector_from}
@@ -13,4 +13,4 @@ returns-then-i-lt-MAX_COUNT c = segment_words_lem c.args.words.now c.args.i c.if
 pub returns : goal.returns
 returns c = let w = c.args.words.now in
     let h : length (vector_from w).segments ≤ c.args.i = omega (arith, vector_wide w) in
-    sym (get_or-eq_default (vector_from w).segments none h)
+    let e : none ≡ get_or (vector_from w).segments c.args.i none = sym (get_or-eq_default (vector_from w).segments none h) in search rules
