@@ -30,7 +30,7 @@ pub fn lies_aligned<V: Segments>(v: &V, address: u64, mem: u64, len: u64) -> boo
 
 // Whether direct requests can use the segments. Refused: 201 for unfit alignments, then 205 for data that ends past 2^64 - 1,
 // then 202 for no vector over the data.
-#[tactic(auto, using(crate::specs::AlignmentLaws::alignment_fit), unfolding(crate::specs::Vectors::alignment_of, crate::specs::Vectors::is_aligned_of, arithmetic::specs::Rounding::fits))]
+#[tactic(auto, using(crate::specs::AlignmentLaws::alignment_fit), unfolding(crate::specs::Vectors::alignment_of))]
 pub fn is_aligned<V: Segments>(v: &V, align: Alignments, data: Lent) -> Alignment
     ensures { result ≡ alignment_of align «data» (V.vector v.now) }
 {

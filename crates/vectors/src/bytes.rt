@@ -99,7 +99,8 @@ fn gather<V: Segments>(v: &V, data: &[u8], slice: &mut [u8])
     }
 }
 
-// The bytes of `slice` go into the segments, each filled before the next.
+// The bytes of `slice` go into the segments, each filled before the next. The walk is gather's, with what is read and what is
+// written turned round: one walk for both would hand two parts of each step to a closure, which is no shorter.
 #[tactic(auto, using(crate::proofs::Moving::scatter_fits))]
 fn scatter<V: Segments>(v: &V, data: &mut [u8], slice: &[u8])
     requires { copies «data».old (V.vector v.now) (length slice.now) ≡ true }
