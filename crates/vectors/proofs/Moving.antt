@@ -1,23 +1,20 @@
 -- The passes that move bytes: what holds at segment i, after `a` bytes. Assumes nothing.
 use mathlib.Core.Path.{◌≡◌, refl, sym, ap, ◌∙◌, subst}
-use mathlib.Core.Bool.{Bool, true, false, and-false}
+use mathlib.Core.Bool.{true}
 use mathlib.Core.List.{List, [], ◌∷◌, ◌++◌, append_assoc, append-nil}
 use Prim.Native.Nat.{ℕ, ◌+◌, ◌-◌, ◌≤◌, ◌<◌}
 use native.Mathlib.Omega.{arith}
 use lib.Dec.{eqb}
 use lib.ListN.{length, take, drop, get_or, replicate, length-drop, length-replicate, drop_of_length-le}
 use lib.Seq.{drop-drop, take_all, length-take-le}
-use borrow.Author.Tests.{eqb-true, eq-eqb, ne_eqb}
+use borrow.Author.Tests.{eqb-true}
 use borrow.Rule.Slice.PartMut.{put_mid}
-use Rattle.arithmetic.specs.Rounding.{pick}
 use Rattle.arithmetic.specs.SettingsLaws.{and_left, and_right}
-use Rattle.arithmetic.specs.declared.refusals.Refusal.TheVariants.{Segment as BadSegment}
-use Rattle.arithmetic.specs.declared.refusals.Outcome.TheVariants.{Done, Refused}
 use Rattle.vectors.specs.declared.vector.Segment.{Segment}
 use Rattle.vectors.specs.declared.vector.IoVector.{IoVector}
-use Rattle.vectors.specs.Vectors.{none, segments_of, size_of, lies_in, is_valid, put, bytes_of, scatter_of, fill_of, copies, outcome_of}
+use Rattle.vectors.specs.Vectors.{none, segments_of, size_of, lies_in, is_valid, put, bytes_of, scatter_of, fill_of, copies}
 use Rattle.vectors.specs.SegmentLaws.{all_at, lies, Valid, valid}
-use Rattle.vectors.specs.ByteLaws.{length_put, take_put, bytes_length}
+use Rattle.vectors.specs.ByteLaws.{length_put, take_put}
 use Rattle.vectors.proofs.Pass.{nth, in_use, same, first, size, none_left}
 
 -- ---- a vector over data of n bytes
@@ -177,30 +174,3 @@ scatter_start v l src w e =
 
 pub fill_start : (v : IoVector) (l : List ℕ) (x : ℕ) → length v.segments ≡ 16 → is_valid (length l) v ≡ true → Filled v l x l 0
 fill_start v l x w e = record { base = record { valid = valid (length l) v e; wide = w }; keeps = refl; rest = refl }
-
--- ---- whether bytes are copied
-
-module _ (d : List ℕ) (v : IoVector) (n : ℕ) where
-  pub copies_invalid : is_valid (length d) v ≡ false → copies d v n ≡ false
-  unfolding copies
-  copies_invalid e = rw e
-
-  pub copies_other : (n ≡ v.total → ⊥) → copies d v n ≡ false
-  unfolding copies
-  copies_other h = rw (ne_eqb n v.total h, and-false)
-
-  pub copies_true : is_valid (length d) v ≡ true → n ≡ v.total → copies d v n ≡ true
-  unfolding copies
-  copies_true e h = rw (e, eq-eqb n v.total h)
-
--- the bytes of a valid vector are as many as its total
-pub bytes_total : (d : List ℕ) (v : IoVector) → is_valid (length d) v ≡ true → length (bytes_of d (segments_of v)) ≡ v.total
-bytes_total d v e = let w = valid (length d) v e in bytes_length d (segments_of v) w.fit.lie ∙ sym w.total
-
--- ---- what a call returns
-
-pub refused : (t : Bool) (x y : List ℕ) → t ≡ false → (Refused BadSegment ≡ outcome_of t) × (y ≡ pick t x y)
-refused t x y e = rw e (refl, refl)
-
-pub carried_out_lem : (t : Bool) (x y z : List ℕ) → t ≡ true → z ≡ x → (Done ≡ outcome_of t) × (z ≡ pick t x y)
-carried_out_lem t x y z e f = rw e (refl, f)

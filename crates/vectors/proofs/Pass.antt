@@ -1,25 +1,17 @@
 -- A pass over the segments of a vector: what holds at segment i. Assumes nothing.
 use mathlib.Core.Path.{◌≡◌, refl, sym, ap, ◌∙◌}
-use mathlib.Core.Bool.{Bool, true, false, ◌&&◌, ◌||◌, and-false}
+use mathlib.Core.Bool.{Bool, true, false, ◌&&◌, and-false}
 use mathlib.Core.List.{[], ◌∷◌}
 use Prim.Native.Nat.{ℕ, ◌+◌, ◌-◌, ◌≤◌, ◌<◌}
-use native.Mathlib.Decide.{dec_le}
 use native.Mathlib.Omega.{arith}
-use lib.Dec.{ltb, leb, eqb}
+use lib.Dec.{leb, eqb}
 use lib.ListN.{length, drop, get_or, length-take, drop_of_length-le}
 use lib.Seq.{get_or-take}
 use borrow.Author.Tests.{le-leb, lt-leb}
 use Rattle.vectors.specs.declared.vector.Segment.{Segment}
 use Rattle.vectors.specs.declared.vector.IoVector.{IoVector}
-use Rattle.vectors.specs.Vectors.{none, segments_of, size_of, lies_in, all_segments, any_segment, segments_fit, is_valid}
+use Rattle.vectors.specs.Vectors.{none, segments_of, size_of, lies_in, all_segments, segments_fit, is_valid}
 use Rattle.vectors.specs.SegmentLaws.{from_at}
-
--- a + b is at most n where there is room for b
-pub room : (n a b : ℕ) → a ≤ n → leb b (n - a) ≡ leb (a + b) n
-room n a b h = elim (dec_le (a + b) n) [
-  | yes l ↦ le-leb b (n - a) (omega arith) ∙ sym (le-leb (a + b) n l)
-  | no l ↦ lt-leb b (n - a) (omega arith) ∙ sym (lt-leb (a + b) n (omega arith))
-]
 
 abbrev pub nth : IoVector → ℕ → Segment
 nth v i = get_or v.segments i none
@@ -49,10 +41,6 @@ module _ (v : IoVector) (wide : length v.segments ≡ 16) where
       pub all_more : (test : Segment → Bool) → all_segments test (drop i (segments_of v)) ≡ (test (nth v i) && all_segments test (drop (i + 1) (segments_of v)))
       unfolding all_segments
       all_more test = ap (all_segments test) first
-
-      pub any_more : (test : Segment → Bool) → any_segment test (drop i (segments_of v)) ≡ (test (nth v i) || any_segment test (drop (i + 1) (segments_of v)))
-      unfolding any_segment
-      any_more test = ap (any_segment test) first
 
 -- ---- the validity test: the segments before i lie in the data, and sum is their size
 

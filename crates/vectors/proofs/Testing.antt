@@ -1,224 +1,118 @@
--- The loops that test segments: overlap and alignment. Assumes nothing.
-use Rattle.std.specs.Prelude.{Ok, Err}
-use mathlib.Core.Path.{◌≡◌, refl, sym, ap, ◌∙◌, subst}
-use mathlib.Core.Bool.{Bool, true, false, ◌&&◌, ◌||◌, and-false}
-use Prim.Native.Nat.{ℕ, ◌+◌, ◌-◌, ◌≤◌, ◌<◌, max, min}
-use native.Mathlib.Decide.{dec_lt}
-use native.Mathlib.Omega.{arith}
-use lib.Dec.{ltb, eqb}
-use lib.ListN.{length, drop, get_or, length-take}
-use borrow.Author.Tests.{lt-ltb, le-ltb}
-use Rattle.arithmetic.specs.Rounding.{fits, is_multiple}
-use Rattle.arithmetic.specs.RoundingLaws.{fits_true, fits_false}
-use Rattle.arithmetic.specs.Settings.{alignments_fit, length_align}
-use Rattle.arithmetic.specs.SettingsLaws.{aligned}
-use Rattle.arithmetic.specs.declared.refusals.Refusal.TheVariants.{Unfit, Segment as BadSegment, Buffer}
-use Rattle.arithmetic.specs.declared.settings.Alignments.{Alignments}
-use Rattle.arithmetic.specs.declared.settings.Lent.{Lent}
+-- The searches that test segments: overlap and alignment. Assumes nothing.
+use Rattle.std.specs.Prelude.{◌≡◌, refl, Bool, true, false, List, [], ◌∷◌, ℕ, zero, suc, ◌+◌, ◌-◌, ◌<◌, length, drop, get_or}
+use Rattle.std.specs.Bool.{MatchBool}
+use Rattle.std.specs.List.{range_with_len, HoldsAt, AllWithin}
+use Rattle.std.proofs.Common.{sym, ap, ◌∙◌, subst, add-one, zero-add, arith, length-take, length-drop, get_or-take, get_or-drop}
+use Rattle.std.proofs.Math.Bool.{or-true, and-false}
+use Rattle.std.proofs.lemmas.List.FromFn.{length-range_with_len, get_or-range_with_len}
 use Rattle.vectors.specs.declared.vector.Segment.{Segment}
 use Rattle.vectors.specs.declared.vector.IoVector.{IoVector}
-use Rattle.vectors.specs.Vectors.{none, segments_of, lies_in, all_segments, any_segment, shares, overlap_of, self_overlap_of, is_valid, all_aligned, is_aligned_at, lies_aligned, is_aligned_of, alignment_of}
-use Rattle.vectors.specs.Aligning.{Addressed}
-use Rattle.vectors.specs.SegmentLaws.{all_at, lies, Valid, valid}
-use Rattle.vectors.proofs.Pass.{nth, in_use, same, first, none_left, any_more, all_more}
+use Rattle.vectors.specs.Vectors.{none, segments_of, all_segments, any_segment, shares, overlap_of, self_overlap_of, is_aligned_at, lies_aligned}
+use Rattle.vectors.specs.OverlapLaws.{any_here}
+use Rattle.vectors.proofs.Pass.{nth}
 
--- ---- two segments, by differences
+-- ---- a test of the segments by their places
 
--- the later start is q's
-share : (p q : Segment) → p.start ≤ q.start → (ltb (q.start - p.start) p.length && ltb 0 q.length) ≡ ltb (max p.start q.start) (min (p.start + p.length) (q.start + q.length))
-share p q h = elim (dec_lt (q.start - p.start) p.length) [
-  | yes a ↦ elim (dec_lt 0 q.length) [
-    | yes b ↦
-        let l : max p.start q.start < min (p.start + p.length) (q.start + q.length) = omega arith in
-        rw (lt-ltb _ _ a, lt-ltb _ _ b, lt-ltb _ _ l)
-    | no b ↦
-        let l : min (p.start + p.length) (q.start + q.length) ≤ max p.start q.start = omega arith in
-        let z : q.length ≤ 0 = omega arith in
-        rw (lt-ltb _ _ a, le-ltb 0 _ z, le-ltb _ _ l)
-  ]
-  | no a ↦
-      let l : min (p.start + p.length) (q.start + q.length) ≤ max p.start q.start = omega arith in
-      let z : p.length ≤ q.start - p.start = omega arith in
-      rw (le-ltb _ _ z, le-ltb _ _ l)
-]
-
-pub shares_left : (p q : Segment) → p.start ≤ q.start → (ltb (q.start - p.start) p.length && ltb 0 q.length) ≡ shares p q
-unfolding shares
-shares_left p q h = share p q h
-
-pub shares_right : (p q : Segment) → q.start < p.start → (ltb (p.start - q.start) q.length && ltb 0 p.length) ≡ shares p q
-unfolding shares
-shares_right p q h =
-    let a : max q.start p.start ≡ max p.start q.start = omega arith in
-    let b : min (q.start + q.length) (p.start + p.length) ≡ min (p.start + p.length) (q.start + q.length) = omega arith in
-    share q p (omega arith) ∙ (rw (a, b))
-
--- ---- a search: what is sought is what is sought from segment i on
-
-pub record Sought (v : IoVector) (test : Segment → Bool) (whole : Bool) (n i : ℕ) : Type 0 where
-  pub wide : length v.segments ≡ 16
-  pub long : n ≡ length (segments_of v)
-  pub most : n ≤ 16
-  pub is : whole ≡ any_segment test (drop i (segments_of v))
-
-in_array : (v : IoVector) (n : ℕ) → length v.segments ≡ 16 → n ≡ length (segments_of v) → n ≤ 16
-in_array v n w e = omega (arith, length-take v.count v.segments)
-
-pub sought_start : (v : IoVector) (test : Segment → Bool) (n i : ℕ) → length v.segments ≡ 16 → n ≡ length (segments_of v) → Sought v test (any_segment test (drop i (segments_of v))) n i
-sought_start v test n i w e = record { wide = w; long = e; most = in_array v n w e; is = refl }
-
-module _ (v : IoVector) (test : Segment → Bool) (whole : Bool) (n i : ℕ) (g : Sought v test whole n i) where
-  pub sought_end : n ≤ i → false ≡ whole
+module _ (test : Segment → Bool) where
+  any_none : (ps : List Segment) → ((i : ℕ) → i < length ps → test (get_or ps i none) ≡ false) → any_segment test ps ≡ false
   unfolding any_segment
-  sought_end h = sym (g.is ∙ (rw (none_left v g.wide i (omega (arith, g.long)))))
+  any_none [] f = refl
+  any_none (p ∷ ps) f = rw (f 0 (omega arith), any_none ps (λ i h. f (suc i) (omega arith)))
 
-  module _ (h : i < n) where
-    more : whole ≡ (test (nth v i) || any_segment test (drop (i + 1) (segments_of v)))
-    more = g.is ∙ any_more v g.wide i (omega (arith, g.long)) test
+  all_here : (ps : List Segment) → ((i : ℕ) → i < length ps → test (get_or ps i none) ≡ true) → all_segments test ps ≡ true
+  unfolding all_segments
+  all_here [] f = refl
+  all_here (p ∷ ps) f = rw (f 0 (omega arith), all_here ps (λ i h. f (suc i) (omega arith)))
 
-    pub sought_here : test (nth v i) ≡ true → true ≡ whole
-    sought_here e = sym (more ∙ (rw e))
+  all_not : (ps : List Segment) (i : ℕ) → i < length ps → test (get_or ps i none) ≡ false → all_segments test ps ≡ false
+  unfolding all_segments
+  all_not [] i h e = absurd (omega arith)
+  all_not (p ∷ ps) zero h e = rw e
+  all_not (p ∷ ps) (suc i) h e = rw (all_not ps i (omega arith) e, and-false)
 
-    pub sought_next : test (nth v i) ≡ false → Sought v test whole n (i + 1)
-    sought_next e = record { wide = g.wide; long = g.long; most = g.most; is = more ∙ (rw e) }
+-- whether a segment shares an index with one behind it
+abbrev pub shares_later : List Segment → ℕ → Bool
+shares_later ps i = any_segment (shares (get_or ps i none)) (drop (suc i) ps)
 
-pub overlap_start : (v w : IoVector) (n : ℕ) → length v.segments ≡ 16 → n ≡ length (segments_of v)
-    → Sought v (λ p. any_segment (shares p) (segments_of w)) (overlap_of (segments_of v) (segments_of w)) n 0
-unfolding overlap_of
-overlap_start v w n l e = sought_start v (λ p. any_segment (shares p) (segments_of w)) n 0 l e
+self_here : (ps : List Segment) (i : ℕ) → i < length ps → shares_later ps i ≡ true → self_overlap_of ps ≡ true
+unfolding self_overlap_of
+self_here [] i h e = absurd (omega arith)
+self_here (p ∷ ps) zero h e = rw e
+self_here (p ∷ ps) (suc i) h e = rw (self_here ps i (omega arith) e) (or-true (any_segment (shares p) ps))
 
--- ---- within one vector
+self_none : (ps : List Segment) → ((i : ℕ) → i < length ps → shares_later ps i ≡ false) → self_overlap_of ps ≡ false
+unfolding self_overlap_of
+self_none [] f = refl
+self_none (p ∷ ps) f = rw (f 0 (omega arith), self_none ps (λ i h. f (suc i) (omega arith)))
 
-pub record Selfsought (v : IoVector) (n i : ℕ) : Type 0 where
-  pub wide : length v.segments ≡ 16
-  pub long : n ≡ length (segments_of v)
-  pub most : n ≤ 16
-  pub is : self_overlap_of (segments_of v) ≡ self_overlap_of (drop i (segments_of v))
+-- ---- a search through the numbers a, .., n - 1, as the iterator's laws tell it
 
-pub self_start : (v : IoVector) (n : ℕ) → length v.segments ≡ 16 → n ≡ length (segments_of v) → Selfsought v n 0
-self_start v n w e = record { wide = w; long = e; most = in_array v n w e; is = refl }
+abbrev numbers : ℕ → ℕ → List ℕ
+numbers a n = range_with_len a (n - a)
 
-module _ (v : IoVector) (n i : ℕ) (g : Selfsought v n i) where
-  pub self_end : n ≤ i → false ≡ self_overlap_of (segments_of v)
-  unfolding self_overlap_of
-  self_end h = sym (g.is ∙ (rw (none_left v g.wide i (omega (arith, g.long)))))
+-- one of them passes, or none does
+abbrev pub Sought : ℕ → ℕ → (ℕ → Bool) → Bool → Type 0
+Sought a n test r =
+    MatchBool r ((k : ℕ) × (k < length (numbers a n)) × HoldsAt (λ i. test i ≡ true) (numbers a n) k) (AllWithin (λ i. test i ≡ false) (numbers a n) 0 (length (numbers a n)))
 
-  module _ (h : i < n) where
-    pub self_from : i + 1 ≤ length (segments_of v)
-    self_from = omega (arith, g.long)
+-- all of them pass, or one does not
+abbrev pub Passed : ℕ → ℕ → (ℕ → Bool) → Bool → Type 0
+Passed a n test r =
+    MatchBool r (AllWithin (λ i. test i ≡ true) (numbers a n) 0 (length (numbers a n))) ((k : ℕ) × (k < length (numbers a n)) × HoldsAt (λ i. test i ≡ false) (numbers a n) k)
 
-    more_self : self_overlap_of (segments_of v) ≡ (any_segment (shares (nth v i)) (drop (i + 1) (segments_of v)) || self_overlap_of (drop (i + 1) (segments_of v)))
-    unfolding self_overlap_of
-    more_self = g.is ∙ ap self_overlap_of (first v g.wide i (omega (arith, g.long)))
+module _ (a n : ℕ) (test : ℕ → Bool) (b : Bool) (k i : ℕ) (here : a + k ≡ i) where
+  place_is : i < n → get_or (numbers a n) k 0 ≡ i
+  place_is h = get_or-range_with_len a (n - a) k 0 (omega arith) ∙ here
 
-    pub self_here : any_segment (shares (nth v i)) (drop (i + 1) (segments_of v)) ≡ true → true ≡ self_overlap_of (segments_of v)
-    self_here e = sym (more_self ∙ (rw e))
+  -- the number at a place, and the place of a number
+  at_place : k < length (numbers a n) → HoldsAt (λ j. test j ≡ b) (numbers a n) k → (i < n) × (test i ≡ b)
+  at_place h e = let l : i < n = omega (arith, length-range_with_len a (n - a)) in (l, subst (λ j. test j ≡ b) (place_is l) (e 0))
 
-    pub self_next : any_segment (shares (nth v i)) (drop (i + 1) (segments_of v)) ≡ false → Selfsought v n (i + 1)
-    self_next e = record { wide = g.wide; long = g.long; most = g.most; is = more_self ∙ (rw e) }
+  at_number : AllWithin (λ j. test j ≡ b) (numbers a n) 0 (length (numbers a n)) → i < n → test i ≡ b
+  at_number e h = subst (λ j. test j ≡ b) (place_is h) (e k 0 (omega arith) (omega (arith, length-range_with_len a (n - a))))
 
--- ---- alignment
+-- ---- what a search through the segments in use finds
 
-pub record Lined (v : IoVector) (address m l i : ℕ) : Type 0 where
-  pub wide : length v.segments ≡ 16
-  pub asked : Addressed v address m l
-  pub is : all_aligned address m l (segments_of v) ≡ all_aligned address m l (drop i (segments_of v))
+module _ (v : IoVector) (n : ℕ) (long : n ≡ length (segments_of v)) where
+  nth_is : (i : ℕ) → i < n → nth v i ≡ get_or (segments_of v) i none
+  nth_is i h = sym (get_or-take v.count v.segments i none (omega (arith, long, length-take v.count v.segments)))
 
-module _ (v : IoVector) (address m l i : ℕ) (g : Lined v address m l i) where
-  known : Valid g.asked.long v
-  known = valid g.asked.long v g.asked.valid
+  module _ (test : Segment → Bool) where
+    behind : (a k : ℕ) → a + k < n → test (get_or (drop a (segments_of v)) k none) ≡ test (nth v (a + k))
+    behind a k h = ap test (get_or-drop a (segments_of v) k none ∙ sym (nth_is (a + k) h))
 
-  pub few : v.count ≤ 16
-  few = known.few
+    pub any_from : (a : ℕ) (r : Bool) → Sought a n (λ i. test (nth v i)) r → r ≡ any_segment test (drop a (segments_of v))
+    any_from a true e =
+        let k = at_place a n (λ i. test (nth v i)) true e.0 (a + e.0) refl e.1 e.2 in
+        sym (any_here test (drop a (segments_of v)) none e.0 (omega (arith, k.0, long, length-drop a (segments_of v))) (behind a e.0 k.0 ∙ k.1))
+    any_from a false e =
+        sym (any_none test (drop a (segments_of v)) (λ k h.
+        let l : a + k < n = omega (arith, long, length-drop a (segments_of v)) in
+        behind a k l ∙ at_number a n (λ i. test (nth v i)) false k (a + k) refl e l))
 
-  pub lined_end : v.count ≤ i → true ≡ all_aligned address m l (segments_of v)
-  unfolding all_aligned all_segments
-  lined_end h = sym (g.is ∙ (rw (none_left v g.wide i (omega (arith, in_use v g.wide known.few)))))
+    pub all_from : (r : Bool) → Passed 0 n (λ i. test (nth v i)) r → r ≡ all_segments test (segments_of v)
+    all_from true e = sym (all_here test (segments_of v) (λ i h.
+        let l : i < n = omega (arith, long) in
+        ap test (sym (nth_is i l)) ∙ at_number 0 n (λ j. test (nth v j)) true i i (zero-add i) e l))
+    all_from false e =
+        let k = at_place 0 n (λ j. test (nth v j)) false e.0 e.0 (zero-add e.0) e.1 e.2 in
+        sym (all_not test (segments_of v) e.0 (omega (arith, k.0, long)) (ap test (sym (nth_is e.0 k.0)) ∙ k.1))
 
-  module _ (h : i < v.count) where
-    within : i < length (segments_of v)
-    within = omega (arith, in_use v g.wide known.few)
+  pub overlap_from : (qs : List Segment) (r : Bool) → Sought 0 n (λ i. any_segment (shares (nth v i)) qs) r → r ≡ overlap_of (segments_of v) qs
+  unfolding overlap_of
+  overlap_from qs r e = any_from (λ p. any_segment (shares p) qs) 0 r e
 
-    pub lined_fits : address + (nth v i).start < 18446744073709551616
-    lined_fits =
-        let n = g.asked.long in
-        let e = subst (λ (p : Segment). p.start + p.length ≤ n) (same v g.wide i within) (lies n (get_or (segments_of v) i none) (all_at (lies_in n) (segments_of v) i none within known.fit.lie)).ends in
-        omega (arith, g.asked.fits)
+  later_is : (i : ℕ) → i < n → shares_later (segments_of v) i ≡ any_segment (shares (nth v i)) (drop (i + 1) (segments_of v))
+  later_is i h = rw (nth_is i h, add-one i)
 
-    more_lined : all_aligned address m l (segments_of v) ≡ ((is_multiple (address + (nth v i).start) m && is_multiple (nth v i).length l) && all_aligned address m l (drop (i + 1) (segments_of v)))
-    unfolding all_aligned
-    more_lined = g.is ∙ all_more v g.wide i within (λ p. is_multiple (address + p.start) m && is_multiple p.length l)
+  pub self_from : (r : Bool) → Sought 0 n (λ i. any_segment (shares (nth v i)) (drop (i + 1) (segments_of v))) r → r ≡ self_overlap_of (segments_of v)
+  self_from true e =
+      let k = at_place 0 n (λ i. any_segment (shares (nth v i)) (drop (i + 1) (segments_of v))) true e.0 e.0 (zero-add e.0) e.1 e.2 in
+      sym (self_here (segments_of v) e.0 (omega (arith, k.0, long)) (later_is e.0 k.0 ∙ k.1))
+  self_from false e = sym (self_none (segments_of v) (λ i h.
+      let l : i < n = omega (arith, long) in
+      later_is i l ∙ at_number 0 n (λ j. any_segment (shares (nth v j)) (drop (j + 1) (segments_of v))) false i i (zero-add i) e l))
 
-    pub off_start : is_multiple (address + (nth v i).start) m ≡ false → false ≡ all_aligned address m l (segments_of v)
-    off_start z = sym (more_lined ∙ (rw z))
-
-    pub off_length : is_multiple (nth v i).length l ≡ false → false ≡ all_aligned address m l (segments_of v)
-    off_length z = sym (more_lined ∙ (rw (z, and-false)))
-
-    pub lined_next : is_multiple (address + (nth v i).start) m ≡ true → is_multiple (nth v i).length l ≡ true → Lined v address m l (i + 1)
-    lined_next a b = record { wide = g.wide; asked = g.asked; is = more_lined ∙ (rw (a, b)) }
-
--- ---- alignment of any segments: whether all are aligned is whether those from segment i on are
-
-pub record Tested (v : IoVector) (address m l n i : ℕ) : Type 0 where
-  pub wide : length v.segments ≡ 16
-  pub long : n ≡ length (segments_of v)
-  pub most : n ≤ 16
-  pub is : lies_aligned address m l (segments_of v) ≡ lies_aligned address m l (drop i (segments_of v))
-
-pub tested_start : (v : IoVector) (address m l n : ℕ) → length v.segments ≡ 16 → n ≡ length (segments_of v) → Tested v address m l n 0
-tested_start v address m l n w e = record { wide = w; long = e; most = in_array v n w e; is = refl }
-
-module _ (v : IoVector) (address m l n i : ℕ) (g : Tested v address m l n i) where
-  pub tested_end : n ≤ i → true ≡ lies_aligned address m l (segments_of v)
-  unfolding lies_aligned all_segments
-  tested_end h = sym (g.is ∙ (rw (none_left v g.wide i (omega (arith, g.long)))))
-
-  module _ (h : i < n) (p : Segment) (pe : p ≡ nth v i) where
-    more_tested : lies_aligned address m l (segments_of v) ≡ ((fits (address + p.start) && (is_multiple (address + p.start) m && is_multiple p.length l)) && lies_aligned address m l (drop (i + 1) (segments_of v)))
-    unfolding lies_aligned is_aligned_at
-    more_tested = rw pe (g.is ∙ all_more v g.wide i (omega (arith, g.long)) (is_aligned_at address m l))
-
-    pub past_fit : 18446744073709551616 ≤ address + p.start → false ≡ lies_aligned address m l (segments_of v)
-    past_fit o = sym (more_tested ∙ (rw (fits_false (address + p.start) o)))
-
-    module _ (f : address + p.start < 18446744073709551616) where
-      pub past_start : is_multiple (address + p.start) m ≡ false → false ≡ lies_aligned address m l (segments_of v)
-      past_start z = sym (more_tested ∙ (rw (fits_true (address + p.start) f, z)))
-
-      module _ (a : is_multiple (address + p.start) m ≡ true) where
-        pub past_length : is_multiple p.length l ≡ false → false ≡ lies_aligned address m l (segments_of v)
-        past_length z = sym (more_tested ∙ (rw (fits_true (address + p.start) f, a, z)))
-
-        pub tested_next : is_multiple p.length l ≡ true → Tested v address m l n (i + 1)
-        tested_next b = record { wide = g.wide; long = g.long; most = g.most; is = more_tested ∙ (rw (fits_true (address + p.start) f, a, b)) }
-
--- ---- what `is_aligned` returns
-
-module _ (a : Alignments) (lent : Lent) (v : IoVector) where
-  pub answer_unfit : alignments_fit a ≡ false → Err Unfit ≡ alignment_of a lent v
-  unfolding alignment_of
-  answer_unfit e = rw e
-
-  module _ (e : alignments_fit a ≡ true) where
-    pub answer_buffer : 18446744073709551616 ≤ lent.address + lent.length → Err Buffer ≡ alignment_of a lent v
-    unfolding alignment_of
-    answer_buffer h = rw (e, fits_false (lent.address + lent.length) h)
-
-    module _ (h : lent.address + lent.length < 18446744073709551616) where
-      pub answer_segment : is_valid lent.length v ≡ false → Err BadSegment ≡ alignment_of a lent v
-      unfolding alignment_of
-      answer_segment f = rw (e, fits_true (lent.address + lent.length) h, f)
-
-      module _ (f : is_valid lent.length v ≡ true) where
-        pub answer_trivial : (eqb a.mem 1 && eqb a.req 1) ≡ true → Ok true ≡ alignment_of a lent v
-        unfolding alignment_of is_aligned_of
-        answer_trivial t = rw (e, fits_true (lent.address + lent.length) h, f, t)
-
-        pub answer_asked : (m : ℕ) → m ≡ length_align a → Addressed v lent.address a.mem m
-        answer_asked m q = let k = aligned a e in record { long = lent.length; valid = f; fits = h; mem = k.mem.positive; len = rw q k.positive }
-
-        pub answer_tested : (eqb a.mem 1 && eqb a.req 1) ≡ false → (m : ℕ) → m ≡ length_align a → (b : Bool)
-            → b ≡ all_aligned lent.address a.mem m (segments_of v) → Ok b ≡ alignment_of a lent v
-        unfolding alignment_of is_aligned_of
-        answer_tested t m q b y = rw (y, q, e, fits_true (lent.address + lent.length) h, f, t)
+  pub lies_from : (address m l : ℕ) (r : Bool) → Passed 0 n (λ i. is_aligned_at address m l (nth v i)) r → r ≡ lies_aligned address m l (segments_of v)
+  unfolding lies_aligned
+  lies_from address m l r e = all_from (is_aligned_at address m l) r e

@@ -3,7 +3,6 @@ pub mod Vectors
 pub mod Words
 pub mod Joining
 pub mod Positions
-pub mod Aligning
 pub mod Places
 pub mod Runs
 pub mod SegmentLaws

@@ -4,6 +4,7 @@ ghost use Rattle.std.proofs.Math.Seq.{paste};
 ghost use Rattle.vectors.specs.Vectors.{segments_of, is_valid, bytes_of, scatter_of, fill_of, copies, outcome_of};
 ghost use Rattle.vectors.specs.Vectors.{copied_into, copied_from, filled_with};
 
+use crate::segments::{Segments, is_valid};
 use crate::vector::IoVector;
 use arithmetic::refusals::{Outcome, Refusal};
 
@@ -23,74 +24,95 @@ pub fn fill_bytes(part: &mut [u8], value: u8)
     part.fill(value);
 }
 
+// `slice` becomes the bytes of the segments, joined in order.
+#[tactic(auto, using(crate::proofs::Moving::gather_fits))]
+fn gather<V: Segments>(v: &V, data: &[u8], slice: &mut [u8])
+    requires { copies «data».now (V.vector v.now) (length slice.old) ≡ true }
+    ensures { slice.new ≡ bytes_of «data».now (segments_of (V.vector v.now)) }
+{
+    let mut filled = 0usize;
+    for i in 0..v.buffer_count() {
+        let p = v.segment_at(i);
+        let next = filled + p.length;
+        copy_bytes(&mut slice[filled..next], &data[p.start..p.start + p.length]);
+        filled = next;
+    }
+}
+
+// The bytes of `slice` go into the segments, each filled before the next. The walk is gather's, with what is read and what is
+// written turned round: one walk for both would hand two parts of each step to a closure, which is no shorter.
+#[tactic(auto, using(crate::proofs::Moving::scatter_fits))]
+fn scatter<V: Segments>(v: &V, data: &mut [u8], slice: &[u8])
+    requires { copies «data».old (V.vector v.now) (length slice.now) ≡ true }
+    ensures { «data».new
+        ≡ scatter_of «data».old (segments_of (V.vector v.now)) slice.now }
+{
+    let mut taken = 0usize;
+    for i in 0..v.buffer_count() {
+        let p = v.segment_at(i);
+        let next = taken + p.length;
+        copy_bytes(&mut data[p.start..p.start + p.length], &slice[taken..next]);
+        taken = next;
+    }
+}
+
+// Every byte of the segments becomes `value`.
+#[tactic(auto, using(crate::proofs::Moving::fill_fits))]
+fn fill_segments<V: Segments>(v: &V, data: &mut [u8], value: u8)
+    requires { is_valid (length «data».old) (V.vector v.now) ≡ true }
+    ensures { «data».new
+        ≡ fill_of «data».old (segments_of (V.vector v.now)) value }
+{
+    for i in 0..v.buffer_count() {
+        let p = v.segment_at(i);
+        fill_bytes(&mut data[p.start..p.start + p.length], value);
+    }
+}
+
+// Whether a slice of that length can be copied to or from the vector's segments.
+#[tactic(auto, unfolding(crate::specs::Vectors::copies))]
+fn copies<V: Segments>(v: &V, data: &[u8], len: usize) -> bool
+    ensures { result ≡ copies «data».now (V.vector v.now) len }
+{
+    is_valid(v, data.len()) && len as u64 == v.total()
+}
+
+// `slice`, as long as the vector, becomes its bytes. Refused where it is of another length.
+pub fn copy_into_slice<V: Segments>(v: &V, data: &[u8], slice: &mut [u8]) -> Outcome
+    ensures outcome { result
+        ≡ outcome_of (copies «data».now (V.vector v.now) (length slice.old)) }
+    ensures bytes { slice.new
+        ≡ copied_into «data».now (V.vector v.now) slice.old }
+{
+    if !copies(v, data, slice.len()) {
+        return Outcome::Refused(Refusal::Segment);
+    }
+    gather(v, data, slice);
+    Outcome::Done
+}
+
+// The bytes of `slice`, as long as the vector, go into its segments in order: where these overlap, the later wins. Refused
+// where it is of another length.
+pub fn copy_from_slice<V: Segments>(v: &V, data: &mut [u8], slice: &[u8]) -> Outcome
+    ensures outcome { result
+        ≡ outcome_of (copies «data».old (V.vector v.now) (length slice.now)) }
+    ensures bytes { «data».new
+        ≡ copied_from «data».old (V.vector v.now) slice.now }
+{
+    if !copies(v, data, slice.len()) {
+        return Outcome::Refused(Refusal::Segment);
+    }
+    scatter(v, data, slice);
+    Outcome::Done
+}
+
 impl IoVector {
-    // `slice` becomes the bytes of the segments, joined in order.
-    fn gather(self, data: &[u8], slice: &mut [u8])
-        requires { copies «data».now self (length slice.old) ≡ true }
-        ensures { slice.new ≡ bytes_of «data».now (segments_of self) }
-    {
-        let n = self.count;
-        let mut filled = 0usize;
-        let mut i = 0usize;
-        while i < n {
-            let p = self.segments[i];
-            let from = p.start;
-            let to = from + p.length;
-            let next = filled + p.length;
-            copy_bytes(&mut slice[filled..next], &data[from..to]);
-            filled = next;
-            i += 1;
-        }
-    }
-
-    // The bytes of `slice` go into the segments, each filled before the next.
-    fn scatter(self, data: &mut [u8], slice: &[u8])
-        requires { copies «data».old self (length slice.now) ≡ true }
-        ensures { «data».new ≡ scatter_of «data».old (segments_of self) slice.now }
-    {
-        let n = self.count;
-        let mut taken = 0usize;
-        let mut i = 0usize;
-        while i < n {
-            let p = self.segments[i];
-            let from = p.start;
-            let to = from + p.length;
-            let next = taken + p.length;
-            copy_bytes(&mut data[from..to], &slice[taken..next]);
-            taken = next;
-            i += 1;
-        }
-    }
-
-    // Every byte of the segments becomes `value`.
-    fn fill_segments(self, data: &mut [u8], value: u8)
-        requires { is_valid (length «data».old) self ≡ true }
-        ensures { «data».new ≡ fill_of «data».old (segments_of self) value }
-    {
-        let n = self.count;
-        let mut i = 0usize;
-        while i < n {
-            let p = self.segments[i];
-            let from = p.start;
-            let to = from + p.length;
-            fill_bytes(&mut data[from..to], value);
-            i += 1;
-        }
-    }
-
     // `slice`, as long as the vector, becomes its bytes. Refused where it is of another length.
     pub fn copy_into_slice(self, data: &[u8], slice: &mut [u8]) -> Outcome
         ensures outcome { result ≡ outcome_of (copies «data».now self (length slice.old)) }
         ensures bytes { slice.new ≡ copied_into «data».now self slice.old }
     {
-        if !self.is_valid(data.len()) {
-            return Outcome::Refused(Refusal::Segment);
-        }
-        if slice.len() as u64 != self.total {
-            return Outcome::Refused(Refusal::Segment);
-        }
-        self.gather(data, slice);
-        Outcome::Done
+        copy_into_slice(&self, data, slice)
     }
 
     // The bytes of `slice`, as long as the vector, go into its segments in order: where these overlap, the later wins.
@@ -99,14 +121,7 @@ impl IoVector {
         ensures outcome { result ≡ outcome_of (copies «data».old self (length slice.now)) }
         ensures bytes { «data».new ≡ copied_from «data».old self slice.now }
     {
-        if !self.is_valid(data.len()) {
-            return Outcome::Refused(Refusal::Segment);
-        }
-        if slice.len() as u64 != self.total {
-            return Outcome::Refused(Refusal::Segment);
-        }
-        self.scatter(data, slice);
-        Outcome::Done
+        copy_from_slice(&self, data, slice)
     }
 
     // Every byte of the segments becomes `value`.
@@ -117,7 +132,7 @@ impl IoVector {
         if !self.is_valid(data.len()) {
             return Outcome::Refused(Refusal::Segment);
         }
-        self.fill_segments(data, value);
+        fill_segments(&self, data, value);
         Outcome::Done
     }
 

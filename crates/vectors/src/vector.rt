@@ -4,10 +4,11 @@ ghost use Rattle.vectors.specs.Vectors.{vector_of, segments_of, lies_in, is_vali
 ghost use Rattle.vectors.specs.Vectors.{push_of, insert_of, append_of};
 ghost use Rattle.vectors.specs.Joining.{Room, Joins, last_touches, Lengthens, Gluing, GluesAll, glued_of};
 
+use crate::segments;
 use arithmetic::refusals::Refusal;
 
-// A run of bytes of the lent data (document 01: a piece of a vector).
-#[derive(Clone, Copy)]
+// A run of bytes of the lent data (document 01: a piece of a vector). The default is empty.
+#[derive(Clone, Copy, Default)]
 pub struct Segment {
     pub start: usize,
     pub length: usize,
@@ -108,28 +109,11 @@ impl IoVector {
         self.total == 0
     }
 
-    // Whether this is a vector over data of that length. The sum stays at most MAX_TOTAL.
+    // Whether this is a vector over data of that length.
     pub fn is_valid(self, data_len: usize) -> bool
         ensures { result ≡ is_valid data_len self }
     {
-        let n = self.count;
-        if MAX_COUNT < n {
-            return false;
-        }
-        let mut sum = 0u64;
-        let mut i = 0usize;
-        while i < n {
-            let p = self.segments[i];
-            if !p.lies_in(data_len) {
-                return false;
-            }
-            if MAX_TOTAL - sum < p.length as u64 {
-                return false;
-            }
-            sum += p.length as u64;
-            i += 1;
-        }
-        self.total == sum
+        segments::is_valid(&self, data_len)
     }
 
     // One segment more at the end, in place.
