@@ -115,7 +115,9 @@ fn is_aligned(v: IoVector, align: Alignments, data: Lent) -> bool
     ensures { result ≡ is_aligned (alignment_of align «data» v) }
 {
     let Ok(aligned) = v.is_aligned(align, data) else {
-        return false; // for what is no vector over the data too: begin refuses that before it looks at the plan (let .. else: a project rule)
+        // for what is no vector over the data too: begin refuses that before it looks at the plan. By the project's rule for the
+        // vector's answer this is a let .. else
+        return false;
     };
     aligned
 }

@@ -1,9 +1,8 @@
 -- Document 01's number and values of an answer, as they cross the boundary: in one struct of words.
-use Rattle.std.specs.Prelude.{◌≡◌, Bool, List, [], ◌∷◌, ℕ, length, get_or}
+use Rattle.std.specs.Prelude.{◌≡◌, Result, Ok, Err, Bool, true, false, List, [], ◌∷◌, ℕ, length, get_or}
 use Rattle.arithmetic.specs.Rounding.{pick}
-use Rattle.arithmetic.specs.Refusals.{number_of, outcome_number, when_done, is_done}
-use Rattle.arithmetic.specs.declared.refusals.Outcome.{Outcome}
-use Rattle.arithmetic.specs.declared.refusals.Outcome.TheVariants.{Done, Refused}
+use Rattle.arithmetic.specs.Refusals.{number_of, outcome_number, is_done}
+use Rattle.arithmetic.specs.declared.refusals.Refusal.{Refusal}
 use Rattle.arithmetic.specs.declared.settings.Settings.{Settings}
 use Rattle.arithmetic.specs.declared.settings.Buffers.{Buffers}
 use Rattle.arithmetic.specs.declared.settings.Profile.{Profile}
@@ -13,11 +12,9 @@ use Rattle.arithmetic.specs.declared.planner.Count.TheVariants.{Chunks, Refused 
 use Rattle.arithmetic.specs.declared.planner.Planned.{Planned}
 use Rattle.arithmetic.specs.declared.planner.Planned.TheVariants.{Chunk, Refused as NotPlanned}
 use Rattle.vectors.specs.Vectors.{outcome_of}
-use Rattle.vectors.specs.declared.vector.Changed.{Changed as Edited}
+use Rattle.vectors.specs.declared.vector.IoVector.{IoVector}
 use Rattle.vectors.specs.declared.vector.Halves.{Halves}
 use Rattle.vectors.specs.declared.vector.Tail.{Tail}
-use Rattle.vectors.specs.declared.vector.Alignment.{Alignment}
-use Rattle.vectors.specs.declared.vector.Alignment.TheVariants.{Aligned, Unaligned, Refused as NotAsked}
 use Rattle.blockers.specs.declared.Changed.{Changed}
 use Rattle.stages.specs.Stages.{size_of}
 use Rattle.dock.specs.Begin.{Begins}
@@ -76,15 +73,15 @@ planned_paper (Chunk c) = valued (c.start.0 ∷ size_of c ∷ [])
 planned_paper (NotPlanned r) = numbered (number_of r)
 
 -- `is_aligned`: 1 for aligned, 0 for not
-abbrev pub alignment_paper : Alignment → Paper
-alignment_paper Aligned = valued (1 ∷ [])
-alignment_paper Unaligned = valued (0 ∷ [])
-alignment_paper (NotAsked r) = numbered (number_of r)
+abbrev pub alignment_paper : Result Bool Refusal → Paper
+alignment_paper (Ok true) = valued (1 ∷ [])
+alignment_paper (Ok false) = valued (0 ∷ [])
+alignment_paper (Err r) = numbered (number_of r)
 
 -- the splits (document 02, N2): 0, and "the number of pieces looked at" beside it
-abbrev pub split_paper : Outcome → ℕ → Paper
-split_paper Done n = record { number = Of 0; values = n ∷ [] }
-split_paper (Refused r) n = numbered (number_of r)
+abbrev pub split_paper : Result ℕ Refusal → Paper
+split_paper (Ok n) = record { number = Of 0; values = n ∷ [] }
+split_paper (Err r) = numbered (number_of r)
 
 -- a row of a drive table (document 02, N3): M, R, Z, D
 abbrev pub profile_paper : Profile → Paper
@@ -111,18 +108,20 @@ TellsAs t r d memory scratch = (r ≡ outcome_number t.outcome) × (d ≡ t.dock
 abbrev pub CollectsAs : Collects → ℕ → Dock → Type 0
 CollectsAs c r d = (r ≡ collected_number c.answer) × (d ≡ c.dock)
 
--- the same of a call on a vector, in every word: an edit, of which a refusal leaves the vector, and so the words (law vector_same of
--- dock_words); a split, whose tail a refusal leaves, and one for the tail alone; bytes that are moved where a test holds
-abbrev pub EditsAs : Edited → ℕ → List ℕ → Type 0
-EditsAs c r words = (r ≡ outcome_number c.outcome) × (words ≡ vector_words c.vector)
+-- the same of a call on a vector, in every word: an edit, a split and one for the tail alone, of which a refusal leaves the words as they
+-- were; bytes that are moved where a test holds
+abbrev pub EditsAs : Result IoVector Refusal → List ℕ → ℕ → List ℕ → Type 0
+EditsAs (Ok w) old r words = (r ≡ 0) × (words ≡ vector_words w)
+EditsAs (Err e) old r words = (r ≡ number_of e) × (words ≡ old)
 
-abbrev pub SplitsAs : Halves → List ℕ → Reply → List ℕ → List ℕ → Type 0
-SplitsAs h old r head tail =
-    (r ≡ reply_of (split_paper h.outcome h.looked)) × (head ≡ vector_words h.head)
-    × (tail ≡ when_done h.outcome (vector_words h.tail) (λ z. old))
+abbrev pub SplitsAs : Result Halves Refusal → List ℕ → List ℕ → Reply → List ℕ → List ℕ → Type 0
+SplitsAs (Ok h) old behind r head tail =
+    (r ≡ reply_of (split_paper (Ok h.looked))) × (head ≡ vector_words h.head) × (tail ≡ vector_words h.tail)
+SplitsAs (Err e) old behind r head tail = (r ≡ reply_of (split_paper (Err e))) × (head ≡ old) × (tail ≡ behind)
 
-abbrev pub SplitsTailAs : Tail → Reply → List ℕ → Type 0
-SplitsTailAs t r words = (r ≡ reply_of (split_paper t.outcome t.looked)) × (words ≡ vector_words t.vector)
+abbrev pub SplitsTailAs : Result Tail Refusal → List ℕ → Reply → List ℕ → Type 0
+SplitsTailAs (Ok t) old r words = (r ≡ reply_of (split_paper (Ok t.looked))) × (words ≡ vector_words t.vector)
+SplitsTailAs (Err e) old r words = (r ≡ reply_of (split_paper (Err e))) × (words ≡ old)
 
 abbrev pub MovesAs : Bool → List ℕ → List ℕ → ℕ → List ℕ → Type 0
 MovesAs t moved old r bytes = (r ≡ outcome_number (outcome_of t)) × (bytes ≡ pick t moved old)

@@ -11,11 +11,24 @@ ghost use Rattle.dock_c.specs.Replies.{reply_of, alignment_paper, EditsAs, Split
 
 use crate::replies::{Reply, alignment_reply, split_reply};
 use arithmetic::offsets::{Range, StoreOffset};
-use arithmetic::refusals::Outcome;
+use arithmetic::refusals::Refusal;
 use arithmetic::settings::{Alignments, Lent};
 use blockers::strength;
 use dock_words::arrays::{enter, leave, put_vector_of, vector_of, waits};
-use vectors::vector::Segment;
+use vectors::vector::{IoVector, Segment};
+
+// What an edit made of the vector in the words goes back into them; where it is refused they stay.
+fn put_edited(vector: &mut [u64; 34], edited: Result<IoVector, Refusal>) -> u8
+    ensures { EditsAs edited vector.old result vector.new }
+{
+    match edited {
+        Ok(v) => {
+            put_vector_of(vector, v);
+            0
+        }
+        Err(refusal) => refusal.number(),
+    }
+}
 
 // The vector with a segment at its end; one that starts where the last ends makes that longer.
 #[unsafe(no_mangle)]
@@ -26,13 +39,10 @@ pub extern "C" fn dock_words_vector_push(
     data_len: usize,
 ) -> u8
     ensures { EditsAs (push_of data_len (vector_from vector.old) (segment start length))
-        result vector.new }
+        vector.old result vector.new }
 {
     let v = vector_of(vector);
-    let changed = v.push(Segment { start, length }, data_len);
-    let outcome = changed.outcome;
-    put_vector_of(vector, changed.vector);
-    outcome.number()
+    put_edited(vector, v.push(Segment { start, length }, data_len))
 }
 
 // The vector with a segment before the one at `index`, joined to either neighbour that it touches.
@@ -45,13 +55,10 @@ pub extern "C" fn dock_words_vector_insert(
     data_len: usize,
 ) -> u8
     ensures { EditsAs (insert_of data_len (vector_from vector.old) index (segment start length))
-        result vector.new }
+        vector.old result vector.new }
 {
     let v = vector_of(vector);
-    let changed = v.insert(index, Segment { start, length }, data_len);
-    let outcome = changed.outcome;
-    put_vector_of(vector, changed.vector);
-    outcome.number()
+    put_edited(vector, v.insert(index, Segment { start, length }, data_len))
 }
 
 // The bytes of the vector from `mid` on, and how many segments were looked at to find where.
@@ -62,13 +69,16 @@ pub extern "C" fn dock_words_vector_split_tail_at(
     data_len: usize,
 ) -> Reply
     ensures { SplitsTailAs (split_tail_of data_len (vector_from vector.old) mid)
-        result vector.new }
+        vector.old result vector.new }
 {
     let v = vector_of(vector);
-    let tail = v.split_tail_at(mid, data_len);
-    let outcome = tail.outcome;
-    put_vector_of(vector, tail.vector);
-    split_reply(outcome, tail.looked)
+    match v.split_tail_at(mid, data_len) {
+        Ok(tail) => {
+            put_vector_of(vector, tail.vector);
+            split_reply(Ok(tail.looked))
+        }
+        Err(refusal) => split_reply(Err(refusal)),
+    }
 }
 
 // The vector with the segments of `other` at its end, the first of them as in a push.
@@ -79,17 +89,14 @@ pub extern "C" fn dock_words_vector_append(
     data_len: usize,
 ) -> u8
     ensures { EditsAs (append_of data_len (vector_from vector.old) (vector_from other.now))
-        result vector.new }
+        vector.old result vector.new }
 {
     let v = vector_of(vector);
     let w = vector_of(other);
-    let changed = v.append(w, data_len);
-    let outcome = changed.outcome;
-    put_vector_of(vector, changed.vector);
-    outcome.number()
+    put_edited(vector, v.append(w, data_len))
 }
 
-// The first `mid` bytes of the vector, and the rest in `tail`, which a refusal leaves; and how many segments were looked at.
+// The first `mid` bytes of the vector, and the rest in `tail`; where it is refused both stay; and how many segments were looked at.
 #[unsafe(no_mangle)]
 pub extern "C" fn dock_words_vector_split_at(
     vector: &mut [u64; 34],
@@ -97,18 +104,18 @@ pub extern "C" fn dock_words_vector_split_at(
     mid: u64,
     data_len: usize,
 ) -> Reply
-    ensures { SplitsAs (split_of data_len (vector_from vector.old) mid) tail.old
-        result vector.new tail.new }
+    ensures { SplitsAs (split_of data_len (vector_from vector.old) mid)
+        vector.old tail.old result vector.new tail.new }
 {
     let v = vector_of(vector);
-    let halves = v.split_at(mid, data_len);
-    let outcome = halves.outcome;
-    put_vector_of(vector, halves.head);
-    let Outcome::Done = outcome else {
-        return split_reply(outcome, halves.looked);
-    };
-    put_vector_of(tail, halves.tail);
-    split_reply(outcome, halves.looked)
+    match v.split_at(mid, data_len) {
+        Ok(halves) => {
+            put_vector_of(vector, halves.head);
+            put_vector_of(tail, halves.tail);
+            split_reply(Ok(halves.looked))
+        }
+        Err(refusal) => split_reply(Err(refusal)),
+    }
 }
 
 // `slice` becomes the vector's bytes.

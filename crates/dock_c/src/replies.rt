@@ -5,7 +5,7 @@ ghost use Rattle.dock_c.specs.Replies.{reply_of, numbers, count_paper, planned_p
 ghost use Rattle.dock_c.specs.Replies.{joined_paper, collected_number};
 
 use arithmetic::planner::{Count, Planned};
-use arithmetic::refusals::Outcome;
+use arithmetic::refusals::Refusal;
 use arithmetic::settings::Profile;
 use dock::begin::Begun;
 use dock::next::{Due, Piece};
@@ -13,7 +13,6 @@ use dock::tell::Collected;
 use dock_shown::shown::kind_number;
 use sheets::joining::Joined;
 use stages::state::{Request, size};
-use vectors::vector::Alignment;
 
 // The number that stands for none: an answer that has values alone.
 const NO_NUMBER: u64 = 256;
@@ -123,13 +122,12 @@ pub(crate) fn planned_reply(p: Planned) -> Reply
     }
 }
 
-pub(crate) fn alignment_reply(a: Alignment) -> Reply
+pub(crate) fn alignment_reply(a: Result<bool, Refusal>) -> Reply
     ensures { result ≡ reply_of (alignment_paper a) }
 {
     match a {
-        Alignment::Aligned => reply_values(1, 1, 0, 0, 0),
-        Alignment::Unaligned => reply_values(1, 0, 0, 0, 0),
-        Alignment::Refused(r) => reply_number(r.number() as u64),
+        Ok(aligned) => reply_values(1, u64::from(aligned), 0, 0, 0),
+        Err(r) => reply_number(r.number() as u64),
     }
 }
 
@@ -143,11 +141,11 @@ pub(crate) fn profile_reply(p: Profile) -> Reply
 }
 
 // A split that was carried out answers 0, and how many segments it looked at.
-pub(crate) fn split_reply(o: Outcome, looked: usize) -> Reply
-    ensures { result ≡ reply_of (split_paper o looked) }
+pub(crate) fn split_reply(split: Result<usize, Refusal>) -> Reply
+    ensures { result ≡ reply_of (split_paper split) }
 {
-    match o {
-        Outcome::Done => Reply {
+    match split {
+        Ok(looked) => Reply {
             number: 0,
             count: 1,
             first: looked as u64,
@@ -155,7 +153,7 @@ pub(crate) fn split_reply(o: Outcome, looked: usize) -> Reply
             third: 0,
             fourth: 0,
         },
-        Outcome::Refused(r) => reply_number(r.number() as u64),
+        Err(r) => reply_number(r.number() as u64),
     }
 }
 

@@ -28,7 +28,7 @@
 ghost use Rattle.std.specs.Prelude.{◌<◌, ◌≤◌, length, IfOk};
 
 use arithmetic::offsets::StoreOffset;
-use arithmetic::refusals::Outcome;
+use arithmetic::refusals::{Outcome, Refusal};
 use arithmetic::settings::{Buffers, Lent, drive_profile};
 use dock::begin::Asked;
 use dock::dock::Dock;
@@ -41,7 +41,7 @@ use replay_text::trace::text;
 use replay_text::{marks, script, trace};
 use std::io;
 use std::io::Read;
-use vectors::vector::{Changed, IoVector};
+use vectors::vector::IoVector;
 
 // What a line is.
 #[derive(Clone, Copy)]
@@ -94,22 +94,8 @@ fn reopen(
 }
 
 // The vector of the first so many segments of an event, up to the first that is refused.
-fn vector_of(e: Event, segments: usize, data_len: usize) -> Changed {
-    let mut changed = Changed {
-        vector: IoVector::new(),
-        outcome: Outcome::Done,
-    };
-    let mut k = 0usize;
-    while k < segments {
-        let last = changed.outcome;
-        if let Outcome::Refused(_) = last {
-            break;
-        }
-        let vector = changed.vector;
-        changed = vector.push(e.segment(k), data_len);
-        k += 1;
-    }
-    changed
+fn vector_of(e: Event, segments: usize, data_len: usize) -> Result<IoVector, Refusal> {
+    (0..segments).try_fold(IoVector::new(), |v, k| v.push(e.segment(k), data_len))
 }
 
 // How many segments an event has: a read or a write, two numbers for each after the offset.
@@ -143,13 +129,14 @@ fn begin(
     data: &[u8],
     scratch: &mut [u8],
 ) -> io::Result<Dock> {
-    let v = vector_of(e, segments(e), data.len());
-    let fit = v.outcome;
-    if let Outcome::Refused(r) = fit {
-        trace::refused(rt, r)?;
-        return Ok(dock);
-    }
-    let b = dock.begin(ask_for(e, v.vector), data, scratch);
+    let v = match vector_of(e, segments(e), data.len()) {
+        Ok(v) => v,
+        Err(r) => {
+            trace::refused(rt, r)?;
+            return Ok(dock);
+        }
+    };
+    let b = dock.begin(ask_for(e, v), data, scratch);
     let answer = b.answer;
     trace::begun(rt, answer)?;
     Ok(b.dock)

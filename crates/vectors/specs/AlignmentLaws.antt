@@ -4,7 +4,7 @@ use Rattle.std.proofs.Math.Path.{refl}
 use Rattle.std.proofs.Common.{sym, arith, eqb-true}
 use mathlib.Core.List.{List, [], ◌∷◌}
 use Rattle.std.proofs.Math.Nat.{mod-one}
-use Rattle.arithmetic.specs.Rounding.{pick, is_multiple}
+use Rattle.arithmetic.specs.Rounding.{is_multiple}
 use Rattle.arithmetic.specs.RoundingLaws.{fits_true}
 use Rattle.arithmetic.specs.Settings.{alignments_fit, length_align}
 use Rattle.arithmetic.specs.SettingsLaws.{and_left, and_right}

@@ -17,7 +17,7 @@ use Rattle.vectors.specs.declared.vector.Segment.{Segment}
 use Rattle.vectors.specs.declared.vector.IoVector.{IoVector}
 use Rattle.vectors.specs.declared.vector.Halves.{Halves}
 use Rattle.vectors.specs.declared.vector.Tail.{Tail}
-use Rattle.vectors.specs.Vectors.{segment, segments_of, size_of, lies_in, all_segments, segments_fit, is_valid, vector_of, touches, seam}
+use Rattle.vectors.specs.Vectors.{segment, segments_of, size_of, lies_in, all_segments, segments_fit, is_valid, touches, seam}
 use Rattle.vectors.specs.Vectors.{glued, refused_vector, changed_to, push_of, inserted_at, insert_of, append_of, head_of, tail_of, split_of}
 use Rattle.vectors.specs.Vectors.{vector_after, halves_of, rest_of, split_tail_of}
 use Rattle.vectors.specs.Runs.{not_empty, touches_first, none_touch, up_from, positions, run_from, runs, MaximalRuns, runs_or_refused}

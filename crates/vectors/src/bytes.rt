@@ -1,6 +1,5 @@
 // The bytes of a vector's segments, copied into a slice and back, and filled.
-ghost use Rattle.std.specs.Prelude.{◌≡◌, true, ◌++◌, ◌+◌, ◌≤◌, length, take, drop, replicate};
-ghost use Rattle.std.proofs.Math.Seq.{paste};
+ghost use Rattle.std.specs.Prelude.{◌≡◌, true, ◌++◌, length, take, drop, replicate};
 ghost use Rattle.vectors.specs.Vectors.{segments_of, is_valid, bytes_of, scatter_of, fill_of, copies, outcome_of};
 ghost use Rattle.vectors.specs.Vectors.{copied_into, copied_from, filled_with};
 
