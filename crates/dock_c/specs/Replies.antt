@@ -1,7 +1,8 @@
 -- Document 01's number and values of an answer, as they cross the boundary: in one struct of words.
-use Rattle.std.specs.Prelude.{◌≡◌, Bool, List, [], ◌∷◌, ℕ, length, get_or}
+use Rattle.std.specs.Prelude.{◌≡◌, Bool, Result, Ok, Err, List, [], ◌∷◌, ℕ, length, get_or}
 use Rattle.arithmetic.specs.Rounding.{pick}
 use Rattle.arithmetic.specs.Refusals.{number_of, outcome_number, when_done, is_done}
+use Rattle.arithmetic.specs.declared.refusals.Refusal.{Refusal}
 use Rattle.arithmetic.specs.declared.refusals.Outcome.{Outcome}
 use Rattle.arithmetic.specs.declared.refusals.Outcome.TheVariants.{Done, Refused}
 use Rattle.arithmetic.specs.declared.settings.Settings.{Settings}
@@ -28,8 +29,8 @@ use Rattle.dock.specs.declared.tell.Collected.{Collected}
 use Rattle.dock.specs.declared.tell.Collects.{Collects}
 use Rattle.dock.specs.declared.numbers.Number.{Number}
 use Rattle.dock.specs.declared.numbers.Number.TheVariants.{Of, None}
-use Rattle.tables.specs.Words.{words_after}
-use Rattle.tables.specs.declared.table.Loaded.{Loaded}
+use Rattle.tables.specs.Words.{outcome_of as loaded_outcome, words_after}
+use Rattle.tables.specs.declared.table.Table.{Table}
 use Rattle.sheets.specs.Sheets.{Joins}
 use Rattle.sheets.specs.declared.joining.Joined.{Joined}
 use Rattle.sheets.specs.declared.joining.Joined.TheVariants.{Into, Refused as NotJoined}
@@ -128,8 +129,8 @@ abbrev pub MovesAs : Bool → List ℕ → List ℕ → ℕ → List ℕ → Typ
 MovesAs t moved old r bytes = (r ≡ outcome_number (outcome_of t)) × (bytes ≡ pick t moved old)
 
 -- of a load of a drive table, in every word: a refusal leaves them
-abbrev pub LoadsAs : Loaded → ℕ → List ℕ → List ℕ → Type 0
-LoadsAs l r before after = (r ≡ outcome_number l.outcome) × (after ≡ words_after l before)
+abbrev pub LoadsAs : Result Table Refusal → ℕ → List ℕ → List ℕ → Type 0
+LoadsAs l r before after = (r ≡ outcome_number (loaded_outcome l)) × (after ≡ words_after l before)
 
 -- of joined writes, in every byte of the output and every word of their rows
 abbrev pub JoinsWith : Joins → Reply → List ℕ → List ℕ → Type 0
