@@ -5,13 +5,13 @@ ghost use Rattle.dock_c.specs.Replies.{reply_of, numbers, count_paper, planned_p
 ghost use Rattle.dock_c.specs.Replies.{joined_paper, collected_number};
 
 use arithmetic::planner::{Count, Planned};
-use arithmetic::refusals::Outcome;
+use arithmetic::refusals::{Outcome, Refusal};
 use arithmetic::settings::Profile;
 use dock::begin::Begun;
 use dock::next::{Due, Piece};
 use dock::tell::Collected;
 use dock_shown::shown::kind_number;
-use sheets::joining::Joined;
+use sheets::joining::Size;
 use stages::state::{Request, size};
 use vectors::vector::Alignment;
 
@@ -159,11 +159,11 @@ pub(crate) fn split_reply(o: Outcome, looked: usize) -> Reply
     }
 }
 
-pub(crate) fn joined_reply(j: Joined) -> Reply
+pub(crate) fn joined_reply(j: Result<Size, Refusal>) -> Reply
     ensures { result ≡ reply_of (joined_paper j) }
 {
     match j {
-        Joined::Into(size) => Reply {
+        Ok(size) => Reply {
             number: 0,
             count: 2,
             first: size.ranges as u64,
@@ -171,7 +171,7 @@ pub(crate) fn joined_reply(j: Joined) -> Reply
             third: 0,
             fourth: 0,
         },
-        Joined::Refused(r) => reply_number(r.number() as u64),
+        Err(r) => reply_number(r.number() as u64),
     }
 }
 
