@@ -1,6 +1,7 @@
 -- Document 02, N14, on the plain byte store: "Writing these in any order gives the content that the originals give in their order." The
 -- statements; proofs/Theorem.antt proves them for every sheet that is not refused.
-use Rattle.std.specs.Prelude.{◌≡◌, Bool, true, false, ◌||◌, Ok, Err, List, [], ◌∷◌, ◌++◌, ℕ, suc, ◌*◌, ◌^◌, ◌<◌, ◌≤◌, length, take, drop, get_or}
+use Rattle.std.specs.Prelude.{◌≡◌, Bool, true, false, ◌||◌, List, [], ◌∷◌, ◌++◌, ℕ, suc, ◌*◌, ◌^◌, ◌<◌, ◌≤◌, length, take, drop, get_or}
+use Rattle.std.specs.Prelude.{Ok, Err}
 use Rattle.arithmetic.specs.Content.{Bytes, in_range, changed, laid_at}
 use Rattle.arithmetic.specs.declared.offsets.Range.{Range}
 use Rattle.arithmetic.specs.declared.refusals.Refusal.{Refusal}

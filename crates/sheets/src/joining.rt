@@ -82,7 +82,8 @@ impl Sheet<'_> {
         self.holds_all(room) || self.measure() <= room
     }
 
-    // The bytes of the ranges into the output, and a row for each of them; how many both are. The row of a range that goes on is written anew.
+    // The bytes of the ranges into the output, and a row for each of them; how many both are. The row of a range that goes on is written
+    // anew.
     fn pack(&self, output: &mut [u8], joined: &mut [u64; 192]) -> Size
         requires { total_of (ranges_of (writes_of self.now.writes.now)) ≤ length output.old }
         ensures { PacksAs (writes_of self.now.writes.now) self.now.«data».now result output.old joined.old
@@ -94,27 +95,28 @@ impl Sheet<'_> {
         let mut at: u64 = 0;
         while at < LARGEST {
             let Stretch { owner, end } = self.look(at);
-            open = match owner {
-                Some(w) => {
-                    carry(w, self.data, output, at, end, filled);
-                    let (first, place) = match open {
-                        Some(range) => (range.offset.0, range.start),
-                        None => {
-                            count += 1;
-                            (at, filled as u64)
+            if let Some(w) = owner {
+                carry(w, self.data, output, at, end, filled);
+                let range = match open {
+                    Some(range) => SheetWrite {
+                        length: end - range.offset.0,
+                        ..range
+                    },
+                    None => {
+                        count += 1;
+                        SheetWrite {
+                            offset: StoreOffset(at),
+                            start: filled as u64,
+                            length: end - at,
                         }
-                    };
-                    let range = SheetWrite {
-                        offset: StoreOffset(first),
-                        start: place,
-                        length: end - first,
-                    };
-                    put_write(joined, count - 1, range);
-                    filled += (end - at) as usize;
-                    Some(range)
-                }
-                None => None,
-            };
+                    }
+                };
+                put_write(joined, count - 1, range);
+                filled += (end - at) as usize;
+                open = Some(range);
+            } else {
+                open = None;
+            }
             at = end;
         }
         Size {
