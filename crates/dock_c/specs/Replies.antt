@@ -25,11 +25,10 @@ use Rattle.dock.specs.declared.tell.Collected.{Collected}
 use Rattle.dock.specs.declared.tell.Collects.{Collects}
 use Rattle.dock.specs.declared.numbers.Number.{Number}
 use Rattle.dock.specs.declared.numbers.Number.TheVariants.{Of, None}
-use Rattle.tables.specs.Words.{words_after}
-use Rattle.tables.specs.declared.table.Loaded.{Loaded}
+use Rattle.tables.specs.Words.{outcome_of as loaded_outcome, words_after}
+use Rattle.tables.specs.declared.table.Table.{Table}
 use Rattle.sheets.specs.Sheets.{Joins}
-use Rattle.sheets.specs.declared.joining.Joined.{Joined}
-use Rattle.sheets.specs.declared.joining.Joined.TheVariants.{Into, Refused as NotJoined}
+use Rattle.sheets.specs.declared.joining.Size.{Size}
 use Rattle.dock_words.specs.View.{blockers_of}
 use Rattle.vectors.specs.Words.{vector_words}
 use Rattle.dock_words.specs.CallWords.{same_unless}
@@ -89,9 +88,9 @@ profile_paper (Profiled a) = valued (a.mem ∷ a.req ∷ a.zero ∷ a.discard �
 profile_paper (NoProfile r) = numbered (number_of r)
 
 -- joined writes (document 02, N14): 0, and how many ranges and bytes they became
-abbrev pub joined_paper : Joined → Paper
-joined_paper (Into s) = record { number = Of 0; values = s.ranges ∷ s.bytes ∷ [] }
-joined_paper (NotJoined r) = numbered (number_of r)
+abbrev pub joined_paper : Result Size Refusal → Paper
+joined_paper (Ok s) = record { number = Of 0; values = s.ranges ∷ s.bytes ∷ [] }
+joined_paper (Err r) = numbered (number_of r)
 
 -- collect: the number that `collected_paper` gives
 abbrev pub collected_number : Collected → ℕ
@@ -127,8 +126,8 @@ abbrev pub MovesAs : Bool → List ℕ → List ℕ → ℕ → List ℕ → Typ
 MovesAs t moved old r bytes = (r ≡ outcome_number (outcome_of t)) × (bytes ≡ pick t moved old)
 
 -- of a load of a drive table, in every word: a refusal leaves them
-abbrev pub LoadsAs : Loaded → ℕ → List ℕ → List ℕ → Type 0
-LoadsAs l r before after = (r ≡ outcome_number l.outcome) × (after ≡ words_after l before)
+abbrev pub LoadsAs : Result Table Refusal → ℕ → List ℕ → List ℕ → Type 0
+LoadsAs l r before after = (r ≡ outcome_number (loaded_outcome l)) × (after ≡ words_after l before)
 
 -- of joined writes, in every byte of the output and every word of their rows
 abbrev pub JoinsWith : Joins → Reply → List ℕ → List ℕ → Type 0

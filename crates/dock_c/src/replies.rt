@@ -11,7 +11,7 @@ use dock::begin::Begun;
 use dock::next::{Due, Piece};
 use dock::tell::Collected;
 use dock_shown::shown::kind_number;
-use sheets::joining::Joined;
+use sheets::joining::Size;
 use stages::state::{Request, size};
 
 // The number that stands for none: an answer that has values alone.
@@ -157,11 +157,11 @@ pub(crate) fn split_reply(split: Result<usize, Refusal>) -> Reply
     }
 }
 
-pub(crate) fn joined_reply(j: Joined) -> Reply
+pub(crate) fn joined_reply(j: Result<Size, Refusal>) -> Reply
     ensures { result ≡ reply_of (joined_paper j) }
 {
     match j {
-        Joined::Into(size) => Reply {
+        Ok(size) => Reply {
             number: 0,
             count: 2,
             first: size.ranges as u64,
@@ -169,7 +169,7 @@ pub(crate) fn joined_reply(j: Joined) -> Reply
             third: 0,
             fourth: 0,
         },
-        Joined::Refused(r) => reply_number(r.number() as u64),
+        Err(r) => reply_number(r.number() as u64),
     }
 }
 

@@ -1,8 +1,9 @@
 -- Document 02, N3: "our house form: records of a two-byte length of what follows, a two-byte kind and the body, little-endian."
 use Rattle.std.specs.Prelude.{Bool, ◌||◌, List, [], ◌∷◌, ◌++◌, ℕ, zero, suc, ◌+◌, ◌-◌, ◌*◌, ◌/◌, ◌%◌, ltb, eqb, length, take, drop}
+use Rattle.std.specs.Prelude.{Option, Some, None, Result, Ok, Err}
 use Rattle.arithmetic.specs.Rounding.{pick}
-use Rattle.records.specs.declared.Start.{Start}
-use Rattle.records.specs.declared.Start.TheVariants.{End, Broken, Record}
+use Rattle.records.specs.declared.Header.{Header}
+use Rattle.records.specs.declared.Broken.{Broken}
 
 -- the number that bytes stand for, "little-endian": the first byte counts least
 unfoldable pub little_endian : List ℕ → ℕ
@@ -40,11 +41,12 @@ is_short bs = ltb (length_field bs) 2
 
 -- ---- what bytes start with
 
-unfoldable pub start_of : List ℕ → Start
+-- none where there are no bytes
+unfoldable pub start_of : List ℕ → Result (Option Header) Broken
 start_of bs =
-    pick (eqb (length bs) 0) End
-    (pick (is_cut bs || is_short bs) Broken
-    (Record (record { kind = kind_field bs; body = body_length bs })))
+    pick (eqb (length bs) 0) (Ok None)
+    (pick (is_cut bs || is_short bs) (Err (record {}))
+    (Ok (Some (record { kind = kind_field bs; body = body_length bs }))))
 
 -- ---- all records of a byte string, in its order: each a kind and a body, up to the end or to the first that is broken
 
@@ -53,10 +55,10 @@ pub data Form : Type 0 where
   broken : Form
   entry : ℕ → List ℕ → Form → Form
 
-abbrev pub form_with : Start → List ℕ → Form → Form
-form_with End bs more = end
-form_with Broken bs more = broken
-form_with (Record h) bs more = entry h.kind (body_of bs) more
+abbrev pub form_with : Result (Option Header) Broken → List ℕ → Form → Form
+form_with (Ok None) bs more = end
+form_with (Ok (Some h)) bs more = entry h.kind (body_of bs) more
+form_with (Err e) bs more = broken
 
 -- `turns` bounds how many there are
 unfoldable pub form_in : ℕ → List ℕ → Form

@@ -1,7 +1,7 @@
 -- Laws of the house form: a byte string is the record that it starts with and those behind it; what was written as records is read as
 -- these, and a record of which bytes are missing is broken. Assumes nothing.
 use Rattle.std.specs.Prelude.{◌≡◌, refl, Bool, true, false, ◌||◌, ◌⊎◌, List, [], ◌∷◌, ◌++◌, ℕ, zero, suc, ◌+◌, ◌-◌, ◌<◌, ◌≤◌, ltb, eqb}
-use Rattle.std.specs.Prelude.{length, take, drop, get_or}
+use Rattle.std.specs.Prelude.{length, take, drop, get_or, Option, Some, None, Result, Ok, Err}
 use Rattle.std.proofs.Common.{ap, ◌∙◌, inl, inr, arith, length-drop, length-append, get_or-drop, take_at, drop_at, length-take-le}
 use Rattle.std.proofs.Common.{div-add-mod'}
 use Rattle.std.proofs.Math.Bool.{or-true}
@@ -10,12 +10,11 @@ use Rattle.arithmetic.specs.Rounding.{pick}
 use Rattle.records.specs.Records.{little_endian, length_field, kind_field, body_length, body_of, behind, is_cut, is_short, start_of}
 use Rattle.records.specs.Records.{broken, entry, form_with, form_in, form_of, two_bytes, record_bytes}
 use Rattle.records.specs.declared.Header.{Header}
-use Rattle.records.specs.declared.Start.{Start}
-use Rattle.records.specs.declared.Start.TheVariants.{End, Broken, Record}
+use Rattle.records.specs.declared.Broken.{Broken}
 
 -- ---- turns
 
-pub start_none : (bs : List ℕ) → length bs ≡ 0 → start_of bs ≡ End
+pub start_none : (bs : List ℕ) → length bs ≡ 0 → start_of bs ≡ Ok None
 unfolding start_of
 start_none bs e = rw (eq-eqb (length bs) 0 e)
 
@@ -48,7 +47,7 @@ or_cut true short f = refl
 or_cut false short f = f refl
 
 -- under four bytes there is no record: it has length and kind
-pub start_few : (bs : List ℕ) → 0 < length bs → length bs < 4 → start_of bs ≡ Broken
+pub start_few : (bs : List ℕ) → 0 < length bs → length bs < 4 → start_of bs ≡ Err (record {})
 unfolding start_of is_cut is_short
 start_few bs h k =
     let none = ne_eqb (length bs) 0 (λ e. omega (arith, e)) in
@@ -58,13 +57,13 @@ start_few bs h k =
 
 module _ (bs : List ℕ) (h : 0 < length bs) where
   -- bytes that are too few, or a length under two
-  pub start_broken : (length bs < 2 + length_field bs) ⊎ (length_field bs < 2) → start_of bs ≡ Broken
+  pub start_broken : (length bs < 2 + length_field bs) ⊎ (length_field bs < 2) → start_of bs ≡ Err (record {})
   unfolding start_of is_cut is_short
   start_broken (inl l) = rw (ne_eqb (length bs) 0 (λ e. omega (arith, e)), lt-ltb (length bs) (2 + length_field bs) l)
   start_broken (inr l) = rw (ne_eqb (length bs) 0 (λ e. omega (arith, e)), lt-ltb (length_field bs) 2 l, or-true (is_cut bs))
 
   pub start_record : 2 + length_field bs ≤ length bs → 2 ≤ length_field bs
-      → start_of bs ≡ Record (record { kind = kind_field bs; body = body_length bs })
+      → start_of bs ≡ Ok (Some (record { kind = kind_field bs; body = body_length bs }))
   unfolding start_of is_cut is_short
   start_record l m = rw (
     ne_eqb (length bs) 0 (λ e. omega (arith, e)),
@@ -107,7 +106,7 @@ unfolding little_endian
 two_read n = omega (arith, div-add-mod' n 256)
 
 module _ (kind : ℕ) (body : List ℕ) where
-  starts : (rest : List ℕ) → start_of (record_bytes kind body ++ rest) ≡ Record (record { kind = kind; body = length body })
+  starts : (rest : List ℕ) → start_of (record_bytes kind body ++ rest) ≡ Ok (Some (record { kind = kind; body = length body }))
   starts rest =
       let bs = record_bytes kind body ++ rest in
       let l : length_field bs ≡ 2 + length body = two_read (2 + length body) in
@@ -145,12 +144,12 @@ pub record Found (bs : List ℕ) (h : Header) : Type 0 where
   pub form : form_of bs ≡ entry h.kind (take h.body (drop 4 bs)) (form_of (drop (4 + h.body) bs))
 
 -- what stands in the place of a start that is no record
-abbrev header_of : Start → Header
-header_of End = record { kind = 0; body = 0 }
-header_of Broken = record { kind = 0; body = 0 }
-header_of (Record h) = h
+abbrev header_of : Result (Option Header) Broken → Header
+header_of (Ok None) = record { kind = 0; body = 0 }
+header_of (Ok (Some h)) = h
+header_of (Err e) = record { kind = 0; body = 0 }
 
-pub found : (bs : List ℕ) (h : Header) → start_of bs ≡ Record h → Found bs h
+pub found : (bs : List ℕ) (h : Header) → start_of bs ≡ Ok (Some h) → Found bs h
 unfolding start_of is_cut is_short
 found bs h e = go (eqb (length bs) 0) (ltb (length bs) (2 + length_field bs)) (ltb (length_field bs) 2) refl refl refl e
   where
@@ -158,7 +157,8 @@ found bs h e = go (eqb (length bs) 0) (ltb (length bs) (2 + length_field bs)) (l
     is = record { kind = kind_field bs; body = body_length bs }
 
     go : (none cut short : Bool) → eqb (length bs) 0 ≡ none → ltb (length bs) (2 + length_field bs) ≡ cut → ltb (length_field bs) 2 ≡ short
-        → pick none End (pick (cut || short) Broken (Record is)) ≡ Record h → Found bs h
+        → pick {A = Result (Option Header) Broken} none (Ok None) (pick (cut || short) (Err (record {})) (Ok (Some is))) ≡ Ok (Some h)
+        → Found bs h
     go true cut short p q s e = let z : ◌≡◌ {A = ℕ} 0 1 = cc in absurd (omega arith)
     go false true short p q s e = let z : ◌≡◌ {A = ℕ} 0 1 = cc in absurd (omega arith)
     go false false true p q s e = let z : ◌≡◌ {A = ℕ} 0 1 = cc in absurd (omega arith)

@@ -6,54 +6,43 @@ ghost use Rattle.std.specs.Prelude.{◌≡◌, [], ◌∷◌};
 ghost use Rattle.records.specs.Records.{little_endian, start_of};
 
 // A record's kind, and how long its body is, which lies behind the four bytes of length and kind.
-#[derive(Clone, Copy)]
+#[derive(Clone, Copy, PartialEq, Eq)]
 pub struct Header {
     pub kind: u64,
     pub body: usize,
 }
 
-// What bytes start with.
-#[derive(Clone, Copy)]
-pub enum Start {
-    End, // there are none
-    Broken, // a record that is cut, or shorter than its kind
-    Record(Header),
-}
-
-// The number of two bytes.
-pub fn u16_of(low: u8, high: u8) -> u64
-    ensures { result ≡ little_endian (low ∷ high ∷ []) }
-{
-    low as u64 + 256 * (high as u64)
-}
+// What bytes start with is a record that is cut, or shorter than its kind.
+#[derive(Clone, Copy, PartialEq, Eq)]
+pub struct Broken;
 
 // The number of four bytes.
 pub fn u32_of(first: u8, second: u8, third: u8, fourth: u8) -> u64
     ensures { result ≡ little_endian (first ∷ second ∷ third ∷ fourth ∷ []) }
 {
-    first as u64 + 256 * (second as u64) + 65536 * (third as u64) + 16777216 * (fourth as u64)
+    u64::from(u32::from_le_bytes([first, second, third, fourth]))
 }
 
-// The record that the bytes start with.
-pub fn first_record(bytes: &[u8]) -> Start
+// The record that the bytes start with: none where there are no bytes.
+pub fn first_record(bytes: &[u8]) -> Result<Option<Header>, Broken>
     ensures { result ≡ start_of bytes.now }
 {
     let n = bytes.len();
     if n == 0 {
-        return Start::End;
+        return Ok(None);
     }
-    if n < 4 {
-        return Start::Broken; // even a record without a body has length and kind
-    }
-    let length = u16_of(bytes[0], bytes[1]) as usize;
+    let [low, high, kind_low, kind_high, ..] = bytes else {
+        return Err(Broken); // even a record without a body has length and kind
+    };
+    let length = usize::from(u16::from_le_bytes([*low, *high]));
     if length < 2 {
-        return Start::Broken; // shorter than its kind
+        return Err(Broken); // shorter than its kind
     }
     if n - 2 < length {
-        return Start::Broken; // cut
+        return Err(Broken); // cut
     }
-    Start::Record(Header {
-        kind: u16_of(bytes[2], bytes[3]),
+    Ok(Some(Header {
+        kind: u64::from(u16::from_le_bytes([*kind_low, *kind_high])),
         body: length - 2,
-    })
+    }))
 }

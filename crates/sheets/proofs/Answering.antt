@@ -3,6 +3,7 @@
 use mathlib.Core.Path.{◌≡◌, refl, sym, ap, ◌∙◌}
 use mathlib.Core.Bool.{Bool, true, false}
 use mathlib.Core.List.{List}
+use Rattle.std.specs.Prelude.{Ok, Err}
 use Prim.Native.Nat.{ℕ, ◌+◌, ◌-◌, ◌<◌, ◌≤◌}
 use native.Mathlib.Decide.{dec_lt}
 use native.Mathlib.Numerals.{add-one}
@@ -16,23 +17,23 @@ use Rattle.sheets.specs.Sheets.{no_write, sheet_fits, ranges_of, total_of, join_
 use Rattle.sheets.specs.Stretches.{lengths_of, PacksAs}
 use Rattle.sheets.specs.SheetLaws.{ranges_most}
 use Rattle.sheets.specs.declared.sheet.SheetWrite.{SheetWrite}
-use Rattle.sheets.specs.declared.joining.Joined.TheVariants.{Into, Refused}
 use Rattle.sheets.specs.declared.joining.Size.{Size}
 
 module _ (ws : List SheetWrite) (memory output words : List ℕ) where
-  pub joins_unfit : sheet_fits (length memory) ws ≡ false → JoinsAs (join_of ws memory output words) (Refused BadSheet) output words
+  pub joins_unfit : sheet_fits (length memory) ws ≡ false → JoinsAs (join_of ws memory output words) (Err BadSheet) output words
   unfolding join_of
   joins_unfit f = rw f (refl, refl, refl)
 
-  module _ (f : sheet_fits (length memory) ws ≡ true) (t : Bool) (e : t ≡ leb (total_of (ranges_of ws)) (length output)) where
-    pub joins_no_room : t ≡ false → JoinsAs (join_of ws memory output words) (Refused NoRoom) output words
+  -- by the sheet of these writes and this data
+  module _ (vs : List SheetWrite) (lent : List ℕ) (e : vs ≡ ws) (m : lent ≡ memory) (f : sheet_fits (length lent) vs ≡ true) where
+    pub joins_no_room : false ≡ leb (total_of (ranges_of vs)) (length output) → JoinsAs (join_of ws memory output words) (Err NoRoom) output words
     unfolding join_of
-    joins_no_room q = rw (f, ← e, q) (refl, refl, refl)
+    joins_no_room q = rw (← e, ← m, f, ← q) (refl, refl, refl)
 
-    pub joins_all : t ≡ true → (size : Size) (out w : List ℕ) → PacksAs ws memory size output words out w
-        → JoinsAs (join_of ws memory output words) (Into size) out w
+    pub joins_all : true ≡ leb (total_of (ranges_of vs)) (length output) → (size : Size) (out w : List ℕ)
+        → PacksAs vs lent size output words out w → JoinsAs (join_of ws memory output words) (Ok size) out w
     unfolding join_of
-    joins_all q size out w p = rw (f, ← e, q) (ap Into p.0, p.1, p.2)
+    joins_all q size out w p = rw (← e, ← m, f, ← q) (ap (λ (z : Size). Ok z) p.0, p.1, p.2)
 
 -- room for all writes is room for what they are joined to
 pub room_for_all : (n : ℕ) (ws : List SheetWrite) (room : ℕ) → sheet_fits n ws ≡ true → leb (lengths_of ws) room ≡ true

@@ -1,13 +1,15 @@
 -- The sweep, stretch by stretch: the ranges that are joined before an offset, their bytes, and the row of the last one. Assumes nothing.
 use mathlib.Core.Path.{◌≡◌, refl, sym, ap, ◌∙◌}
 use mathlib.Core.Bool.{Bool, true, false}
+use Rattle.std.specs.Prelude.{Option, Some, None}
+use Rattle.std.specs.Option.{is_some}
 use mathlib.Core.List.{List, [], ◌∷◌, ◌++◌}
-use Prim.Native.Nat.{ℕ, suc, ◌+◌, ◌-◌, ◌*◌, ◌<◌, ◌≤◌}
+use Prim.Native.Nat.{ℕ, suc, ◌+◌, ◌-◌, ◌<◌, ◌≤◌}
 use native.Mathlib.Omega.{arith}
 use lib.Dec.{ltb, leb}
 use lib.ListN.{length, take, drop, get_or, length-append, length-drop}
 use lib.Seq.{get_or-take, get_or-drop, length-take-le}
-use borrow.Author.Tests.{lt-ltb, le-ltb, ltb-true, leb-true}
+use borrow.Author.Tests.{ltb-true, leb-true}
 use Rattle.arithmetic.specs.SettingsLaws.{and_left, and_right}
 use Rattle.arithmetic.specs.Offsets.{range_of}
 use Rattle.arithmetic.specs.Rows.{put as putRow}
@@ -15,19 +17,35 @@ use Rattle.arithmetic.specs.Content.{Bytes, window, list_ext, window_length, win
 use Rattle.arithmetic.specs.declared.offsets.Range.{Range}
 use Rattle.vectors.specs.Vectors.{put}
 use Rattle.vectors.specs.ByteLaws.{length_put, put_behind}
-use Rattle.sheets.specs.Sheets.{write_as, no_write, row_of, words_of, covers, sheet_fits, insert, ranges_of, total_of, joined_byte, packed}
+use Rattle.sheets.specs.Sheets.{write_as, no_write, row_of, words_of, byte_by, covers, sheet_fits, insert, ranges_of, total_of, joined_byte, packed}
 use Rattle.sheets.specs.Sheets.{placed, in_front}
 use Rattle.sheets.specs.Stretches.{Owned, Lies, PacksAs}
-use Rattle.sheets.specs.OneTrip.{Ascends, in_ranges}
-use Rattle.sheets.specs.RangeLaws.{Ends, total_most}
-use Rattle.sheets.specs.SheetLaws.{top, sheet_fits_lem, sound_at, owned_covered, owner_covers, ranges_covered, ranges_end, ranged}
-use Rattle.sheets.specs.TripLaws.{packed_length, words_length}
+use Rattle.sheets.specs.OneTrip.{Ascends, is_covered}
+use Rattle.sheets.specs.RangeLaws.{never, Ends, total_most}
+use Rattle.sheets.specs.SheetLaws.{top, sheet_fits_lem, sound, Last, owned_none, owned_last, ranges_covered, ranges_end, ranged}
+use Rattle.sheets.specs.TripLaws.{packed_length}
 use Rattle.sheets.proofs.Clipped.{clipped, clipped_ascends, clipped_ends, clipped_few, clipped_total, clipped_none, clipped_all}
 use Rattle.sheets.proofs.Clipped.{swept_past, swept_over, total_more, packed_more, Below, below_more, below_last}
 use Rattle.sheets.proofs.Clipped.{insert_behind, insert_onto, row_behind, row_anew}
 use Rattle.sheets.specs.declared.sheet.SheetWrite.{SheetWrite}
 use Rattle.sheets.specs.declared.joining.Stretch.{Stretch}
 use Rattle.sheets.specs.declared.joining.Size.{Size}
+
+-- the write that an owner is
+abbrev the_write : Option SheetWrite → SheetWrite
+the_write (Some w) = w
+the_write None = no_write
+
+the_last : {u w : SheetWrite} → Some w ≡ Some u → w ≡ u
+the_last e = ap (λ (o : Option SheetWrite). the_write o) e
+
+pub some_owner : (o : Option SheetWrite) → true ≡ is_some o → (w : SheetWrite) × (o ≡ Some w)
+some_owner (Some w) e = (w, refl)
+some_owner None e = never (sym e)
+
+pub no_owner : (o : Option SheetWrite) → false ≡ is_some o → o ≡ None
+no_owner (Some w) e = never e
+no_owner None e = refl
 
 -- the ranges before `at`
 abbrev pub So_far : List SheetWrite → ℕ → List Range
@@ -56,19 +74,19 @@ module _ (n : ℕ) (ws : List SheetWrite) (fit : sheet_fits n ws ≡ true) where
   so_far_most at = omega (arith, total_most (So_far ws at) 0 at (clipped_ascends (ranges_of ws) 0 at asc) (clipped_ends (ranges_of ws) at))
 
   module _ (at : ℕ) (s : Stretch) (o : Owned ws at s) where
-    covered : (k : ℕ) → at ≤ k → k < s.end → in_ranges (ranges_of ws) k ≡ ltb s.owner (length ws)
-    covered k a l = ranges_covered n ws fit k ∙ owned_covered ws k s.owner (o.owned k a l)
-
     -- a stretch that nobody covers
-    pub past : length ws ≤ s.owner → So_far ws s.end ≡ So_far ws at
+    pub past : s.owner ≡ None → So_far ws s.end ≡ So_far ws at
     past h =
         swept_past (ranges_of ws) asc at s.end o.ahead
-        (λ k a l. covered k a l ∙ le-ltb s.owner (length ws) h)
+        (λ k a l. ranges_covered n ws fit k ∙ owned_none ws k (o.owned k a l ∙ h))
 
     -- and one that a write does
-    module _ (h : s.owner < length ws) where
+    module _ (w : SheetWrite) (h : s.owner ≡ Some w) where
+      owned : (k : ℕ) → at ≤ k → k < s.end → (is_covered ws k ≡ true) × Last ws (Some w) k
+      owned k a l = owned_last ws k w (o.owned k a l ∙ h)
+
       pub over : So_far ws s.end ≡ insert at s.end (So_far ws at)
-      over = swept_over (ranges_of ws) asc at s.end o.ahead (λ k a l. covered k a l ∙ lt-ltb s.owner (length ws) h)
+      over = swept_over (ranges_of ws) asc at s.end o.ahead (λ k a l. ranges_covered n ws fit k ∙ (owned k a l).0)
 
       pub over_total : total_of (So_far ws s.end) ≡ total_of (So_far ws at) + (s.end - at)
       over_total =
@@ -82,16 +100,14 @@ module _ (n : ℕ) (ws : List SheetWrite) (fit : sheet_fits n ws ≡ true) where
       pub over_most : (total : ℕ) → total ≡ total_of (So_far ws at) → total + (s.end - at) ≤ top
       over_most total e = omega (arith, e, over_total, so_far_most s.end, o.most)
 
-      abbrev w : SheetWrite
-      w = get_or ws s.owner no_write
-
       in_it : (k : ℕ) → at ≤ k → k < s.end → covers w k ≡ true
-      in_it k a l = owner_covers ws k s.owner (o.owned k a l) h
+      in_it k a l = let p = (owned k a l).1 in rw (the_last p.is) p.its
 
       pub lies : Lies w at s.end n
       lies =
           let a = in_it at (omega arith) o.ahead in
           let b = in_it (s.end - 1) (omega (arith, o.ahead)) (omega (arith, o.ahead)) in
+          let f = (owned at (omega arith) o.ahead).1 in
           let end = w.offset.0 + w.length in
           let to = ltb-true (s.end - 1) end (and_right (leb w.offset.0 (s.end - 1)) (ltb (s.end - 1) end) b) in
           record {
@@ -99,7 +115,7 @@ module _ (n : ℕ) (ws : List SheetWrite) (fit : sheet_fits n ws ≡ true) where
             ahead = o.ahead;
             to = omega (arith, to, o.ahead);
             most = o.most;
-            inside = (sound_at n ws s.owner (sheet_fits_lem n ws fit).all h).inside;
+            inside = (sound n w (rw (the_last f.is) (f.fit n (sheet_fits_lem n ws fit).all))).inside;
           }
 
       -- its bytes
@@ -123,8 +139,7 @@ module _ (n : ℕ) (ws : List SheetWrite) (fit : sheet_fits n ws ≡ true) where
             go i l =
                 let z : w.start + (at + i - w.offset.0) ≡ w.start + (at - w.offset.0) + i = omega (arith, lies.from) in
                 window_at (joined_byte memory ws) at (s.end - at) i l
-                ∙ ap (λ (j : ℕ). get_or memory ((get_or ws j no_write).start + (at + i - (get_or ws j no_write).offset.0)) 0)
-                (o.owned (at + i) (omega arith) (omega (arith, l)))
+                ∙ ap (λ (j : Option SheetWrite). byte_by memory j (at + i)) (o.owned (at + i) (omega arith) (omega (arith, l)) ∙ h)
                 ∙ ap (λ (j : ℕ). get_or memory j 0) z
                 ∙ sym
                 (get_or-take (s.end - at) (drop (w.start + (at - w.offset.0)) memory) i 0 l
@@ -164,12 +179,12 @@ pub record Taken (ws : List SheetWrite) (count first place at end : ℕ) : Type 
   pub put_there : (w₀ w : List ℕ) → w ≡ in_front (words_of (placed 0 (So_far ws at))) w₀
       → putRow 3 (count - 1) w (row_of (write_as first place (end - first))) ≡ in_front (words_of (placed 0 (So_far ws end))) w₀
 
-module _ (n : ℕ) (ws : List SheetWrite) (fit : sheet_fits n ws ≡ true) (at : ℕ) (s : Stretch) (o : Owned ws at s) (h : s.owner < length ws) where
+module _ (n : ℕ) (ws : List SheetWrite) (fit : sheet_fits n ws ≡ true) (at : ℕ) (s : Stretch) (o : Owned ws at s) (u : SheetWrite) (h : s.owner ≡ Some u) where
   abbrev End : ℕ
   End = s.end
 
   its : So_far ws End ≡ insert at End (So_far ws at)
-  its = over n ws fit at s o h
+  its = over n ws fit at s o u h
 
   up : Ascends 0 (So_far ws at)
   up = clipped_ascends (ranges_of ws) 0 at (ranged n ws fit).ascending
@@ -210,13 +225,22 @@ module _ (n : ℕ) (ws : List SheetWrite) (fit : sheet_fits n ws ≡ true) (at :
       i = its ∙ ap (insert at End) r ∙ insert_onto at End o.ahead first l qs 0 (rw r at up) b
 
   -- its row is one of 64
-  pub row_there : {count first place : ℕ} → Taken ws count first place at End → (0 < count) × ((count - 1) * 3 + 3 ≤ 192)
+  pub row_there : {count first place : ℕ} → Taken ws count first place at End → (0 < count) × (count ≤ 64)
   row_there {count} {first} t =
       let k : length (So_far ws End) ≡ length t.qs + 1 = ap length t.is ∙ length-append t.qs (range_of first End ∷ []) in
       let f = clipped_few (ranges_of ws) End in
       let g = (ranged n ws fit).few in
       let m = (sheet_fits_lem n ws fit).few in
       (omega (arith, t.row), omega (arith, t.row, k, f, g, m))
+
+-- where the last range starts, and its bytes, while it may go on
+abbrev pub first_of : Option SheetWrite → ℕ
+first_of (Some w) = w.offset.0
+first_of None = 0
+
+abbrev pub place_of : Option SheetWrite → ℕ
+place_of (Some w) = w.start
+place_of None = 0
 
 -- ---- packing
 
@@ -229,7 +253,6 @@ size_is a b p q = λ i. size_as (p i) (q i)
 pub record Packing (ws : List SheetWrite) (memory out₀ w₀ : List ℕ) (count filled first place at : ℕ) (goes : Bool) (out w : List ℕ) : Type 0 where
   pub fit : sheet_fits (length memory) ws ≡ true
   pub room : total_of (ranges_of ws) ≤ length out₀
-  pub wide : length w₀ ≡ 192
   pub most : at ≤ top
   pub full : filled ≡ total_of (So_far ws at)
   pub bytes : out ≡ in_front (packed (joined_byte memory ws) (So_far ws at)) out₀
@@ -237,14 +260,13 @@ pub record Packing (ws : List SheetWrite) (memory out₀ w₀ : List ℕ) (count
   pub edge : Edge (So_far ws at) count first place at goes
 
 pub packing_none : (ws : List SheetWrite) (memory out₀ w₀ : List ℕ) → sheet_fits (length memory) ws ≡ true
-    → total_of (ranges_of ws) ≤ length out₀ → length w₀ ≡ 192 → Packing ws memory out₀ w₀ 0 0 0 0 0 false out₀ w₀
+    → total_of (ranges_of ws) ≤ length out₀ → Packing ws memory out₀ w₀ 0 0 0 0 0 false out₀ w₀
 unfolding packed put words_of placed
-packing_none ws memory out₀ w₀ f r w =
+packing_none ws memory out₀ w₀ f r =
     let z = none_yet (length memory) ws f in
     record {
       fit = f;
       room = r;
-      wide = w;
       most = omega arith;
       full = none_total (length memory) ws f;
       bytes = rw z;
@@ -265,14 +287,6 @@ module _ {ws : List SheetWrite} {memory out₀ w₀ : List ℕ} {count filled fi
       rw p.bytes
       (length_put out₀ 0 (packed v (So_far ws at)) (omega (arith, full_bytes, p.full, clipped_total (ranges_of ws) at, p.room)))
 
-  pub rows_long : length w ≡ 192
-  rows_long =
-      let n = words_length (So_far ws at) 0 in
-      let f = clipped_few (ranges_of ws) at in
-      let g = (ranged (length memory) ws p.fit).few in
-      let m = (sheet_fits_lem (length memory) ws p.fit).few in
-      rw p.rows (length_put w₀ 0 (words_of (placed 0 (So_far ws at))) (omega (arith, n, f, g, m, p.wide)) ∙ p.wide)
-
   pub count_most : count ≤ 64
   count_most =
       let f = clipped_few (ranges_of ws) at in
@@ -280,13 +294,12 @@ module _ {ws : List SheetWrite} {memory out₀ w₀ : List ℕ} {count filled fi
       omega (arith, counted p.edge, f, g, (sheet_fits_lem (length memory) ws p.fit).few)
 
   module _ (s : Stretch) (o : Owned ws at s) where
-    pub packing_past : length ws ≤ s.owner → Packing ws memory out₀ w₀ count filled first place s.end false out w
+    pub packing_past : {f l : ℕ} → s.owner ≡ None → Packing ws memory out₀ w₀ count filled f l s.end false out w
     packing_past h =
         let z = past (length memory) ws p.fit at s o h in
         record {
           fit = p.fit;
           room = p.room;
-          wide = p.wide;
           most = o.most;
           full = p.full ∙ ap total_of (sym z);
           bytes = p.bytes ∙ ap (λ (rs : List Range). in_front (packed v rs) out₀) (sym z);
@@ -294,57 +307,53 @@ module _ {ws : List SheetWrite} {memory out₀ w₀ : List ℕ} {count filled fi
           edge = rw z (shut (low s.end o.ahead p.edge) (counted p.edge));
         }
 
-    module _ (h : s.owner < length ws) where
+    module _ (g : SheetWrite) (h : s.owner ≡ Some g) where
       -- the output has room for the stretch
       pub its_room : filled + (s.end - at) ≤ length out
       its_room =
-          let t = total_over (length memory) ws p.fit at s o h filled p.full in
+          let t = total_over (length memory) ws p.fit at s o g h filled p.full in
           omega (arith, t, clipped_total (ranges_of ws) s.end, p.room, out_long)
 
       pub its_most : filled + (s.end - at) ≤ top
-      its_most = over_most (length memory) ws p.fit at s o h filled p.full
+      its_most = over_most (length memory) ws p.fit at s o g h filled p.full
 
       -- its write lies in the data
-      pub its_lies : (g : SheetWrite) → g ≡ get_or ws s.owner no_write → Lies g at s.end (length memory)
-      its_lies g e = rw e (lies (length memory) ws p.fit at s o h)
+      pub its_lies : Lies g at s.end (length memory)
+      its_lies = lies (length memory) ws p.fit at s o g h
 
       -- it starts a range, or goes on with the last one
       pub packing_new : {c f l : ℕ} → goes ≡ false → c ≡ count + 1 → f ≡ at → l ≡ filled → Taken ws c f l at s.end
-      packing_new g i j k = rw (i, j, k) (taken_new (length memory) ws p.fit at s o h count filled first place (rw g at p.edge) p.full)
+      packing_new e i j k = rw (i, j, k) (taken_new (length memory) ws p.fit at s o g h count filled first place (rw e at p.edge) p.full)
 
       pub packing_on : {c f l : ℕ} → goes ≡ true → c ≡ count → f ≡ first → l ≡ place → Taken ws c f l at s.end
-      packing_on g i j k = rw (i, j, k) (taken_on (length memory) ws p.fit at s o h count first place (rw g at p.edge))
+      packing_on e i j k = rw (i, j, k) (taken_on (length memory) ws p.fit at s o g h count first place (rw e at p.edge))
 
       module _ {c f l : ℕ} (t : Taken ws c f l at s.end) where
-        pub its_row : (0 < c) × ((c - 1) * 3 + 3 ≤ length w)
-        its_row = let r = row_there (length memory) ws p.fit at s o h t in (r.0, omega (arith, r.1, rows_long))
+        pub its_row : c - 1 < 64
+        its_row = let r = row_there (length memory) ws p.fit at s o g h t in omega (arith, r.0, r.1)
 
-        module _ (g : SheetWrite) (e : g ≡ get_or ws s.owner no_write) where
-          abbrev Its_bytes : SheetWrite → List ℕ
-          Its_bytes g = take (s.end - at) (drop (g.start + (at - g.offset.0)) memory)
+        abbrev Its_bytes : List ℕ
+        Its_bytes = take (s.end - at) (drop (g.start + (at - g.offset.0)) memory)
 
-          pub packing_over : (out· w· : List ℕ) → out· ≡ put out filled (Its_bytes g) → w· ≡ putRow 3 (c - 1) w (row_of (write_as f l (s.end - f)))
-              → Packing ws memory out₀ w₀ c (filled + (s.end - at)) f l s.end true out· w·
-          packing_over out· w· x y =
-              let its = Its_bytes (get_or ws s.owner no_write) in
-              let z : 0 + length (packed v (So_far ws at)) ≡ filled = omega (arith, full_bytes) in
-              let b : put (put out₀ 0 (packed v (So_far ws at))) filled its ≡ put out₀ 0 (packed v (So_far ws at) ++ its) =
-              rw z at (put_behind out₀ 0 (packed v (So_far ws at)) its (omega arith)) in
-              record {
-                fit = p.fit;
-                room = p.room;
-                wide = p.wide;
-                most = o.most;
-                full = total_over (length memory) ws p.fit at s o h filled p.full;
-                bytes =
-                    x
-                    ∙ ap (λ (g : SheetWrite). put out filled (Its_bytes g)) e
-                    ∙ ap (λ (bs : List ℕ). put bs filled its) p.bytes
-                    ∙ b
-                    ∙ ap (λ (bs : List ℕ). put out₀ 0 bs) (sym (over_bytes (length memory) ws p.fit at s o h memory refl));
-                rows = y ∙ t.put_there w₀ w p.rows;
-                edge = onto t.qs t.is t.before t.ahead t.at_place t.row;
-              }
+        pub packing_over : (out· w· : List ℕ) → out· ≡ put out filled Its_bytes → w· ≡ putRow 3 (c - 1) w (row_of (write_as f l (s.end - f)))
+            → Packing ws memory out₀ w₀ c (filled + (s.end - at)) f l s.end true out· w·
+        packing_over out· w· x y =
+            let z : 0 + length (packed v (So_far ws at)) ≡ filled = omega (arith, full_bytes) in
+            let b : put (put out₀ 0 (packed v (So_far ws at))) filled Its_bytes ≡ put out₀ 0 (packed v (So_far ws at) ++ Its_bytes) =
+            rw z at (put_behind out₀ 0 (packed v (So_far ws at)) Its_bytes (omega arith)) in
+            record {
+              fit = p.fit;
+              room = p.room;
+              most = o.most;
+              full = total_over (length memory) ws p.fit at s o g h filled p.full;
+              bytes =
+                  x
+                  ∙ ap (λ (bs : List ℕ). put bs filled Its_bytes) p.bytes
+                  ∙ b
+                  ∙ ap (λ (bs : List ℕ). put out₀ 0 bs) (sym (over_bytes (length memory) ws p.fit at s o g h memory refl));
+              rows = y ∙ t.put_there w₀ w p.rows;
+              edge = onto t.qs t.is t.before t.ahead t.at_place t.row;
+            }
 
   pub packing_all : top ≤ at → PacksAs ws memory (size_as count filled) out₀ w₀ out w
   packing_all h =

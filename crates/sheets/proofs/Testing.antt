@@ -1,17 +1,16 @@
 -- A write is tested clause by clause, and a sheet write by write. Assumes nothing.
-use mathlib.Core.Path.{◌≡◌, refl, sym, ◌∙◌}
+use mathlib.Core.Path.{◌≡◌, refl, sym, ap}
 use mathlib.Core.Bool.{Bool, true, false, ◌&&◌, and-false}
-use mathlib.Core.List.{List}
+use mathlib.Core.List.{List, [], ◌∷◌}
+use Rattle.std.specs.List.{list_all}
 use Prim.Native.Nat.{ℕ, ◌+◌, ◌-◌, ◌^◌, ◌<◌, ◌≤◌}
-use native.Mathlib.Numerals.{add-one}
 use native.Mathlib.Omega.{arith}
 use lib.Dec.{ltb, leb}
-use lib.ListN.{length, drop, get_or, drop_of_length-le}
-use lib.Seq.{drop-cons}
+use lib.ListN.{length, get_or}
 use borrow.Author.Tests.{lt-ltb, le-leb, lt-leb, leb-true, leb-false}
 use Rattle.arithmetic.specs.Rounding.{fits}
 use Rattle.arithmetic.specs.RoundingLaws.{fits_true, fits_false}
-use Rattle.sheets.specs.Sheets.{no_write, is_sound, all_sound, sheet_fits}
+use Rattle.sheets.specs.Sheets.{no_write, write_from, writes_of, is_sound, all_sound, sheet_fits}
 use Rattle.sheets.specs.declared.sheet.SheetWrite.{SheetWrite}
 use Rattle.sheets.specs.SheetLaws.{Sound, sound_at, sheet_fits_lem}
 
@@ -48,33 +47,17 @@ pub sound_of : (n : ℕ) (ws : List SheetWrite) (i : ℕ) (w : SheetWrite) → w
     → Sound n w
 sound_of n ws i w e f h = rw e (sound_at n ws i (sheet_fits_lem n ws f).all h)
 
--- ---- testing a sheet: the first i writes are sound
+-- ---- a sheet
 
 pub sheet_long : (n : ℕ) (ws : List SheetWrite) → 64 < length ws → sheet_fits n ws ≡ false
 unfolding sheet_fits
 sheet_long n ws h = rw (lt-leb (length ws) 64 h)
 
-pub record Tested (n : ℕ) (ws : List SheetWrite) (i : ℕ) : Type 0 where
-  pub few : length ws ≤ 64
-  pub most : i ≤ length ws
-  pub rest : all_sound n ws ≡ all_sound n (drop i ws)
+pub sheet_short : (n : ℕ) (ws : List SheetWrite) → length ws ≤ 64 → all_sound n ws ≡ sheet_fits n ws
+unfolding sheet_fits
+sheet_short n ws h = rw (le-leb (length ws) 64 h)
 
-pub tested_none : (n : ℕ) (ws : List SheetWrite) → length ws ≤ 64 → Tested n ws 0
-tested_none n ws h = record { few = h; most = omega arith; rest = refl }
-
-module _ {n : ℕ} {ws : List SheetWrite} {i : ℕ} (t : Tested n ws i) where
-  pub tested_all : length ws ≤ i → sheet_fits n ws ≡ true
-  unfolding sheet_fits all_sound
-  tested_all h = rw (le-leb (length ws) 64 t.few, t.rest, drop_of_length-le ws {i = i} h)
-
-  module _ (h : i < length ws) (w : SheetWrite) (g : w ≡ get_or ws i no_write) (b : Bool) (e : b ≡ is_sound n w) where
-    rest_next : all_sound n ws ≡ (b && all_sound n (drop (i + 1) ws))
-    unfolding all_sound
-    rest_next = t.rest ∙ rw (drop-cons ws i no_write h, add-one, e, g)
-
-    pub tested_not : b ≡ false → sheet_fits n ws ≡ false
-    unfolding sheet_fits
-    tested_not q = rw (le-leb (length ws) 64 t.few) (rest_next ∙ rw q)
-
-    pub tested_more : b ≡ true → Tested n ws (i + 1)
-    tested_more q = record { few = t.few; most = omega (arith, h); rest = rest_next ∙ rw q }
+pub rows_sound : (n : ℕ) (lines : List (List ℕ)) → list_all (λ row. is_sound n (write_from row)) lines ≡ all_sound n (writes_of lines)
+unfolding all_sound
+rows_sound n [] = refl
+rows_sound n (row ∷ lines) = ap (λ (b : Bool). is_sound n (write_from row) && b) (rows_sound n lines)

@@ -1,45 +1,28 @@
--- Laws of sheets in words: what stands in a row, and what a row that is written leaves. Assumes nothing.
-use mathlib.Core.Path.{◌≡◌, refl, ap}
+-- Laws of sheets in words: rows of three words are the writes of the sheet. Assumes nothing.
+use mathlib.Core.Path.{◌≡◌, refl, sym, ap, ◌∙◌}
 use mathlib.Core.List.{List, [], ◌∷◌}
-use Prim.Native.Nat.{ℕ, zero, suc, ◌+◌, ◌*◌, ◌/◌, ◌<◌, ◌≤◌}
-use native.Mathlib.Nat.{div-add-mod'}
-use native.Mathlib.Omega.{arith}
-use lib.ListN.{length, get_or, set}
-use Rattle.arithmetic.specs.Rows.{put, rows_length, rows_get, row_word}
-use Rattle.sheets.specs.Sheets.{write_as, no_write, write_from, writes_in}
+use Prim.Native.Nat.{ℕ, zero, suc, ◌/◌}
+use lib.ListN.{length, take, drop, get_or}
+use Rattle.std.specs.Simd.{first_chunks}
+use Rattle.std.proofs.Math.ListN.{get_or-map}
+use Rattle.std.proofs.lemmas.List.{length-map}
+use Rattle.arithmetic.specs.Rows.{rows}
+use Rattle.sheets.specs.Sheets.{no_write, write_from, writes_of, writes_in}
+use Rattle.sheets.specs.declared.sheet.SheetWrite.{SheetWrite}
 
-pub writes_length : (words : List ℕ) → length (writes_in words) ≡ length words / 3
+chunk_rows : (n : ℕ) (words : List ℕ) → writes_of (first_chunks 3 n words) ≡ rows write_from 3 n words
+unfolding rows
+chunk_rows zero words = refl
+chunk_rows (suc n) words = ap (λ (ws : List SheetWrite). write_from (take 3 words) ∷ ws) (chunk_rows n (drop 3 words))
+
+pub writes_read : (words : List ℕ) (lines : List (List ℕ)) → lines ≡ first_chunks 3 (length words / 3) words
+    → writes_of lines ≡ writes_in words
 unfolding writes_in
-writes_length words = rows_length write_from 3 (length words / 3) words
+writes_read words lines e = ap writes_of e ∙ chunk_rows (length words / 3) words
 
-module _ (words : List ℕ) (i : ℕ) (h : i < length (writes_in words)) where
-  -- the words of row i are there
-  pub row_room : i * 3 + 3 ≤ length words
-  row_room = omega (arith, h, writes_length words, div-add-mod' (length words) 3)
+pub writes_long : (lines : List (List ℕ)) → length (writes_of lines) ≡ length lines
+writes_long lines = length-map lines write_from
 
-  -- and are its write
-  pub row_write : write_as (get_or words (i * 3) 0) (get_or words (i * 3 + 1) 0) (get_or words (i * 3 + 2) 0) ≡ get_or (writes_in words) i no_write
-  unfolding writes_in
-  row_write =
-      let n : i < length words / 3 = omega (arith, h, writes_length words) in
-      let z : i * 3 + 0 ≡ i * 3 = omega arith in
-      rw (
-        rows_get write_from 3 (length words / 3) i words no_write n,
-        row_word 3 i words 0 (omega arith),
-        row_word 3 i words 1 (omega arith),
-        row_word 3 i words 2 (omega arith),
-        z,
-      )
-
--- three words written in row i are that row
-pub row_written : (i : ℕ) (w : List ℕ) (a b c : ℕ) → i * 3 + 3 ≤ length w
-    → set (set (set w (i * 3) a) (i * 3 + 1) b) (i * 3 + 2) c ≡ put 3 i w (a ∷ b ∷ c ∷ [])
-row_written i [] a b c h = absurd (omega (arith, h))
-row_written i (x ∷ []) a b c h = absurd (omega (arith, h))
-row_written i (x ∷ y ∷ []) a b c h = absurd (omega (arith, h))
-row_written zero (x ∷ y ∷ z ∷ w) a b c h = refl
-row_written (suc i) (x ∷ y ∷ z ∷ w) a b c h =
-    let n : suc i * 3 ≡ suc (suc (suc (i * 3))) = omega arith in
-    let m : suc (suc (suc (i * 3))) + 1 ≡ suc (suc (suc (i * 3 + 1))) = omega arith in
-    let l : suc (suc (suc (i * 3))) + 2 ≡ suc (suc (suc (i * 3 + 2))) = omega arith in
-    rw (n, m, l) (ap (λ (t : List ℕ). x ∷ y ∷ z ∷ t) (row_written i w a b c (omega (arith, h))))
+-- the write in row i
+pub write_at : (lines : List (List ℕ)) (i : ℕ) → write_from (get_or lines i []) ≡ get_or (writes_of lines) i no_write
+write_at lines i = sym (get_or-map write_from lines i [])

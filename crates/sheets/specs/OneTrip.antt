@@ -1,12 +1,12 @@
 -- Document 02, N14, on the plain byte store: "Writing these in any order gives the content that the originals give in their order." The
 -- statements; proofs/Theorem.antt proves them for every sheet that is not refused.
 use Rattle.std.specs.Prelude.{◌≡◌, Bool, true, false, ◌||◌, List, [], ◌∷◌, ◌++◌, ℕ, suc, ◌*◌, ◌^◌, ◌<◌, ◌≤◌, length, take, drop, get_or}
+use Rattle.std.specs.Prelude.{Ok, Err}
 use Rattle.arithmetic.specs.Content.{Bytes, in_range, changed, laid_at}
 use Rattle.arithmetic.specs.declared.offsets.Range.{Range}
 use Rattle.arithmetic.specs.declared.refusals.Refusal.{Refusal}
 use Rattle.sheets.specs.Sheets.{range_for, covers, sheet_fits, ranges_of, total_of, joined_of, join_of}
 use Rattle.sheets.specs.declared.sheet.SheetWrite.{SheetWrite}
-use Rattle.sheets.specs.declared.joining.Joined.TheVariants.{Into, Refused}
 use Rattle.sheets.specs.declared.joining.Size.{Size}
 
 -- ---- writes on the plain byte store
@@ -67,7 +67,7 @@ EverySheet = (n : ℕ) (ws : List SheetWrite) → sheet_fits n ws ≡ true → R
 -- of a call that is not refused: the joined writes take their bytes from the output as the call left it
 abbrev pub EveryTrip : Type 0
 EveryTrip =
-    (ws : List SheetWrite) (memory output words : List ℕ) (size : Size) → (join_of ws memory output words).answer ≡ Into size
+    (ws : List SheetWrite) (memory output words : List ℕ) (size : Size) → (join_of ws memory output words).answer ≡ Ok size
     → (s : Bytes) (js : List SheetWrite) → Reordered js (joined_of ws)
     → (k : ℕ) → in_order (join_of ws memory output words).output s js k ≡ in_order memory s ws k
 
@@ -84,5 +84,5 @@ pub record Fronts (ws : List SheetWrite) (memory output words : List ℕ) : Type
   pub output_rest : (i : ℕ) → total_of (ranges_of ws) ≤ i → get_or (join_of ws memory output words).output i 0 ≡ get_or output i 0
   pub words_rest : (i : ℕ) → 3 * length (ranges_of ws) ≤ i
       → get_or (join_of ws memory output words).joined i 0 ≡ get_or words i 0
-  pub all_left : (r : Refusal) → (join_of ws memory output words).answer ≡ Refused r
+  pub all_left : (r : Refusal) → (join_of ws memory output words).answer ≡ Err r
       → ((join_of ws memory output words).output ≡ output) × ((join_of ws memory output words).joined ≡ words)

@@ -1,7 +1,7 @@
 -- Laws of sheets: what a sound write is; the owner of a byte; the joined ranges, one write after the other. Assumes nothing.
 use Rattle.std.specs.Prelude.{◌≡◌, refl, Bool, true, false, ◌&&◌, ◌||◌, List, [], ◌∷◌, ℕ, zero, suc, ◌+◌, ◌^◌, ◌<◌, ◌≤◌, ltb, leb, length}
-use Rattle.std.specs.Prelude.{get_or}
-use Rattle.std.proofs.Common.{sym, ap, ◌∙◌, arith, lt-ltb, le-ltb, ltb-true, leb-true}
+use Rattle.std.specs.Prelude.{get_or, Option, Some, None}
+use Rattle.std.proofs.Common.{sym, ap, subst, ◌∙◌, arith, ltb-true, leb-true}
 use Rattle.arithmetic.specs.Loops.{or_first}
 use Rattle.arithmetic.specs.Rounding.{pick, fits}
 use Rattle.arithmetic.specs.RoundingLaws.{true_fits}
@@ -66,51 +66,57 @@ pub or_right_false : (a b : Bool) → (a || b) ≡ false → b ≡ false
 or_right_false true b e = never (sym e)
 or_right_false false b e = e
 
-pub owner_none : (ws : List SheetWrite) (i owner k : ℕ) → is_covered ws k ≡ false → owner_from i owner ws k ≡ owner
+pub owner_none : (ws : List SheetWrite) (owner : Option SheetWrite) (k : ℕ) → is_covered ws k ≡ false → owner_from owner ws k ≡ owner
 unfolding is_covered owner_from
-owner_none [] i owner k e = refl
-owner_none (w ∷ ws) i owner k e =
+owner_none [] owner k e = refl
+owner_none (w ∷ ws) owner k e =
     let a = or_left_false (covers w k) (is_covered ws k) e in
-    rw a (owner_none ws (suc i) owner k (or_right_false (covers w k) (is_covered ws k) e))
+    rw a (owner_none ws owner k (or_right_false (covers w k) (is_covered ws k) e))
 
--- the last of the writes that covers k: number m of those from i on, and none behind it does
-pub record Last (ws : List SheetWrite) (i j k : ℕ) : Type 0 where
-  pub m : ℕ
-  pub at : j ≡ i + m
-  pub there : m < length ws
-  pub its : covers (get_or ws m no_write) k ≡ true
+-- the last of the writes that covers k: it is sound where all are
+pub record Last (ws : List SheetWrite) (owner : Option SheetWrite) (k : ℕ) : Type 0 where
+  pub w : SheetWrite
+  pub is : owner ≡ Some w
+  pub its : covers w k ≡ true
+  pub fit : (n : ℕ) → all_sound n ws ≡ true → is_sound n w ≡ true
 
-pub owner_last : (ws : List SheetWrite) (i owner k : ℕ) → is_covered ws k ≡ true → Last ws i (owner_from i owner ws k) k
-unfolding is_covered owner_from
-owner_last [] i owner k e = never e
-owner_last (w ∷ ws) i owner k e = go (is_covered ws k) refl (owner_last ws (suc i) (pick (covers w k) i owner) k)
+pub owner_last : (ws : List SheetWrite) (owner : Option SheetWrite) (k : ℕ) → is_covered ws k ≡ true → Last ws (owner_from owner ws k) k
+unfolding is_covered owner_from all_sound
+owner_last [] owner k e = never e
+owner_last (w ∷ ws) owner k e = go (is_covered ws k) refl (owner_last ws (pick (covers w k) (Some w) owner) k)
   where
     go : (b : Bool) → is_covered ws k ≡ b
-        → (is_covered ws k ≡ true → Last ws (suc i) (owner_from (suc i) (pick (covers w k) i owner) ws k) k)
-        → Last (w ∷ ws) i (owner_from (suc i) (pick (covers w k) i owner) ws k) k
-    go true p f = let r = f p in record { m = suc r.m; at = omega (arith, r.at); there = omega (arith, r.there); its = r.its }
+        → (is_covered ws k ≡ true → Last ws (owner_from (pick (covers w k) (Some w) owner) ws k) k)
+        → Last (w ∷ ws) (owner_from (pick (covers w k) (Some w) owner) ws k) k
+    go true p f =
+        let r = f p in
+        record { w = r.w; is = r.is; its = r.its; fit = λ n s. r.fit n (and_right (is_sound n w) (all_sound n ws) s) }
     go false p f =
         let h = or_first (covers w k) (rw p at e) in
-        let o = owner_none ws (suc i) (pick (covers w k) i owner) k p in
-        record { m = 0; at = o ∙ rw h (omega arith); there = omega arith; its = h }
+        let o = owner_none ws (pick (covers w k) (Some w) owner) k p in
+        record { w = w; is = o ∙ rw h; its = h; fit = λ n s. and_left (is_sound n w) (all_sound n ws) s }
 
--- the byte is covered where its owner is one of the writes, and that one covers it
-pub owned_covered : (ws : List SheetWrite) (k j : ℕ) → owner_of ws k ≡ j → is_covered ws k ≡ ltb j (length ws)
-owned_covered ws k j e = go (is_covered ws k) refl
+-- a byte that has no owner is not covered
+pub owned_none : (ws : List SheetWrite) (k : ℕ) → owner_of ws k ≡ None → is_covered ws k ≡ false
+owned_none ws k e = go (is_covered ws k) refl
   where
-    go : (b : Bool) → is_covered ws k ≡ b → b ≡ ltb j (length ws)
-    go true p = let l = owner_last ws 0 (length ws) k p in sym (lt-ltb j (length ws) (omega (arith, l.at, l.there, e)))
-    go false p = let o = owner_none ws 0 (length ws) k p in sym (le-ltb j (length ws) (omega (arith, o, e)))
-
-pub owner_covers : (ws : List SheetWrite) (k j : ℕ) → owner_of ws k ≡ j → j < length ws → covers (get_or ws j no_write) k ≡ true
-owner_covers ws k j e h = go (is_covered ws k) refl
-  where
-    go : (b : Bool) → is_covered ws k ≡ b → covers (get_or ws j no_write) k ≡ true
+    go : (b : Bool) → is_covered ws k ≡ b → b ≡ false
     go true p =
-        let l = owner_last ws 0 (length ws) k p in
-        let m : j ≡ l.m = omega (arith, e, l.at) in
-        rw m l.its
-    go false p = absurd (omega (arith, owner_none ws 0 (length ws) k p, e))
+        let q = sym e ∙ (owner_last ws None k p).is in
+        let z : ◌≡◌ {A = ℕ} 0 1 = cc in
+        absurd (omega arith)
+    go false p = refl
+
+-- one that has an owner is covered by it, and the owner is one of the writes: sound where all are
+pub owned_last : (ws : List SheetWrite) (k : ℕ) (w : SheetWrite) → owner_of ws k ≡ Some w → (is_covered ws k ≡ true) × Last ws (Some w) k
+owned_last ws k w e = go (is_covered ws k) refl
+  where
+    go : (b : Bool) → is_covered ws k ≡ b → (b ≡ true) × Last ws (Some w) k
+    go true p = (refl, subst (λ (o : Option SheetWrite). Last ws o k) e (owner_last ws None k p))
+    go false p =
+        let q = sym (owner_none ws None k p) ∙ e in
+        let z : ◌≡◌ {A = ℕ} 0 1 = cc in
+        absurd (omega arith)
 
 -- ---- the ranges, one write after the other
 

@@ -1,5 +1,6 @@
 -- Document 02, N14, "One trip for many edits": a sheet of writes, what it is refused for, and what it is joined to.
-use Rattle.std.specs.Prelude.{◌≡◌, Bool, true, ◌&&◌, List, [], ◌∷◌, ◌++◌, ℕ, suc, ◌+◌, ◌-◌, ◌/◌, min, max, ltb, leb, length, get_or}
+use Rattle.std.specs.Prelude.{◌≡◌, Bool, true, ◌&&◌, List, [], ◌∷◌, ◌++◌, ℕ, ◌+◌, ◌-◌, ◌/◌, min, max, ltb, leb, length, get_or}
+use Rattle.std.specs.Prelude.{Option, Some, None, Result, Ok, Err, map}
 use Rattle.arithmetic.specs.Rounding.{pick, fits}
 use Rattle.arithmetic.specs.Offsets.{store_at, range_of}
 use Rattle.arithmetic.specs.Rows.{rows}
@@ -9,8 +10,7 @@ use Rattle.arithmetic.specs.declared.refusals.Refusal.{Refusal}
 use Rattle.arithmetic.specs.declared.refusals.Refusal.TheVariants.{Output as NoRoom, Sheet as BadSheet}
 use Rattle.vectors.specs.Vectors.{put}
 use Rattle.sheets.specs.declared.sheet.SheetWrite.{SheetWrite}
-use Rattle.sheets.specs.declared.joining.Joined.{Joined}
-use Rattle.sheets.specs.declared.joining.Joined.TheVariants.{Into, Refused}
+use Rattle.sheets.specs.declared.joining.Size.{Size}
 
 -- ---- writes, in rows of three words: offset on the store, start in the data, length
 
@@ -22,6 +22,9 @@ no_write = write_as 0 0 0
 
 abbrev pub write_from : List ℕ → SheetWrite
 write_from row = write_as (get_or row 0 0) (get_or row 1 0) (get_or row 2 0)
+
+abbrev pub writes_of : List (List ℕ) → List SheetWrite
+writes_of lines = map write_from lines
 
 -- words behind the last whole row say nothing
 unfoldable pub writes_in : List ℕ → List SheetWrite
@@ -81,20 +84,25 @@ total_of (r ∷ rs) = size_of r + total_of rs
 
 -- ---- their bytes
 
--- "where two cover a byte the later one wins": the place of the last write that covers k; their number where none does
-unfoldable pub owner_from : ℕ → ℕ → List SheetWrite → ℕ → ℕ
-owner_from i owner [] k = owner
-owner_from i owner (w ∷ ws) k = owner_from (suc i) (pick (covers w k) i owner) ws k
+-- "where two cover a byte the later one wins": the last write that covers k, where one does
+unfoldable pub owner_from : Option SheetWrite → List SheetWrite → ℕ → Option SheetWrite
+owner_from owner [] k = owner
+owner_from owner (w ∷ ws) k = owner_from (pick (covers w k) (Some w) owner) ws k
 
-abbrev pub owner_of : List SheetWrite → ℕ → ℕ
-owner_of ws k = owner_from 0 (length ws) ws k
+abbrev pub owner_of : List SheetWrite → ℕ → Option SheetWrite
+owner_of ws k = owner_from None ws k
 
 -- "with their bytes in lent data": the byte that a write puts at k
 abbrev pub byte_of : List ℕ → SheetWrite → ℕ → ℕ
 byte_of memory w k = get_or memory (w.start + (k - w.offset.0)) 0
 
+-- the byte that the owner of k puts there; no range has a k of which none is the owner
+abbrev pub byte_by : List ℕ → Option SheetWrite → ℕ → ℕ
+byte_by memory (Some w) k = byte_of memory w k
+byte_by memory None k = byte_of memory no_write k
+
 unfoldable pub joined_byte : List ℕ → List SheetWrite → Bytes
-joined_byte memory ws k = byte_of memory (get_or ws (owner_of ws k) no_write) k
+joined_byte memory ws k = byte_by memory (owner_of ws k) k
 
 -- "packed in that order"
 unfoldable pub packed : Bytes → List Range → List ℕ
@@ -116,16 +124,16 @@ in_front new old = put old 0 new
 -- ---- the call: its answer, and every byte of the output and word of the joined writes after it
 
 pub record Joins : Type 0 where
-  pub answer : Joined
+  pub answer : Result Size Refusal
   pub output : List ℕ
   pub joined : List ℕ
 
 abbrev pub refused_as : Refusal → List ℕ → List ℕ → Joins
-refused_as r output words = record { answer = Refused r; output = output; joined = words }
+refused_as r output words = record { answer = Err r; output = output; joined = words }
 
 abbrev pub joined_as : List SheetWrite → List ℕ → List ℕ → List ℕ → Joins
 joined_as ws memory output words = record {
-  answer = Into (record { ranges = length (ranges_of ws); bytes = total_of (ranges_of ws) });
+  answer = Ok (record { ranges = length (ranges_of ws); bytes = total_of (ranges_of ws) });
   output = in_front (packed (joined_byte memory ws) (ranges_of ws)) output;
   joined = in_front (words_of (joined_of ws)) words;
 }
@@ -137,5 +145,5 @@ join_of ws memory output words =
     (pick (leb (total_of (ranges_of ws)) (length output)) (joined_as ws memory output words) (refused_as NoRoom output words))
     (refused_as BadSheet output words)
 
-abbrev pub JoinsAs : Joins → Joined → List ℕ → List ℕ → Type 0
+abbrev pub JoinsAs : Joins → Result Size Refusal → List ℕ → List ℕ → Type 0
 JoinsAs j answer output words = (answer ≡ j.answer) × (output ≡ j.output) × (words ≡ j.joined)

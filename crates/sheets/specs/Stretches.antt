@@ -1,13 +1,9 @@
--- What the parts of the sweep promise each other. A stretch from `at` up to its end has one owner throughout.
-use Rattle.std.specs.Prelude.{◌≡◌, true, List, [], ◌∷◌, ℕ, ◌+◌, ◌<◌, ◌≤◌, length}
-use Rattle.sheets.specs.Sheets.{sheet_fits, owner_of, ranges_of, total_of, joined_of, joined_byte, packed, words_of, in_front}
+-- What the parts of the sweep promise each other. A stretch from `at` up to its end has one owner throughout, or none.
+use Rattle.std.specs.Prelude.{◌≡◌, List, [], ◌∷◌, ℕ, ◌+◌, ◌<◌, ◌≤◌, length}
+use Rattle.sheets.specs.Sheets.{owner_of, ranges_of, total_of, joined_of, joined_byte, packed, words_of, in_front}
 use Rattle.sheets.specs.declared.sheet.SheetWrite.{SheetWrite}
 use Rattle.sheets.specs.declared.joining.Stretch.{Stretch}
 use Rattle.sheets.specs.declared.joining.Size.{Size}
-
--- no refusal, over data of some length
-abbrev pub Fit : List SheetWrite → Type 0
-Fit ws = (n : ℕ) × (sheet_fits n ws ≡ true)
 
 pub record Owned (ws : List SheetWrite) (at : ℕ) (s : Stretch) : Type 0 where
   pub ahead : at < s.end
@@ -26,12 +22,6 @@ pub record Lies (w : SheetWrite) (at end n : ℕ) : Type 0 where
   pub to : end ≤ w.offset.0 + w.length
   pub most : end ≤ 18446744073709551615
   pub inside : w.start + w.length ≤ n
-
--- no refusal: the sheet fits n bytes of data, its ranges m bytes of output, its rows all words
-pub record Room (ws : List SheetWrite) (n m words : ℕ) : Type 0 where
-  pub fit : sheet_fits n ws ≡ true
-  pub room : total_of (ranges_of ws) ≤ m
-  pub wide : words ≡ 192
 
 -- the bytes and the rows of a sheet that fits are put in front of what was there, and the ranges are counted
 abbrev pub PacksAs : List SheetWrite → List ℕ → Size → List ℕ → List ℕ → List ℕ → List ℕ → Type 0

@@ -1,6 +1,7 @@
 -- The joined writes, made in any order, give the content that the originals give in their order; what the call leaves behind the front of
 -- its output and its words. Assumes nothing.
 use Rattle.std.specs.Prelude.{◌≡◌, refl, Bool, true, false, ◌||◌, List, [], ◌∷◌, ◌++◌, ℕ, suc, ◌+◌, ◌-◌, ◌*◌, ◌/◌, ◌<◌, ◌≤◌, ltb, leb, take}
+use Rattle.std.specs.Prelude.{Option, Some, None, Result, Ok, Err}
 use Rattle.std.proofs.Common.{sym, ◌∙◌, subst, append_assoc, mul-div_cancel, arith, take_at, drop_at, get_or-take, ltb-true, leb-true}
 use Rattle.std.proofs.Math.Path.{ap}
 use Rattle.std.proofs.Math.ListN.{length, drop, get_or, length-append, length-drop}
@@ -11,19 +12,18 @@ use Rattle.arithmetic.specs.Rows.{rows}
 use Rattle.arithmetic.specs.SettingsLaws.{and_left, and_right}
 use Rattle.arithmetic.specs.Content.{Bytes, changed, window, laid_at, changed_off, window_length, window_at}
 use Rattle.arithmetic.specs.declared.offsets.Range.{Range}
+use Rattle.arithmetic.specs.declared.refusals.Refusal.{Refusal}
 use Rattle.arithmetic.specs.declared.refusals.Refusal.TheVariants.{Output as NoRoom, Sheet as BadSheet}
 use Rattle.vectors.specs.Vectors.{put}
-use Rattle.sheets.specs.Sheets.{no_write, write_as, write_from, writes_in, range_for, covers, sheet_fits, ranges_of, size_of, total_of}
-use Rattle.sheets.specs.Sheets.{owner_from, owner_of, byte_of, joined_byte, packed, placed, words_of, in_front}
+use Rattle.sheets.specs.Sheets.{write_as, write_from, writes_in, range_for, covers, sheet_fits, ranges_of, size_of, total_of}
+use Rattle.sheets.specs.Sheets.{owner_from, byte_of, byte_by, joined_byte, packed, placed, words_of, in_front}
 use Rattle.sheets.specs.Sheets.{refused_as, joined_as, join_of}
 use Rattle.sheets.specs.OneTrip.{bytes_of, made, in_order, Ascends, in_ranges, is_covered, Reordered, as_is, keep, swap, both}
 use Rattle.sheets.specs.OneTrip.{EveryTrip, LaterWins, Fronts}
 use Rattle.sheets.specs.RangeLaws.{never, or_swap}
-use Rattle.sheets.specs.SheetLaws.{or_left_false, or_right_false, owner_none, owner_last}
+use Rattle.sheets.specs.SheetLaws.{or_left_false, or_right_false, owner_none}
 use Rattle.sheets.specs.SheetLaws.{ranges_covered, ranged}
 use Rattle.sheets.specs.declared.sheet.SheetWrite.{SheetWrite}
-use Rattle.sheets.specs.declared.joining.Joined.{Joined}
-use Rattle.sheets.specs.declared.joining.Joined.TheVariants.{Into, Refused}
 use Rattle.sheets.specs.declared.joining.Size.{Size}
 
 -- ---- one write
@@ -74,35 +74,29 @@ later_wins memory s [] w vs k p q = stays memory vs (made memory s w) k q ∙ ma
 later_wins memory s (u ∷ us) w vs k p q = later_wins memory (made memory s u) us w vs k p q
 
 -- what some cover is the byte of the last that does
-last_byte : (memory : List ℕ) (ws : List SheetWrite) (i owner : ℕ) (s : Bytes) (k : ℕ) → is_covered ws k ≡ true
-    → in_order memory s ws k ≡ byte_of memory (get_or ws (owner_from i owner ws k - i) no_write) k
+last_byte : (memory : List ℕ) (ws : List SheetWrite) (owner : Option SheetWrite) (s : Bytes) (k : ℕ) → is_covered ws k ≡ true
+    → in_order memory s ws k ≡ byte_by memory (owner_from owner ws k) k
 unfolding is_covered in_order owner_from
-last_byte memory [] i owner s k e = never e
-last_byte memory (w ∷ ws) i owner s k e =
-    go (is_covered ws k) refl (last_byte memory ws (suc i) (pick (covers w k) i owner) (made memory s w) k)
+last_byte memory [] owner s k e = never e
+last_byte memory (w ∷ ws) owner s k e =
+    go (is_covered ws k) refl (last_byte memory ws (pick (covers w k) (Some w) owner) (made memory s w) k)
   where
-    j : ℕ
-    j = owner_from (suc i) (pick (covers w k) i owner) ws k
+    last : Option SheetWrite
+    last = owner_from (pick (covers w k) (Some w) owner) ws k
 
     go : (b : Bool) → is_covered ws k ≡ b
-        → (is_covered ws k ≡ true → in_order memory (made memory s w) ws k ≡ byte_of memory (get_or ws (j - suc i) no_write) k)
-        → in_order memory (made memory s w) ws k ≡ byte_of memory (get_or (w ∷ ws) (j - i) no_write) k
-    go true p f =
-        let l = owner_last ws (suc i) (pick (covers w k) i owner) k p in
-        let m : j - i ≡ suc (j - suc i) = omega (arith, l.at) in
-        rw m (f p)
+        → (is_covered ws k ≡ true → in_order memory (made memory s w) ws k ≡ byte_by memory last k)
+        → in_order memory (made memory s w) ws k ≡ byte_by memory last k
+    go true p f = f p
     go false p f =
         let h = or_first (covers w k) (rw p at e) in
-        let o : j ≡ i = owner_none ws (suc i) (pick (covers w k) i owner) k p ∙ rw h in
-        let m : j - i ≡ 0 = omega (arith, o) in
-        rw m (stays memory ws (made memory s w) k p ∙ made_on memory s w k h ∙ laid_byte memory w k h)
+        let o : last ≡ Some w = owner_none ws (pick (covers w k) (Some w) owner) k p ∙ rw h in
+        rw o (stays memory ws (made memory s w) k p ∙ made_on memory s w k h ∙ laid_byte memory w k h)
 
 pub covered_byte : (memory : List ℕ) (ws : List SheetWrite) (s : Bytes) (k : ℕ) → is_covered ws k ≡ true
     → in_order memory s ws k ≡ joined_byte memory ws k
 unfolding joined_byte
-covered_byte memory ws s k e =
-    let m : owner_of ws k - 0 ≡ owner_of ws k = omega arith in
-    rw m at (last_byte memory ws 0 (length ws) s k e)
+covered_byte memory ws s k e = last_byte memory ws None s k e
 
 -- ---- writes that agree with a content, in any order
 
@@ -201,18 +195,18 @@ pub record Accepted (ws : List SheetWrite) (memory output words : List ℕ) : Ty
   pub room : total_of (ranges_of ws) ≤ length output
   pub is : join_of ws memory output words ≡ joined_as ws memory output words
 
-abbrev is_refused : Joined → Bool
-is_refused (Into s) = false
-is_refused (Refused r) = true
+abbrev is_refused : Result Size Refusal → Bool
+is_refused (Ok s) = false
+is_refused (Err r) = true
 
-pub accepted : (ws : List SheetWrite) (memory output words : List ℕ) (size : Size) → (join_of ws memory output words).answer ≡ Into size
+pub accepted : (ws : List SheetWrite) (memory output words : List ℕ) (size : Size) → (join_of ws memory output words).answer ≡ Ok size
     → Accepted ws memory output words
 unfolding join_of
 accepted ws memory output words size e = go (sheet_fits (length memory) ws) (leb (total_of (ranges_of ws)) (length output)) refl refl e
   where
     go : (a b : Bool) → sheet_fits (length memory) ws ≡ a → leb (total_of (ranges_of ws)) (length output) ≡ b
         → (pick a (pick b (joined_as ws memory output words) (refused_as NoRoom output words)) (refused_as BadSheet output words)).answer
-        ≡ Into size → Accepted ws memory output words
+        ≡ Ok size → Accepted ws memory output words
     go true true p q z = record { fit = p; room = leb-true (total_of (ranges_of ws)) (length output) q; is = rw (p, q) }
     go true false p q z = never (sym (ap is_refused z))
     go false b p q z = never (sym (ap is_refused z))

@@ -1,9 +1,10 @@
 // A sheet: writes whose bytes lie in lent data, each in a row of three words. Offset on the store, start in the data, length.
-ghost use Rattle.std.specs.Prelude.{◌≡◌, ◌+◌, ◌*◌, ◌<◌, ◌≤◌, length, get_or};
+ghost use Rattle.std.specs.Prelude.{◌≡◌, true, false, ◌<◌, length, MatchResult};
 ghost use Rattle.arithmetic.specs.Rows.{put};
-ghost use Rattle.sheets.specs.Sheets.{no_write, writes_in, row_of, is_sound, sheet_fits};
+ghost use Rattle.sheets.specs.Sheets.{write_from, writes_in, writes_of, row_of, is_sound, sheet_fits};
 
 use arithmetic::offsets::{LARGEST, StoreOffset};
+use arithmetic::refusals::Refusal;
 
 #[derive(Clone, Copy)]
 pub struct SheetWrite {
@@ -12,31 +13,25 @@ pub struct SheetWrite {
     pub length: u64,
 }
 
-// How many writes a sheet has at most.
-pub const MOST_WRITES: usize = 64;
+impl From<[u64; 3]> for SheetWrite {
+    ghost from_gives = { λ row w. w ≡ write_from row };
 
-// The write in row i.
-pub(crate) fn get_write(writes: &[u64], i: usize) -> SheetWrite
-    requires { i < length (writes_in writes.now) }
-    ensures { result ≡ get_or (writes_in writes.now) i no_write }
-{
-    let at = i * 3;
-    SheetWrite {
-        offset: StoreOffset(writes[at]),
-        start: writes[at + 1],
-        length: writes[at + 2],
+    fn from(row: [u64; 3]) -> SheetWrite {
+        let [offset, start, length] = row;
+        SheetWrite {
+            offset: StoreOffset(offset),
+            start,
+            length,
+        }
     }
 }
 
-// Write it into row i.
-pub(crate) fn put_write(writes: &mut [u64], i: usize, w: SheetWrite)
-    requires { i * 3 + 3 ≤ length writes.old }
-    ensures { writes.new ≡ put 3 i writes.old (row_of w) }
-{
-    let at = i * 3;
-    writes[at] = w.offset.0;
-    writes[at + 1] = w.start;
-    writes[at + 2] = w.length;
+impl From<SheetWrite> for [u64; 3] {
+    ghost from_gives = { λ w row. row ≡ row_of w };
+
+    fn from(w: SheetWrite) -> [u64; 3] {
+        [w.offset.0, w.start, w.length]
+    }
 }
 
 impl SheetWrite {
@@ -44,35 +39,55 @@ impl SheetWrite {
     fn is_sound(self, data_len: usize) -> bool
         ensures { result ≡ is_sound data_len self }
     {
-        if self.length == 0 {
-            return false;
-        }
-        if LARGEST - self.offset.0 < self.length {
-            return false;
-        }
         let room = data_len as u64;
-        if room < self.start {
-            return false;
-        }
-        self.length <= room - self.start
+        self.length > 0
+            && self.length <= LARGEST - self.offset.0
+            && self.start <= room
+            && self.length <= room - self.start
     }
 }
 
-// Whether a sheet has at most 64 writes, and all are sound.
-pub(crate) fn sheet_fits(writes: &[u64], data_len: usize) -> bool
-    ensures { result ≡ sheet_fits data_len (writes_in writes.now) }
+// How many writes a sheet has at most.
+pub const MOST_WRITES: usize = 64;
+
+// Write it into row i.
+pub(crate) fn put_write(rows: &mut [u64; 192], i: usize, w: SheetWrite)
+    requires { i < 64 }
+    ensures { rows.new ≡ put 3 i rows.old (row_of w) }
 {
-    let n = writes.len() / 3;
-    if MOST_WRITES < n {
-        return false;
-    }
-    let mut i: usize = 0;
-    while i < n {
-        let w = get_write(writes, i);
-        if !w.is_sound(data_len) {
-            return false;
+    let at = i * 3;
+    rows[at..at + 3].copy_from_slice(&<[u64; 3]>::from(w));
+}
+
+// A sheet that is not refused: its writes in their rows, and the data in which their bytes lie.
+#[derive(Clone, Copy)]
+pub(crate) struct Sheet<'a> {
+    pub(crate) writes: &'a [[u64; 3]],
+    pub(crate) data: &'a [u8],
+    pub(crate) ghost fits: { sheet_fits (length «data».now) (writes_of writes.now) ≡ true },
+}
+
+// Whether a sheet has at most 64 writes, and all are sound.
+fn sheet_fits(writes: &[[u64; 3]], data_len: usize) -> bool
+    ensures { result ≡ sheet_fits data_len (writes_of writes.now) }
+{
+    writes.len() <= MOST_WRITES
+        && writes
+            .iter()
+            .all(|row| SheetWrite::from(*row).is_sound(data_len))
+}
+
+impl<'a> Sheet<'a> {
+    // The sheet of the words, or 220. Words behind the last whole row say nothing.
+    pub(crate) fn new(words: &'a [u64], data: &'a [u8]) -> Result<Sheet<'a>, Refusal>
+        ensures { MatchResult result
+            (λ s. (writes_of s.writes.now ≡ writes_in words.now) × (s.«data».now ≡ «data».now))
+            (λ r. (r ≡ Refusal.Sheet) × (sheet_fits (length «data».now) (writes_in words.now) ≡ false)) }
+    {
+        let (writes, _) = words.as_chunks::<3>();
+        if !sheet_fits(writes, data.len()) {
+            return Err(Refusal::Sheet);
         }
-        i += 1;
+        Ok(Sheet { writes, data })
     }
-    true
 }

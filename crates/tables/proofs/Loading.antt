@@ -1,28 +1,26 @@
 -- Loading, record by record: what is read so far, and what each record that follows does to it. Assumes nothing.
 use mathlib.Core.Path.{◌≡◌, refl, sym, ap, ◌∙◌}
-use mathlib.Core.Bool.{Bool, true, false, ◌||◌}
+use Rattle.std.specs.Prelude.{Option, Some, None, Result, Ok, Err}
 use mathlib.Core.List.{List, [], ◌∷◌, ◌++◌, append_assoc, append-nil}
-use mathlib.Core.Logic.{◌⊎◌, inl, inr}
 use Prim.Native.Nat.{ℕ, zero, suc, ◌+◌, ◌-◌, ◌<◌, ◌≤◌}
 use native.Mathlib.Omega.{arith}
 use native.Mathlib.Numerals.{add-one}
 use lib.Dec.{eqb}
 use lib.ListN.{length, take, drop, set, replicate, length-drop, length-append}
-use lib.Seq.{take_all, drop-drop, drop-length}
+use lib.Seq.{take_all, drop-drop}
 use borrow.Author.Tests.{eq-eqb, ne_eqb}
 use Rattle.arithmetic.specs.Rounding.{pick}
 use Rattle.arithmetic.specs.declared.refusals.Refusal.{Refusal}
 use Rattle.arithmetic.specs.declared.refusals.Refusal.TheVariants.{Table as BadTable}
 use Rattle.arithmetic.specs.declared.settings.Alignments.{Alignments}
-use Rattle.records.specs.Records.{kind_field, body_length, is_cut, is_short, start_of, Form, broken, entry, form_in, form_of}
+use Rattle.records.specs.Records.{start_of, Form, end, broken, entry, form_of}
 use Rattle.records.specs.RecordsLaws.{form_next, Found, found}
 use Rattle.records.specs.declared.Header.{Header}
-use Rattle.records.specs.declared.Start.{Start}
-use Rattle.records.specs.declared.Start.TheVariants.{End, Broken, Record}
-use Rattle.tables.specs.Tables.{entry_of, Rows, these, refused, before, with_entry, rows_from, table_of, no_row, loaded_as}
-use Rattle.tables.specs.Tables.{load_of, finished}
+use Rattle.records.specs.declared.Broken.{Broken}
+use Rattle.tables.specs.Tables.{known_as, next_of, entry_of, Rows, these, refused, before, with_entry, rows_from, table_of, no_row, loaded_as}
+use Rattle.tables.specs.Tables.{load_of}
+use Rattle.tables.specs.declared.table.Table.{Table}
 use Rattle.tables.specs.TablesLaws.{entry_row}
-use Rattle.tables.specs.declared.table.Entry.TheVariants.{Passed, Row, Refused}
 
 -- rows that were read, before those that are read yet
 unfoldable pub carried : List Alignments → Rows → Rows
@@ -44,120 +42,116 @@ set_behind : (rs : List Alignments) (k : ℕ) (z a : Alignments) → set (rs ++ 
 set_behind [] k z a = refl
 set_behind (r ∷ rs) k z a = ap (λ (l : List Alignments). r ∷ l) (set_behind rs k z a)
 
--- `count` rows are read from the bytes before `at`: the table is these and those that the bytes from `at` on add
-pub record Reading (bytes : List ℕ) (rows : List Alignments) (count at : ℕ) : Type 0 where
+-- `count` rows are read, and `rest` is what is left of the bytes: the table is these and those that the rest adds
+pub record Reading (bytes : List ℕ) (rows : List Alignments) (count : ℕ) (rest : List ℕ) : Type 0 where
   pub read : List Alignments
   pub are : rows ≡ read ++ replicate (64 - count) no_row
   pub long : length read ≡ count
   pub most : count ≤ 64
-  pub within : at ≤ length bytes
-  pub rest : table_of bytes ≡ carried read (rows_from count (form_of (drop at bytes)))
+  pub left : table_of bytes ≡ carried read (rows_from count (form_of rest))
 
-pub reading_none : (bytes : List ℕ) → Reading bytes (replicate 64 no_row) 0 0
+pub reading_none : (bytes : List ℕ) → Reading bytes (replicate 64 no_row) 0 bytes
 unfolding table_of
 reading_none bytes = record {
   read = [];
   are = refl;
   long = refl;
   most = omega arith;
-  within = omega arith;
-  rest = carried_none (rows_from 0 (form_of bytes));
+  left = carried_none (rows_from 0 (form_of bytes));
 }
 
--- ---- what a record is
+-- the 64 rows of which `n` were read, at the end of the bytes
+abbrev pub finished : List Alignments → ℕ → Result Table Refusal
+finished rs n = pick (eqb n 0) (Err BadTable) (Ok (record { rows = rs; count = n }))
 
-not_end : (bs : List ℕ) → 0 < length bs → start_of bs ≡ End → ⊥
-unfolding start_of
-not_end bs h e = let n = ne_eqb (length bs) 0 (λ z. omega (arith, z)) in go (is_cut bs || is_short bs) (simp n at e)
-  where
-    go : (b : Bool) → pick b Broken (Record (record { kind = kind_field bs; body = body_length bs })) ≡ End → ⊥
-    go true q = let z : ◌≡◌ {A = ℕ} 0 1 = cc in absurd (omega arith)
-    go false q = let z : ◌≡◌ {A = ℕ} 0 1 = cc in absurd (omega arith)
+-- ---- what bytes start with, as code is told of it
 
--- the bytes from a place on, as code takes them
-pub starts : {s : Start} (bytes : List ℕ) (at : ℕ) → s ≡ start_of (take (length bytes - at) (drop at bytes)) → start_of (drop at bytes) ≡ s
-starts bytes at e = rw (take_all (length bytes - at) (drop at bytes) (rw length-drop (omega arith))) at (sym e)
+-- what was told of it
+abbrev unknown : Result (Option Header) Refusal → Result (Option Header) Broken
+unknown (Ok o) = Ok o
+unknown (Err r) = Err (record {})
+
+told_ok : (s : Result (Option Header) Broken) (o : Option Header) → known_as s ≡ Ok o → s ≡ Ok o
+told_ok (Ok p) o e = ap unknown e
+told_ok (Err b) o e = let z : ◌≡◌ {A = ℕ} 0 1 = cc in absurd (omega arith)
+
+told_broken : (s : Result (Option Header) Broken) (r : Refusal) → known_as s ≡ Err r → (s ≡ Err (record {})) × (r ≡ BadTable)
+told_broken (Ok o) r e = let z : ◌≡◌ {A = ℕ} 0 1 = cc in absurd (omega arith)
+told_broken (Err b) r e = (refl, cc)
 
 -- ---- a turn
 
-module _ {bytes : List ℕ} {rows : List Alignments} {count at : ℕ} (k : Reading bytes rows count at) where
+module _ {bytes : List ℕ} {rows : List Alignments} {count : ℕ} {rest : List ℕ} (k : Reading bytes rows count rest) where
   -- where the records from here on are refused, the bytes are
-  refused_here : (r : Refusal) → rows_from count (form_of (drop at bytes)) ≡ refused r → load_of bytes ≡ loaded_as (refused r)
+  refused_here : (r : Refusal) → rows_from count (form_of rest) ≡ refused r → load_of bytes ≡ Err r
   unfolding load_of carried
-  refused_here r e = ap loaded_as (k.rest ∙ ap (carried k.read) e)
+  refused_here r e = ap loaded_as (k.left ∙ ap (carried k.read) e)
 
   -- what starts here is no record
-  pub broken_here : at < length bytes → (start_of (drop at bytes) ≡ End) ⊎ (start_of (drop at bytes) ≡ Broken)
-      → load_of bytes ≡ loaded_as (refused BadTable)
+  pub broken_here : (r : Refusal) → next_of rest ≡ Err r → load_of bytes ≡ Err r
   unfolding rows_from
-  broken_here h (inl e) = absurd (not_end (drop at bytes) (rw length-drop (omega arith)) e)
-  broken_here h (inr e) =
-      let f : form_of (drop at bytes) ≡ broken = form_next (drop at bytes) ∙ rw e in
-      refused_here BadTable (ap (rows_from count) f)
+  broken_here r e =
+      let t = told_broken (start_of rest) r e in
+      let f : form_of rest ≡ broken = form_next rest ∙ rw t.0 in
+      rw t.1 (refused_here BadTable (ap (rows_from count) f))
 
   -- a record starts here
-  module _ (h : Header) (e : start_of (drop at bytes) ≡ Record h) where
-    it : Found (drop at bytes) h
-    it = found (drop at bytes) h e
+  module _ (h : Header) (e : next_of rest ≡ Ok (Some h)) where
+    it : Found rest h
+    it = found rest h (told_ok (start_of rest) (Some h) e)
 
-    pub room : at + 4 + h.body ≤ length bytes
-    room = let l = length-drop at bytes in omega (arith, it.room, l, k.within)
+    -- what is behind its length and kind, as code takes it
+    abbrev Bodies : List ℕ
+    Bodies = take (length rest - 4) (drop 4 rest)
 
-    -- its body, and what lies behind it, as code takes them
-    abbrev Body : List ℕ
-    Body = take (at + 4 + h.body - (at + 4)) (drop (at + 4) bytes)
+    bodies : Bodies ≡ drop 4 rest
+    bodies = take_all (length rest - 4) (drop 4 rest) (rw length-drop (omega arith))
 
-    abbrev More : Form
-    More = form_of (drop (at + 4 + h.body) bytes)
+    pub header_room : 4 ≤ length rest
+    header_room = omega (arith, it.room)
 
-    form_here : form_of (drop at bytes) ≡ entry h.kind Body More
-    form_here =
-        let n : at + 4 + h.body - (at + 4) ≡ h.body = omega arith in
-        let b : take h.body (drop 4 (drop at bytes)) ≡ Body = rw (n, drop-drop 4 at bytes) in
-        let s : at + (4 + h.body) ≡ at + 4 + h.body = omega arith in
-        let m : form_of (drop (4 + h.body) (drop at bytes)) ≡ More = rw (drop-drop (4 + h.body) at bytes, s) in
-        it.form ∙ rw (b, m)
+    pub body_room : h.body ≤ length Bodies
+    body_room = rw (bodies, length-drop) (omega (arith, it.room))
 
-    step : rows_from count (form_of (drop at bytes)) ≡ with_entry (entry_of count h.kind Body) (rows_from count More) (rows_from (suc count) More)
-    unfolding rows_from
-    step = ap (rows_from count) form_here
+    -- its body, and what lies behind it
+    module _ (body behind : List ℕ) (b : body ≡ take h.body Bodies) (m : behind ≡ drop h.body Bodies) where
+      pub fewer : length behind < length rest
+      fewer = rw (m, bodies, length-drop, length-drop) (omega (arith, it.room))
 
-    pub passed_on : entry_of count h.kind Body ≡ Passed → Reading bytes rows count (at + 4 + h.body)
-    passed_on p = record {
-      read = k.read;
-      are = k.are;
-      long = k.long;
-      most = k.most;
-      within = room;
-      rest = k.rest ∙ ap (carried k.read) (step ∙ rw p);
-    }
+      step : rows_from count (form_of rest)
+          ≡ with_entry (entry_of count h.kind body) (rows_from count (form_of behind)) (rows_from (suc count) (form_of behind))
+      unfolding rows_from
+      step =
+          let f : form_of rest ≡ entry h.kind body (form_of behind) = it.form ∙ rw (b, m, bodies, drop-drop h.body 4 rest) in
+          ap (rows_from count) f
 
-    pub row_read : (a : Alignments) → entry_of count h.kind Body ≡ Row a → Reading bytes (set rows count a) (count + 1) (at + 4 + h.body)
-    row_read a p =
-        let l = (entry_row count h.kind Body a p).room in
-        let n : 64 - count ≡ suc (64 - (count + 1)) = omega (arith, l) in
-        let w : set rows count a ≡ (k.read ++ a ∷ []) ++ replicate (64 - (count + 1)) no_row =
-        rw (k.are, n, ← k.long) (set_behind k.read (64 - (length k.read + 1)) no_row a) in
-        let s : rows_from count (form_of (drop at bytes)) ≡ before a (rows_from (suc count) More) = step ∙ rw p in
-        record {
-          read = k.read ++ a ∷ [];
-          are = w;
-          long = length-append k.read (a ∷ []) ∙ rw k.long;
-          most = omega (arith, l);
-          within = room;
-          rest = k.rest ∙ ap (carried k.read) s ∙ rw (add-one) (carried_row k.read a (rows_from (suc count) More));
-        }
+      pub passed_on : entry_of count h.kind body ≡ Ok None → Reading bytes rows count behind
+      passed_on p = record { read = k.read; are = k.are; long = k.long; most = k.most; left = k.left ∙ ap (carried k.read) (step ∙ rw p) }
 
-    pub refused_by : (r : Refusal) → entry_of count h.kind Body ≡ Refused r → load_of bytes ≡ loaded_as (refused r)
-    refused_by r p = refused_here r (step ∙ rw p)
+      pub row_read : (a : Alignments) → entry_of count h.kind body ≡ Ok (Some a) → Reading bytes (set rows count a) (count + 1) behind
+      row_read a p =
+          let l = (entry_row count h.kind body a p).room in
+          let n : 64 - count ≡ suc (64 - (count + 1)) = omega (arith, l) in
+          let w : set rows count a ≡ (k.read ++ a ∷ []) ++ replicate (64 - (count + 1)) no_row =
+          rw (k.are, n, ← k.long) (set_behind k.read (64 - (length k.read + 1)) no_row a) in
+          let s : rows_from count (form_of rest) ≡ before a (rows_from (suc count) (form_of behind)) = step ∙ rw p in
+          record {
+            read = k.read ++ a ∷ [];
+            are = w;
+            long = length-append k.read (a ∷ []) ∙ rw k.long;
+            most = omega (arith, l);
+            left = k.left ∙ ap (carried k.read) s ∙ rw (add-one) (carried_row k.read a (rows_from (suc count) (form_of behind)));
+          }
+
+      pub refused_by : (r : Refusal) → entry_of count h.kind body ≡ Err r → load_of bytes ≡ Err r
+      refused_by r p = refused_here r (step ∙ rw p)
 
   -- the bytes end here
-  pub ended : length bytes ≤ at → load_of bytes ≡ finished rows count
-  unfolding load_of rows_from carried form_of form_in
-  ended h =
-      let a : at ≡ length bytes = omega (arith, k.within) in
-      let d : drop at bytes ≡ [] = rw a (drop-length bytes) in
-      let t : table_of bytes ≡ carried k.read (pick (eqb count 0) (refused BadTable) (these [])) = k.rest ∙ rw d in
+  pub ended : next_of rest ≡ Ok None → load_of bytes ≡ finished rows count
+  unfolding load_of rows_from carried
+  ended e =
+      let f : form_of rest ≡ end = form_next rest ∙ rw (told_ok (start_of rest) None e) in
+      let t : table_of bytes ≡ carried k.read (pick (eqb count 0) (refused BadTable) (these [])) = k.left ∙ ap (λ (x : Form). carried k.read (rows_from count x)) f in
       ap loaded_as t ∙ go count refl
     where
       go : (n : ℕ) → count ≡ n → loaded_as (carried k.read (pick (eqb count 0) (refused BadTable) (these []))) ≡ finished rows count

@@ -1,18 +1,17 @@
 -- Document 02, N3, "Drive table from the customer": the table of a byte string, or its refusal.
 use Rattle.std.specs.Prelude.{◌&&◌, List, [], ◌∷◌, ◌++◌, ℕ, suc, ◌-◌, ltb, eqb, length, take, drop, get_or, replicate}
+use Rattle.std.specs.Prelude.{Option, Some, None, Result, Ok, Err}
 use Rattle.arithmetic.specs.Rounding.{pick}
 use Rattle.arithmetic.specs.Settings.{alignments, alignments_fit}
 use Rattle.arithmetic.specs.declared.refusals.Refusal.{Refusal}
 use Rattle.arithmetic.specs.declared.refusals.Refusal.TheVariants.{Unfit, Table as BadTable, Row as BadRow}
-use Rattle.arithmetic.specs.declared.refusals.Outcome.TheVariants.{Done, Refused as NotLoaded}
 use Rattle.arithmetic.specs.declared.settings.Alignments.{Alignments}
 use Rattle.arithmetic.specs.declared.settings.Profile.{Profile}
 use Rattle.arithmetic.specs.declared.settings.Profile.TheVariants.{Of, Refused as NoProfile}
-use Rattle.records.specs.Records.{little_endian, Form, end, broken, entry, form_of}
+use Rattle.records.specs.Records.{little_endian, start_of, Form, end, broken, entry, form_of}
+use Rattle.records.specs.declared.Header.{Header}
+use Rattle.records.specs.declared.Broken.{Broken}
 use Rattle.tables.specs.declared.table.Table.{Table}
-use Rattle.tables.specs.declared.table.Loaded.{Loaded}
-use Rattle.tables.specs.declared.table.Entry.{Entry}
-use Rattle.tables.specs.declared.table.Entry.TheVariants.{Passed, Row, Refused}
 
 -- ---- one record
 
@@ -25,13 +24,21 @@ row_of body =
 -- What it is to a table that has n rows. "Kind 1 is a row [..], so its length is 18": two bytes of kind, 16 of body. "Other kinds are
 -- passed over". "211 if [..] a row of another length, a 65th row [..]; 212 if a row breaks an alignment limit. [..] 211 is tested before
 -- 212 in it."
-unfoldable pub entry_of : ℕ → ℕ → List ℕ → Entry
+unfoldable pub entry_of : ℕ → ℕ → List ℕ → Result (Option Alignments) Refusal
 entry_of n kind body =
     pick (eqb kind 1)
     (pick (eqb (length body) 16 && ltb n 64)
-    (pick (alignments_fit (row_of body)) (Row (row_of body)) (Refused BadRow))
-    (Refused BadTable))
-    Passed
+    (pick (alignments_fit (row_of body)) (Ok (Some (row_of body))) (Err BadRow))
+    (Err BadTable))
+    (Ok None)
+
+-- "211 if a record is cut, shorter than its kind field": what bytes start with, to a table
+abbrev pub known_as : Result (Option Header) Broken → Result (Option Header) Refusal
+known_as (Ok h) = Ok h
+known_as (Err b) = Err BadTable
+
+abbrev pub next_of : List ℕ → Result (Option Header) Refusal
+next_of bytes = known_as (start_of bytes)
 
 -- ---- all of them
 
@@ -45,10 +52,10 @@ before a (these rs) = these (a ∷ rs)
 before a (refused r) = refused r
 
 -- by what the record is: the rows without one of it, and those after one of it
-abbrev pub with_entry : Entry → Rows → Rows → Rows
-with_entry Passed without after = without
-with_entry (Row a) without after = before a after
-with_entry (Refused r) without after = refused r
+abbrev pub with_entry : Result (Option Alignments) Refusal → Rows → Rows → Rows
+with_entry (Ok None) without after = without
+with_entry (Ok (Some a)) without after = before a after
+with_entry (Err r) without after = refused r
 
 -- The rows that records add to n rows, "in file order". "The first bad record decides." "211 if a record is cut, shorter than its kind
 -- field, [..] or none in all": that is seen at the end.
@@ -68,19 +75,17 @@ no_row = alignments 0 0 0 0
 abbrev pub table_with : List Alignments → Table
 table_with rs = record { rows = rs ++ replicate (64 - length rs) no_row; count = length rs }
 
-abbrev pub no_table : Table
-no_table = table_with []
+abbrev pub loaded_as : Rows → Result Table Refusal
+loaded_as (these rs) = Ok (table_with rs)
+loaded_as (refused r) = Err r
 
-abbrev pub loaded_as : Rows → Loaded
-loaded_as (these rs) = record { table = table_with rs; outcome = Done }
-loaded_as (refused r) = record { table = no_table; outcome = NotLoaded r }
-
-unfoldable pub load_of : List ℕ → Loaded
+unfoldable pub load_of : List ℕ → Result Table Refusal
 load_of bytes = loaded_as (table_of bytes)
 
--- the 64 rows of which `n` were read, at the end of the bytes
-abbrev pub finished : List Alignments → ℕ → Loaded
-finished rs n = pick (eqb n 0) (loaded_as (refused BadTable)) (record { table = record { rows = rs; count = n }; outcome = Done })
+-- what was loaded: where it is refused, a table with no row
+abbrev pub table_in : Result Table Refusal → Table
+table_in (Ok t) = t
+table_in (Err r) = table_with []
 
 -- ---- a row by its index
 

@@ -1,7 +1,7 @@
 -- Laws of drive tables: what makes a record a row; every table that is loaded has 1 to 64 rows, and each of them fits; a row by its index.
 -- Assumes nothing.
 use Rattle.std.specs.Prelude.{◌≡◌, refl, Bool, true, false, ◌&&◌, List, [], ◌∷◌, ◌++◌, ◌⊎◌, ℕ, zero, suc, ◌+◌, ◌-◌, ◌<◌, ◌≤◌, ltb, eqb}
-use Rattle.std.specs.Prelude.{length, get_or, replicate}
+use Rattle.std.specs.Prelude.{length, get_or, replicate, Option, Some, None, Result, Ok, Err}
 use Rattle.std.proofs.Common.{sym, ap, ◌∙◌, inl, inr, arith, length-take, length-append, get_or-take, lt-ltb, le-ltb, ne_eqb, ltb-true}
 use Rattle.std.proofs.Common.{eqb-true}
 use Rattle.std.proofs.lemmas.List.{length-replicate}
@@ -9,16 +9,15 @@ use Rattle.std.proofs.Math.ListN.{get_or-append}
 use Rattle.std.proofs.lemmas.Bool.{eqb-false}
 use Rattle.arithmetic.specs.Rounding.{pick}
 use Rattle.arithmetic.specs.Settings.{alignments_fit}
+use Rattle.arithmetic.specs.declared.refusals.Refusal.{Refusal}
 use Rattle.arithmetic.specs.declared.refusals.Refusal.TheVariants.{Unfit, Table as BadTable, Row as BadRow}
 use Rattle.arithmetic.specs.declared.settings.Alignments.{Alignments}
 use Rattle.arithmetic.specs.declared.settings.Profile.TheVariants.{Of, Refused as NoProfile}
 use Rattle.records.specs.Records.{Form, end, broken, entry, form_of}
 use Rattle.tables.specs.Tables.{row_of, entry_of, Rows, these, refused, before, with_entry, rows_from, table_of, no_row, table_with}
-use Rattle.tables.specs.Tables.{load_of}
+use Rattle.tables.specs.Tables.{load_of, table_in}
 use Rattle.tables.specs.Tables.{rows_of, profile_in}
 use Rattle.tables.specs.declared.table.Table.{Table}
-use Rattle.tables.specs.declared.table.Entry.{Entry}
-use Rattle.tables.specs.declared.table.Entry.TheVariants.{Passed, Row, Refused}
 
 -- ---- one record
 
@@ -30,17 +29,22 @@ pub record IsRow (n kind : ℕ) (body : List ℕ) (a : Alignments) : Type 0 wher
   pub is : a ≡ row_of body
   pub fits : alignments_fit a ≡ true
 
-abbrev row_in : Alignments → Entry → Alignments
-row_in a Passed = a
-row_in a (Row r) = r
-row_in a (Refused r) = a
+abbrev Entry : Type 0
+Entry = Result (Option Alignments) Refusal
 
-pub entry_row : (n kind : ℕ) (body : List ℕ) (a : Alignments) → entry_of n kind body ≡ Row a → IsRow n kind body a
+-- the row that an entry is; z where it is none
+abbrev row_in : Alignments → Entry → Alignments
+row_in z (Ok None) = z
+row_in z (Ok (Some a)) = a
+row_in z (Err r) = z
+
+pub entry_row : (n kind : ℕ) (body : List ℕ) (a : Alignments) → entry_of n kind body ≡ Ok (Some a) → IsRow n kind body a
 unfolding entry_of
 entry_row n kind body a e = go (eqb kind 1) (eqb (length body) 16) (ltb n 64) (alignments_fit (row_of body)) refl refl refl refl e
   where
     go : (k l m f : Bool) → eqb kind 1 ≡ k → eqb (length body) 16 ≡ l → ltb n 64 ≡ m → alignments_fit (row_of body) ≡ f
-        → pick k (pick (l && m) (pick f (Row (row_of body)) (Refused BadRow)) (Refused BadTable)) Passed ≡ Row a → IsRow n kind body a
+        → pick {A = Entry} k (pick (l && m) (pick f (Ok (Some (row_of body))) (Err BadRow)) (Err BadTable)) (Ok None) ≡ Ok (Some a)
+        → IsRow n kind body a
     go true true true true p q s t e =
         let i : row_of body ≡ a = ap (row_in a) e in
         record {
@@ -105,10 +109,10 @@ sound_from n (entry kind body more) rs h e =
     go : (x : Entry) → entry_of n kind body ≡ x → with_entry x (rows_from n more) (rows_from (suc n) more) ≡ these rs
         → (rows_from n more ≡ these rs → Sound n rs)
         → (suc n ≤ 64 → (ts : List Alignments) → rows_from (suc n) more ≡ these ts → Sound (suc n) ts) → Sound n rs
-    go Passed q e f g = f e
-    go (Row a) q e f g =
+    go (Ok None) q e f g = f e
+    go (Ok (Some a)) q e f g =
         let k = entry_row n kind body a q in sound_row n a (rows_from (suc n) more) rs k.fits e (g (omega (arith, k.room)))
-    go (Refused r) q e f g = let z : ◌≡◌ {A = ℕ} 0 1 = cc in absurd (omega arith)
+    go (Err r) q e f g = let z : ◌≡◌ {A = ℕ} 0 1 = cc in absurd (omega arith)
 
 pub table_sound : (bytes : List ℕ) (rs : List Alignments) → table_of bytes ≡ these rs → Sound 0 rs
 unfolding table_of
@@ -128,23 +132,23 @@ row_there t i h l =
 
 module _ (bytes : List ℕ) (rs : List Alignments) (e : table_of bytes ≡ these rs) where
   -- as a value it has them, and 64 places
-  pub loaded_with : (load_of bytes).table ≡ table_with rs
+  pub loaded_with : table_in (load_of bytes) ≡ table_with rs
   unfolding load_of
   loaded_with = rw e
 
-  pub loaded_long : length (load_of bytes).table.rows ≡ 64
+  pub loaded_long : length (table_in (load_of bytes)).rows ≡ 64
   loaded_long =
       let s = table_sound bytes rs e in
       rw loaded_with
       (length-append rs (replicate (64 - length rs) no_row) ∙ rw (length-replicate (64 - length rs) no_row) (omega (arith, s.most)))
 
   -- row i of the loaded table is row i of the file, and past the last there is none
-  pub loaded_row : (i : ℕ) → i < length rs → profile_in (load_of bytes).table i ≡ Of (get_or rs i no_row)
+  pub loaded_row : (i : ℕ) → i < length rs → profile_in (table_in (load_of bytes)) i ≡ Of (get_or rs i no_row)
   loaded_row i h =
       let l : length (rs ++ replicate (64 - length rs) no_row) ≡ 64 = rw loaded_with at loaded_long in
       let s = table_sound bytes rs e in
       rw loaded_with (row_there (table_with rs) i h (omega (arith, l, s.most)))
       ∙ ap Of (get_or-append rs (replicate (64 - length rs) no_row) no_row i h)
 
-  pub loaded_past : (i : ℕ) → length rs ≤ i → profile_in (load_of bytes).table i ≡ NoProfile Unfit
+  pub loaded_past : (i : ℕ) → length rs ≤ i → profile_in (table_in (load_of bytes)) i ≡ NoProfile Unfit
   loaded_past i h = rw loaded_with (past_last (table_with rs) i (inl h))

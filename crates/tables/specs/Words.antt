@@ -1,12 +1,12 @@
 -- A drive table in words, as a host holds it: 257. How many rows there are, then M, R, Z, D of each of the 64. Any words are a table.
-use Rattle.std.specs.Prelude.{◌≡◌, List, [], ◌∷◌, ℕ, drop, get_or}
-use Rattle.arithmetic.specs.Refusals.{when_done}
+use Rattle.std.specs.Prelude.{◌≡◌, Result, Ok, Err, List, [], ◌∷◌, ℕ, drop, get_or}
 use Rattle.arithmetic.specs.Rows.{rows}
 use Rattle.arithmetic.specs.Settings.{alignments}
+use Rattle.arithmetic.specs.declared.refusals.Refusal.{Refusal}
 use Rattle.arithmetic.specs.declared.refusals.Outcome.{Outcome}
+use Rattle.arithmetic.specs.declared.refusals.Outcome.TheVariants.{Done, Refused}
 use Rattle.arithmetic.specs.declared.settings.Alignments.{Alignments}
 use Rattle.tables.specs.declared.table.Table.{Table}
-use Rattle.tables.specs.declared.table.Loaded.{Loaded}
 
 abbrev pub alignments_from : List ℕ → Alignments
 alignments_from w = alignments (get_or w 0 0) (get_or w 1 0) (get_or w 2 0) (get_or w 3 0)
@@ -22,9 +22,14 @@ abbrev pub table_words : Table → List ℕ
 table_words t = t.count ∷ row_words t.rows
 
 -- every word after a load: a refusal leaves those that stood there
-abbrev pub words_after : Loaded → List ℕ → List ℕ
-words_after l words = when_done l.outcome (table_words l.table) (λ z. words)
+abbrev pub words_after : Result Table Refusal → List ℕ → List ℕ
+words_after (Ok t) words = table_words t
+words_after (Err r) words = words
 
--- what it answers, and leaves
-abbrev pub LoadsIn : Loaded → Outcome → List ℕ → List ℕ → Type 0
-LoadsIn l r before after = (r ≡ l.outcome) × (after ≡ words_after l before)
+-- and what it answers
+abbrev pub outcome_of : Result Table Refusal → Outcome
+outcome_of (Ok t) = Done
+outcome_of (Err r) = Refused r
+
+abbrev pub LoadsIn : Result Table Refusal → Outcome → List ℕ → List ℕ → Type 0
+LoadsIn l r before after = (r ≡ outcome_of l) × (after ≡ words_after l before)

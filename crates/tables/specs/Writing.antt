@@ -1,5 +1,5 @@
 -- Tables that are written: 1 to 64 rows that fit, each as a record of kind 1, are loaded as these rows. Assumes nothing.
-use Rattle.std.specs.Prelude.{◌≡◌, true, List, [], ◌∷◌, ◌++◌, ℕ, suc, ◌/◌, ◌%◌, ◌<◌}
+use Rattle.std.specs.Prelude.{◌≡◌, true, Some, Ok, List, [], ◌∷◌, ◌++◌, ℕ, suc, ◌/◌, ◌%◌, ◌<◌}
 use Rattle.std.proofs.Common.{ap, ◌∙◌, div-add-mod', arith, lt-ltb, ne_eqb}
 use Rattle.arithmetic.specs.Settings.{alignments_fit}
 use Rattle.arithmetic.specs.declared.settings.Alignments.{Alignments}
@@ -7,7 +7,6 @@ use Rattle.records.specs.Records.{little_endian, record_bytes, form_of, form_in}
 use Rattle.records.specs.RecordsLaws.{form_written}
 use Rattle.tables.specs.Tables.{row_of, entry_of, these, rows_from, table_of}
 use Rattle.tables.specs.TablesLaws.{Sound}
-use Rattle.tables.specs.declared.table.Entry.TheVariants.{Row}
 
 -- a number in four bytes
 abbrev pub four_bytes : ℕ → List ℕ
@@ -29,7 +28,7 @@ row_back : (a : Alignments) → row_of (row_bytes a) ≡ a
 unfolding row_of
 row_back a = rw (four_read a.mem, four_read a.req, four_read a.zero, four_read a.discard)
 
-row_entry : (n : ℕ) (a : Alignments) → n < 64 → alignments_fit a ≡ true → entry_of n 1 (row_bytes a) ≡ Row a
+row_entry : (n : ℕ) (a : Alignments) → n < 64 → alignments_fit a ≡ true → entry_of n 1 (row_bytes a) ≡ Ok (Some a)
 unfolding entry_of
 row_entry n a h f = rw (lt-ltb n 64 h, row_back a, f)
 

@@ -1,32 +1,17 @@
 // A drive table: up to 64 rows, numbered from 0 in the order of the file. Loading takes any bytes.
-ghost use Rattle.std.specs.Prelude.{◌≡◌, ◌+◌, ◌≤◌, length, take, drop, replicate};
+ghost use Rattle.std.specs.Prelude.{◌≡◌, ◌+◌, ◌≤◌, length, take, drop};
 ghost use Rattle.records.specs.Records.{little_endian};
-ghost use Rattle.tables.specs.Tables.{no_row, no_table, row_of, entry_of, load_of, finished, profile_in};
+ghost use Rattle.tables.specs.Tables.{row_of, entry_of, next_of, load_of, profile_in};
 
-use arithmetic::refusals::{Outcome, Refusal};
+use arithmetic::refusals::Refusal;
 use arithmetic::settings::{Alignments, Profile};
-use records::{Start, first_record, u32_of};
+use records::{Header, first_record, u32_of};
 
-// The first `count` rows count.
+// The first `count` rows count. An array and a length beside it: there is no heap, and the words of a table (`table_from`) have any count.
 #[derive(Clone, Copy)]
 pub struct Table {
-    pub rows: [Alignments; 64],
+    pub rows: [Alignments; MOST_ROWS],
     pub count: usize,
-}
-
-// A table, and whether it was loaded: one that was not has no row.
-#[derive(Clone, Copy)]
-pub struct Loaded {
-    pub table: Table,
-    pub outcome: Outcome,
-}
-
-// What a record is to a table.
-#[derive(Clone, Copy)]
-pub enum Entry {
-    Passed, // of a kind that is passed over
-    Row(Alignments),
-    Refused(Refusal),
 }
 
 // The kind of a record that is a row.
@@ -38,29 +23,13 @@ const ROW_BODY: usize = 16;
 // How many rows a table has at most.
 pub const MOST_ROWS: usize = 64;
 
-// The rows of a table that has none yet.
-fn make_rows() -> [Alignments; 64]
-    ensures { result ≡ replicate 64 no_row }
-{
-    let none = Alignments {
-        mem: 0,
-        req: 0,
-        zero: 0,
-        discard: 0,
-    };
-    [none; 64]
-}
-
-// What is left of a table that is refused: none of its rows.
-fn refuse(r: Refusal) -> Loaded
-    ensures { result ≡ record { table = no_table; outcome = Outcome.Refused r } }
-{
-    let rows = make_rows();
-    Loaded {
-        table: Table { rows, count: 0 },
-        outcome: Outcome::Refused(r),
-    }
-}
+// What stands in the place of a row that is not there.
+const NO_ROW: Alignments = Alignments {
+    mem: 0,
+    req: 0,
+    zero: 0,
+    discard: 0,
+};
 
 // The 32-bit number from `at` on.
 fn number_at(body: &[u8], at: usize) -> u64
@@ -83,66 +52,52 @@ fn read_row(body: &[u8]) -> Alignments
     }
 }
 
-// What a record is to a table that has `count` rows: 211 is tested before 212.
-fn read_entry(kind: u64, body: &[u8], count: usize) -> Entry
+// The row that a record is to a table that has `count` rows; none where it is of a kind that is passed over. 211 is tested before 212.
+fn read_entry(kind: u64, body: &[u8], count: usize) -> Result<Option<Alignments>, Refusal>
     ensures { result ≡ entry_of count kind body.now }
 {
     if kind != ROW {
-        return Entry::Passed;
+        return Ok(None);
     }
     if body.len() != ROW_BODY {
-        return Entry::Refused(Refusal::Table);
+        return Err(Refusal::Table);
     }
     if MOST_ROWS <= count {
-        return Entry::Refused(Refusal::Table);
+        return Err(Refusal::Table);
     }
     let row = read_row(body);
     if !row.is_fit() {
-        return Entry::Refused(Refusal::Row);
+        return Err(Refusal::Row);
     }
-    Entry::Row(row)
+    Ok(Some(row))
 }
 
-// What `count` rows are at the end of the bytes: a table, unless there are none.
-fn finish(rows: [Alignments; 64], count: usize) -> Loaded
-    ensures { result ≡ finished rows count }
+// The record that `rest` starts with; 211 where it is broken.
+fn next_record(rest: &[u8]) -> Result<Option<Header>, Refusal>
+    ensures { result ≡ next_of rest.now }
 {
-    if count == 0 {
-        return refuse(Refusal::Table);
-    }
-    Loaded {
-        table: Table { rows, count },
-        outcome: Outcome::Done,
-    }
+    first_record(rest).map_err(|_| Refusal::Table)
 }
 
-// The table of the bytes, or why it is refused: the first bad record decides.
-pub fn load(bytes: &[u8]) -> Loaded
+// The table of the bytes, or why it is refused: the first bad record decides, and a table has a row.
+pub fn load(bytes: &[u8]) -> Result<Table, Refusal>
     ensures { result ≡ load_of bytes.now }
 {
-    let n = bytes.len();
-    let mut rows = make_rows();
+    let mut rows = [NO_ROW; MOST_ROWS];
     let mut count: usize = 0;
-    let mut at: usize = 0;
-    while at < n {
-        let Start::Record(record) = first_record(&bytes[at..]) else {
-            return refuse(Refusal::Table);
-        };
-        let body = at + 4;
-        let end = body + record.body;
-        match read_entry(record.kind, &bytes[body..end], count) {
-            Entry::Passed => {}
-            Entry::Row(row) => {
-                rows[count] = row;
-                count += 1;
-            }
-            Entry::Refused(r) => {
-                return refuse(r);
-            }
+    let mut rest = bytes;
+    while let Some(record) = next_record(rest)? {
+        let (body, behind) = rest[4..].split_at(record.body);
+        if let Some(row) = read_entry(record.kind, body, count)? {
+            rows[count] = row;
+            count += 1;
         }
-        at = end;
+        rest = behind;
     }
-    finish(rows, count)
+    if count == 0 {
+        return Err(Refusal::Table);
+    }
+    Ok(Table { rows, count })
 }
 
 impl Table {

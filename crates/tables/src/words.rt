@@ -8,20 +8,13 @@ use arithmetic::refusals::{Outcome, Refusal};
 use arithmetic::settings::{Alignments, Profile};
 
 // Write a table over all words.
-fn put_table(words: &mut [u64], t: Table)
-    requires { length words.old ≡ 257 }
+fn put_table(words: &mut [u64; 257], t: Table)
     ensures { words.new ≡ table_words t }
 {
     words[0] = t.count as u64;
-    let mut i: usize = 0;
-    while i < MOST_ROWS {
-        let row = t.rows[i];
+    for (i, row) in t.rows.iter().enumerate() {
         let at = 1 + 4 * i;
-        words[at] = row.mem;
-        words[at + 1] = row.req;
-        words[at + 2] = row.zero;
-        words[at + 3] = row.discard;
-        i += 1;
+        words[at..at + 4].copy_from_slice(&[row.mem, row.req, row.zero, row.discard]);
     }
 }
 
@@ -29,13 +22,13 @@ fn put_table(words: &mut [u64], t: Table)
 pub fn load_words(table: &mut [u64; 257], bytes: &[u8]) -> Outcome
     ensures { LoadsIn (load_of bytes.now) result table.old table.new }
 {
-    let loaded = load(bytes);
-    let outcome = loaded.outcome;
-    let Outcome::Done = outcome else {
-        return outcome;
-    };
-    put_table(table, loaded.table);
-    Outcome::Done
+    match load(bytes) {
+        Ok(loaded) => {
+            put_table(table, loaded);
+            Outcome::Done
+        }
+        Err(r) => Outcome::Refused(r),
+    }
 }
 
 // A row by its index, as a drive profile; past the count 201.
@@ -48,11 +41,12 @@ pub fn row_of(table: &[u64; 257], index: usize) -> Profile
     if table[0] <= index as u64 {
         return Profile::Refused(Refusal::Unfit);
     }
-    let at = 1 + 4 * index;
+    let (rows, _) = table[1..].as_chunks::<4>();
+    let [mem, req, zero, discard] = rows[index];
     Profile::Of(Alignments {
-        mem: table[at],
-        req: table[at + 1],
-        zero: table[at + 2],
-        discard: table[at + 3],
+        mem,
+        req,
+        zero,
+        discard,
     })
 }

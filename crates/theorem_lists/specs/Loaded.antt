@@ -11,7 +11,7 @@ use Rattle.arithmetic.specs.declared.settings.Alignments.{Alignments}
 use Rattle.arithmetic.specs.declared.settings.Settings.{Settings}
 use Rattle.arithmetic.specs.declared.settings.Buffers.{Buffers}
 use Rattle.arithmetic.specs.declared.settings.Profile.{Profile}
-use Rattle.tables.specs.Tables.{these, table_of, load_of, profile_in, no_row}
+use Rattle.tables.specs.Tables.{these, table_of, load_of, table_in, profile_in, no_row}
 use Rattle.tables.specs.TablesLaws.{table_sound, loaded_row, loaded_past}
 use Rattle.dock.specs.Dock.{open_of, open_by, lent_fits}
 use Rattle.dock.specs.declared.open.Opened.{Opened}
@@ -25,7 +25,7 @@ row_settings rs i n = record { align = get_or rs i no_row; bounce = n }
 module _ (bytes : List ℕ) (rs : List Alignments) (e : table_of bytes ≡ these rs) (i n : ℕ) (b : Buffers) where
   -- opening by row i of the table of these bytes
   abbrev pub by_row : Opened
-  by_row = open_by (profile_in (load_of bytes).table i) n b
+  by_row = open_by (profile_in (table_in (load_of bytes)) i) n b
 
   -- it is opening with the alignments of row i
   pub opens_as : i < length rs → by_row ≡ open_of (row_settings rs i n) b

@@ -1,21 +1,28 @@
--- `sheets::sheet::sheet_fits` meets its contract: in every turn all writes before are sound. Assumes nothing.
-use mathlib.Core.Path.{sym}
-use Rattle.sheets.proofs.Words.{writes_length}
-use Rattle.sheets.proofs.Testing.{sheet_long, tested_none, tested_all, tested_not, tested_more}
+-- `sheets::sheet::sheet_fits` meets its contract: as many writes as may be, and each of them sound. Assumes nothing.
+use mathlib.Core.Path.{sym, ◌∙◌}
+use native.Mathlib.Omega.{arith}
+use lib.ListN.{length}
+use borrow.Author.Tests.{lt-leb}
+use Rattle.std.proofs.Common.{tests}
+use Rattle.std.proofs.lemmas.Iterator.{YieldsList-from_slice}
+use Rattle.std.proofs.lemmas.Iterator.Search.{all_from_yields_List}
+use Rattle.sheets.specs.Sheets.{write_from, writes_of, is_sound}
+use Rattle.sheets.proofs.Words.{writes_long}
+use Rattle.sheets.proofs.Testing.{sheet_long, sheet_short, rows_sound}
 use borrow.Author.Rules.{rules}
 use Rattle.sheets.proofs.sheet.sheet_fits.Goals as goal
 
-pub returns-then-n-gt-MOST_WRITES : goal.returns-then-n-gt-MOST_WRITES
-returns-then-n-gt-MOST_WRITES c = sym (sheet_long _ _ (search (rules, writes_length)))
+pub returns-then-writes-le-MOST_WRITES : goal.returns-then-writes-le-MOST_WRITES
+returns-then-writes-le-MOST_WRITES c =
+    let n = c.args.data_len in
+    let lines = c.args.writes.now in
+    all_from_yields_List (λ row. is_sound n (write_from row)) _ _ c.all.result c.all.ensures.ran (YieldsList-from_slice lines c.iter.ensures.rest)
+    (λ x b q k. search (rules, tests))
+    ∙ rows_sound n lines
+    ∙ sheet_short n (writes_of lines) (omega (arith, writes_long lines, c.if-writes-le-MOST_WRITES.true))
 
-pub loop-i-init : goal.loop-i-init
-loop-i-init c = (writes_length _, tested_none _ _ (search (rules, writes_length)))
-
-pub returns-then-not-is_sound : goal.returns-then-not-is_sound
-returns-then-not-is_sound c = sym (tested_not c.loop-i.invariant.1 (search rules) _ c.get_write-w.ensures _ c.is_sound.ensures (c.if-not-is_sound.true))
-
-pub loop-i-preserved : goal.loop-i-preserved
-loop-i-preserved c = (c.loop-i.invariant.0, tested_more c.loop-i.invariant.1 (search rules) _ c.get_write-w.ensures _ c.is_sound.ensures (c.if-not-is_sound.false))
-
-pub returns : goal.returns
-returns c = sym (tested_all c.loop-i.invariant.1 (search rules))
+pub returns-else-writes-le-MOST_WRITES : goal.returns-else-writes-le-MOST_WRITES
+returns-else-writes-le-MOST_WRITES c =
+    let lines = c.args.writes.now in
+    lt-leb (length lines) 64 (omega (arith, c.if-writes-le-MOST_WRITES.false))
+    ∙ sym (sheet_long c.args.data_len (writes_of lines) (omega (arith, writes_long lines, c.if-writes-le-MOST_WRITES.false)))

@@ -5,8 +5,9 @@ use lib.Dec.{eqb}
 use lib.ListN.{length}
 use borrow.Author.Tests.{eq-eqb, ne_eqb, lt-ltb, le-ltb}
 use Rattle.arithmetic.specs.Settings.{alignments_fit}
+use Rattle.arithmetic.specs.declared.settings.Alignments.{Alignments}
 use Rattle.tables.specs.Tables.{entry_of}
-use Rattle.tables.specs.declared.table.Entry.TheVariants.{Row}
+use Rattle.std.specs.Prelude.{Some, Ok}
 use borrow.Author.Rules.{rules}
 use Rattle.tables.proofs.table.read_entry.Goals as goal
 
@@ -32,4 +33,4 @@ pub returns : goal.returns
 unfolding entry_of
 returns c = let a = c.args in
     let f = ap alignments_fit (sym c.read_row-row.ensures) ∙ sym c.is_fit.ensures ∙ c.if-not-is_fit.false in
-    rw (eq-eqb a.kind 1 (search rules), eq-eqb (length a.body.now) 16 (search rules), lt-ltb a.count 64 (search rules), f) (ap Row c.read_row-row.ensures)
+    rw (eq-eqb a.kind 1 (search rules), eq-eqb (length a.body.now) 16 (search rules), lt-ltb a.count 64 (search rules), f) (ap (λ (a : Alignments). Ok (Some a)) c.read_row-row.ensures)

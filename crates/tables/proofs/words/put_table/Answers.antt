@@ -1,44 +1,55 @@
--- `tables::words::put_table` meets its contract: after i turns the words of the first i rows are written. Assumes nothing.
+-- `tables::words::put_table` meets its contract: after i turns the count and the words of the first i rows are written. Assumes nothing.
 use native.Mathlib.Omega.{arith}
-use Prim.Native.Nat.{◌+◌, ◌*◌}
-use mathlib.Core.Path.{◌≡◌, refl, sym, ◌∙◌}
-use lib.ListN.{length, get_or, length-set}
-use Rattle.arithmetic.specs.Loops.{array_long, like_more, like_all}
+use native.Mathlib.Numerals.{add-one}
+use Prim.Native.Nat.{ℕ, ◌+◌, ◌*◌, ◌≤◌}
+use mathlib.Core.Path.{◌≡◌, refl, sym, ap, ◌∙◌}
+use mathlib.Core.List.{List, [], ◌∷◌, ◌++◌, append_assoc}
+use lib.ListN.{length, take, get_or, length-append, length-set}
+use lib.Seq.{take_at, take_all, take-suc, take-suc-set, length-take-le}
+use borrow.Rule.Slice.PartMut.{same_len_mid}
+use Rattle.arithmetic.specs.Loops.{array_long}
+use Rattle.arithmetic.specs.declared.settings.Alignments.{Alignments}
 use Rattle.tables.specs.Tables.{no_row}
-use Rattle.tables.specs.Words.{table_words}
-use Rattle.tables.specs.WordsLaws.{table_long, mem_word, req_word, zero_word, discard_word}
+use Rattle.tables.specs.Words.{row_words}
+use Rattle.tables.specs.WordsLaws.{row_words_more}
 use borrow.Author.Rules.{rules}
 use Rattle.tables.proofs.words.put_table.Goals as goal
 
+-- four words put behind those that are written
+four_more : (n i j : ℕ) (w u d : List ℕ) (rs : List Alignments) (a : Alignments) → j ≡ 1 + 4 * (i + 1)
+    → u ≡ row_words (a ∷ []) → 1 + 4 * i ≤ length w → take (1 + 4 * i) w ≡ n ∷ row_words rs
+    → take j (take (1 + 4 * i) w ++ (u ++ d)) ≡ n ∷ row_words (rs ++ a ∷ [])
+four_more n i j w u d rs a e s l h =
+    let k : length (take (1 + 4 * i) w ++ u) ≡ j =
+    length-append (take (1 + 4 * i) w) u ∙ omega (arith, length-take-le (1 + 4 * i) w l, e, ap length s) in
+    ap (take j) (sym (append_assoc (take (1 + 4 * i) w) u d))
+    ∙ take_at (take (1 + 4 * i) w ++ u) d j k
+    ∙ rw (h, s) (ap (λ (l : List ℕ). n ∷ l) (sym (row_words_more rs a)))
+
 pub loop-i-init : goal.loop-i-init
-loop-i-init c = let t = c.args.t in
-    let n : length t.rows ≡ 64 = search (rules, array_long) in
-    let w = table_long t n in
-    (search rules, w, like_more (table_words t) c.args.words.now 0 1 t.count 0 refl (omega (arith, w)) (c.requires ∙ sym w, refl) refl)
-
-pub bounds-words-at-in-loop-i : goal.bounds-words-at-in-loop-i
-bounds-words-at-in-loop-i c = simp length-set (search rules)
-
-pub bounds-words-at-in-loop-i-2 : goal.bounds-words-at-in-loop-i-2
-bounds-words-at-in-loop-i-2 c = simp length-set (search rules)
-
-pub bounds-words-at-in-loop-i-3 : goal.bounds-words-at-in-loop-i-3
-bounds-words-at-in-loop-i-3 c = simp length-set (search rules)
+loop-i-init c = (
+  length-set c.args.words.now 0 c.args.t.count ∙ c.told-words,
+  take-suc-set c.args.words.now 0 c.args.t.count (omega (arith, c.told-words)),
+)
 
 pub loop-i-preserved : goal.loop-i-preserved
-loop-i-preserved c = let t = c.args.t in
+loop-i-preserved c =
     let i = c.loop-i.i in
-    let w = c.loop-i.invariant.1 in
-    let a = get_or t.rows i no_row in
-    let put = like_more (table_words t) in
-    let first = put c.loop-i.words (1 + 4 * i) (1 + 4 * i + 1) a.mem 0 refl (omega (arith, w, c.loop-i-test.true)) c.loop-i.invariant.2 (mem_word t i) in
-    let second = put _ (1 + 4 * i + 1) (1 + 4 * i + 2) a.req 0 (omega arith) (omega (arith, w, c.loop-i-test.true)) first (req_word t i) in
-    let third = put _ (1 + 4 * i + 2) (1 + 4 * i + 3) a.zero 0 (omega arith) (omega (arith, w, c.loop-i-test.true)) second (zero_word t i) in
-    let fourth = put _ (1 + 4 * i + 3) (1 + 4 * (i + 1)) a.discard 0 (omega arith) (omega (arith, w, c.loop-i-test.true)) third (discard_word t i) in
-    (search rules, w, fourth)
-
-pub shape_of-words : goal.shape_of-words
-shape_of-words c = c.loop-i.invariant.2.0 ∙ c.loop-i.invariant.1 ∙ sym c.requires
+    let rs = c.args.t.rows in
+    let n : length rs ≡ 64 = search (rules, array_long) in
+    let l = c.loop-i.invariant.0 in
+    let t : take (i + 1) rs ≡ take i rs ++ get_or rs i no_row ∷ [] = rw add-one (take-suc rs i no_row (omega (arith, n, c.loop-i-test.true))) in (
+      same_len_mid (1 + 4 * i) _ c.loop-i.words _ c.copy_from_slice.ensures.len ∙ l,
+      four_more c.args.t.count i (1 + 4 * (i + 1)) c.loop-i.words _ _ (take i rs) (get_or rs i no_row) refl c.copy_from_slice.ensures.after
+          (omega (arith, l, c.loop-i-test.true)) c.loop-i.invariant.1
+          ∙ ap (λ (l : List Alignments). c.args.t.count ∷ row_words l) (sym t),
+    )
 
 pub returns : goal.returns
-returns c = like_all (table_words c.args.t) c.loop-i.words (1 + 4 * c.loop-i.i) (omega (arith, c.loop-i.invariant.1, c.loop-i-test.false)) c.loop-i.invariant.2
+returns c =
+    let rs = c.args.t.rows in
+    let n : length rs ≡ 64 = search (rules, array_long) in
+    let l = c.loop-i.invariant.0 in
+    sym (take_all (1 + 4 * c.loop-i.i) c.loop-i.words (omega (arith, l, c.loop-i-test.false)))
+    ∙ c.loop-i.invariant.1
+    ∙ ap (λ (l : List Alignments). c.args.t.count ∷ row_words l) (take_all c.loop-i.i rs (omega (arith, n, c.loop-i-test.false)))

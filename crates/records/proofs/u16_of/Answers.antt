@@ -1,8 +1,0 @@
--- `records::u16_of` meets its contract. Assumes nothing.
-use native.Mathlib.Omega.{arith}
-use Rattle.records.specs.Records.{little_endian}
-use Rattle.records.proofs.u16_of.Goals as goal
-
-pub returns : goal.returns
-unfolding little_endian
-returns c = omega arith
