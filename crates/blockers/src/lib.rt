@@ -9,8 +9,9 @@ ghost use Rattle.blockers.specs.Blockers.{entered_of, left_of, waits_of, strengt
 use arithmetic::offsets::{Range, StoreOffset};
 use arithmetic::refusals::{Outcome, Refusal};
 
-// What stands in a slot.
-#[derive(Clone, Copy)]
+// What stands in a slot. Not an Option of the two kinds: any words are a blocker, and those of an absent one have a range and notes
+// too (`blocker_of`, specs/View.antt of crate dock_words).
+#[derive(Clone, Copy, PartialEq, Eq)]
 pub enum Kind {
     Absent,
     Weak,
@@ -43,11 +44,7 @@ const SLOTS: usize = 8;
 pub fn range_overlaps(a: Range, b: Range) -> bool
     ensures { result ≡ overlaps a b }
 {
-    let a_start = a.start;
-    let a_end = a.end;
-    let b_start = b.start;
-    let b_end = b.end;
-    (a_start.0 < b_end.0) & (b_start.0 < a_end.0)
+    (a.start.0 < b.end.0) & (b.start.0 < a.end.0)
 }
 
 // The kind of one that is strong, or is not.
@@ -61,19 +58,10 @@ pub fn strength(strong: bool) -> Kind
 pub fn conflicts(entering: Kind, there: Kind) -> bool
     ensures { result ≡ conflict entering there }
 {
-    match entering {
-        Kind::Absent => false,
-        Kind::Weak => match there {
-            Kind::Absent => false,
-            Kind::Weak => false,
-            Kind::Strong => true,
-        },
-        Kind::Strong => match there {
-            Kind::Absent => false,
-            Kind::Weak => true,
-            Kind::Strong => true,
-        },
-    }
+    matches!(
+        (entering, there),
+        (Kind::Weak, Kind::Strong) | (Kind::Strong, Kind::Weak) | (Kind::Strong, Kind::Strong)
+    )
 }
 
 // No blocker.
@@ -103,21 +91,14 @@ impl Blocker {
     fn is_entered(self) -> bool
         ensures { result ≡ is_entered self }
     {
-        let kind = self.kind;
-        match kind {
-            Kind::Absent => false,
-            Kind::Weak => true,
-            Kind::Strong => true,
-        }
+        self.kind != Kind::Absent
     }
 
     // Whether a blocker of this kind over `range` that enters now must wait for this one.
     fn is_noted(self, kind: Kind, range: Range) -> bool
         ensures { result ≡ notes kind range self }
     {
-        let there = self.kind;
-        let own = self.range;
-        conflicts(kind, there) & range_overlaps(own, range)
+        conflicts(kind, self.kind) & range_overlaps(self.range, range)
     }
 
     // The blocker without `slot` among those that it noted.
@@ -143,15 +124,7 @@ impl Blockers {
     fn notes(self, kind: Kind, range: Range) -> [bool; 8]
         ensures { result ≡ notes_of kind range self }
     {
-        let mut noted = [false; 8];
-        let mut i = 0;
-        while i < SLOTS {
-            let b = self.slots[i];
-            let n = b.is_noted(kind, range);
-            noted[i] = n;
-            i += 1;
-        }
-        noted
+        self.slots.map(|b| b.is_noted(kind, range))
     }
 
     fn enter(mut self, kind: Kind, slot: usize, range: Range) -> Changed
@@ -191,18 +164,13 @@ impl Blockers {
     }
 
     // The blockers, none of which notes `slot`.
-    fn forget(mut self, slot: usize) -> Blockers
+    fn forget(self, slot: usize) -> Blockers
         requires { slot < 8 }
         ensures { result.slots ≡ map (forgetting slot) self.slots }
     {
-        let mut i = 0;
-        while i < SLOTS {
-            let b = self.slots[i];
-            let c = b.forget_slot(slot);
-            self.slots[i] = c;
-            i += 1;
+        Blockers {
+            slots: self.slots.map(|b| b.forget_slot(slot)),
         }
-        self
     }
 
     // The slot's blocker is gone, and nobody notes it any more. Refused (208) past slot 7 and where none is entered.
@@ -232,14 +200,10 @@ impl Blockers {
             return false;
         }
         let own = self.slots[slot];
-        let mut i = 0;
-        while i < SLOTS {
-            let other = self.slots[i];
-            let there = other.is_entered();
-            if own.noted[i] & there {
+        for (i, other) in self.slots.iter().enumerate() {
+            if own.noted[i] & other.is_entered() {
                 return true;
             }
-            i += 1;
         }
         false
     }
