@@ -55,7 +55,9 @@ pub struct Stage {
 #[derive(Clone, Copy)]
 pub struct State {
     pub phase: Phase,
-    pub answer: u8, // the final answer, once ended; not in `Ended`: any words are a state, and one not ended has one too (`state_from` of dock_words)
+    // The final answer, once ended. It stands beside the phase and not in `Ended`: any words are a state, and those of one that has not
+    // ended have an answer too (`state_from`, specs/View.antt of crate dock_words).
+    pub answer: u8,
     pub job: Job,
     pub range: Range, // the job's asked range
     pub middle: Range, // of a zero job: the range of its zero request
