@@ -14,50 +14,24 @@ use vectors::vector::IoVector;
 fn is_write_job(j: Job) -> bool
     ensures { result ≡ is_write_job j }
 {
-    match j {
-        Job::Read => false,
-        Job::Write => true,
-        Job::Zeroes => false,
-        Job::AllocatedZeroes => false,
-        Job::Discard => false,
-    }
+    j == Job::Write
 }
 
+// Not its first or second read: the scratch is filled once the reads are done.
 pub fn is_bounced_write(p: Phase) -> bool
     ensures { result ≡ is_bounced_write p }
 {
-    match p {
-        Phase::Free => false,
-        Phase::Ended => false,
-        Phase::DirectRead => false,
-        Phase::BouncedRead => false,
-        Phase::FirstRead => false, // filled once its reads are done
-        Phase::SecondRead => false,
-        Phase::BouncedWrite => true,
-        Phase::DirectWrite => false,
-        Phase::ZeroRequest => false,
-        Phase::DiscardRequest => false,
-    }
+    p == Phase::BouncedWrite
 }
 
 pub fn is_bounced_read(p: Phase) -> bool
     ensures { result ≡ is_bounced_read p }
 {
-    match p {
-        Phase::Free => false,
-        Phase::Ended => false,
-        Phase::DirectRead => false,
-        Phase::BouncedRead => true,
-        Phase::FirstRead => false,
-        Phase::SecondRead => false,
-        Phase::BouncedWrite => false,
-        Phase::DirectWrite => false,
-        Phase::ZeroRequest => false,
-        Phase::DiscardRequest => false,
-    }
+    p == Phase::BouncedRead
 }
 
 // n bytes of what the job writes, its vector's or zeroes, into the scratch from `start` on.
+#[tactic(auto, unfolding(crate::specs::Begin::merged_at, crate::specs::Begin::source_of, crate::specs::Begin::source_fits))]
 fn merge(start: usize, n: usize, job: Job, v: IoVector, data: &[u8], scratch: &mut [u8]) -> Outcome
     requires { start + n ≤ length scratch.old }
     ensures { fills result scratch.new ≡ merged_at start n job v «data».now scratch.old }
@@ -75,23 +49,21 @@ fn merge(start: usize, n: usize, job: Job, v: IoVector, data: &[u8], scratch: &m
 }
 
 // As a job comes to its write from the bounce buffer, the asked part of its share, which starts at `share`, is filled.
+#[tactic(auto, unfolding(crate::specs::Begin::filled))]
 pub(crate) fn fill(share: usize, x: State, v: IoVector, data: &[u8], scratch: &mut [u8]) -> Outcome
     requires { InShare share x (length scratch.old) }
     ensures { fills result scratch.new ≡ filled share x v «data».now scratch.old }
 {
-    let phase = x.phase;
-    let job = x.job;
-    let stage = x.stage;
-    let head = stage.head;
-    let n = size(stage.asked);
-    if is_bounced_write(phase) {
-        let start = share + head.0;
-        return merge(start, n as usize, job, v, data, scratch);
+    if !is_bounced_write(x.phase) {
+        return Outcome::Done;
     }
-    Outcome::Done
+    let start = share + x.stage.head.0;
+    let n = size(x.stage.asked) as usize;
+    merge(start, n, x.job, v, data, scratch)
 }
 
 // n bytes of the scratch from `start` on into the vector's segments.
+#[tactic(auto, unfolding(crate::specs::Tell::copied_at))]
 fn copy_out(start: usize, n: usize, v: IoVector, data: &mut [u8], scratch: &[u8]) -> Outcome
     requires { start + n ≤ length scratch.now }
     ensures { hands result «data».new ≡ copied_at start n v «data».old scratch.now }
@@ -105,6 +77,7 @@ fn copy_out(start: usize, n: usize, v: IoVector, data: &mut [u8], scratch: &[u8]
 }
 
 // As a padded read ends with 0, its asked bytes are copied out of its share, which starts at `share`.
+#[tactic(auto, unfolding(crate::specs::Tell::handed))]
 pub(crate) fn hand_out(
     share: usize,
     x: State,
@@ -116,19 +89,16 @@ pub(crate) fn hand_out(
     requires { InShare share x (length scratch.now) }
     ensures { hands result «data».new ≡ handed share x code v «data».old scratch.now }
 {
-    let phase = x.phase;
-    let stage = x.stage;
-    let head = stage.head;
-    let n = size(stage.asked);
-    let read = is_bounced_read(phase) & (code == 0);
-    if read {
-        let start = share + head.0;
-        return copy_out(start, n as usize, v, data, scratch);
+    if !is_bounced_read(x.phase) || code != 0 {
+        return Outcome::Done;
     }
-    Outcome::Done
+    let start = share + x.stage.head.0;
+    let n = size(x.stage.asked) as usize;
+    copy_out(start, n, v, data, scratch)
 }
 
 // What `fill` does in the share of `slot`, for any job: refused (208) where its bytes do not lie there.
+#[tactic(auto, unfolding(crate::specs::Slots::filled_share))]
 pub fn fill_share(
     slot: usize,
     settings: Settings,
@@ -140,8 +110,7 @@ pub fn fill_share(
 ) -> Outcome
     ensures { fills result scratch.new ≡ filled_share slot settings buffers x v «data».now scratch.old }
 {
-    let phase = x.phase;
-    if !is_bounced_write(phase) {
+    if !is_bounced_write(x.phase) {
         return Outcome::Done;
     }
     if !is_sound_at(slot, x, settings, buffers, scratch.len()) {
@@ -152,6 +121,7 @@ pub fn fill_share(
 }
 
 // What `hand_out` does with the share of `slot`, for any job: refused (208) where its bytes do not lie there.
+#[tactic(auto, unfolding(crate::specs::Slots::handed_share))]
 pub fn hand_out_share(
     slot: usize,
     settings: Settings,
@@ -165,9 +135,7 @@ pub fn hand_out_share(
     ensures { hands result «data».new ≡ handed_share slot settings buffers x code v «data».old
         scratch.now }
 {
-    let phase = x.phase;
-    let read = is_bounced_read(phase) & (code == 0);
-    if !read {
+    if !is_bounced_read(x.phase) || code != 0 {
         return Outcome::Done;
     }
     if !is_sound_at(slot, x, settings, buffers, scratch.len()) {

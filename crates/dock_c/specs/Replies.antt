@@ -18,7 +18,7 @@ use Rattle.vectors.specs.declared.vector.Halves.{Halves}
 use Rattle.vectors.specs.declared.vector.Tail.{Tail}
 use Rattle.vectors.specs.declared.vector.Alignment.{Alignment}
 use Rattle.vectors.specs.declared.vector.Alignment.TheVariants.{Aligned, Unaligned, Refused as NotAsked}
-use Rattle.blockers.specs.declared.Changed.{Changed}
+use Rattle.blockers.specs.Blockers.{Changed}
 use Rattle.stages.specs.Stages.{size_of}
 use Rattle.dock.specs.Begin.{Begins}
 use Rattle.dock.specs.Tell.{Told}
