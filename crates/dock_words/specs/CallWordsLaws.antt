@@ -23,7 +23,7 @@ use Rattle.blockers.specs.Blockers.{Changed}
 use Rattle.stages.specs.Stages.{is_blocking}
 use Rattle.stages.specs.declared.state.State.{State}
 use Rattle.dock.specs.Begin.{Begins, begins, blockers_with, filled, enter_at, Admits, stored_with_by, stored_with}
-use Rattle.dock.specs.Tell.{Told, tells, blockers_without, handed, Stepped, steps, refused_step, stored_by, stored, enters_by, ends_at}
+use Rattle.dock.specs.Tell.{Told, tells, blockers_without, handed, Stepped, refused_step, stored_by, stored, enters_by, ends_at}
 use Rattle.dock.specs.Tell.{enters_at}
 use Rattle.dock.specs.declared.dock.Dock.{Dock}
 use Rattle.dock.specs.declared.open.Opened.{Opened}

@@ -22,7 +22,7 @@ use Rattle.dock.specs.Dock.{state_at, vector_at, share_at, vacant, open_of, open
 use Rattle.dock.specs.Dock.{first_free}
 use Rattle.dock.specs.Begin.{admit_at, with_job, Begins, stored_with, vector_for, plan_for, decided_for, begin_of}
 use Rattle.dock.specs.Next.{is_sound_in, is_sound_of}
-use Rattle.dock.specs.Tell.{steps, refused_step, answered_of, answered_by, told_at, Told, refused_tell, stored, tell_of, collect_of}
+use Rattle.dock.specs.Tell.{refused_step, answered_of, answered_by, told_at, Told, refused_tell, stored, tell_of, collect_of}
 use Rattle.dock.specs.SlotLaws.{started, lent_done}
 use Rattle.dock.specs.declared.dock.Dock.{Dock}
 use Rattle.dock.specs.declared.begin.Asked.{Asked}
