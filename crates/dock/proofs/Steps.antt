@@ -29,7 +29,7 @@ use Rattle.dock.specs.Dock.{lent_fits, lent_of, overlaps_of, first_free}
 use Rattle.std.specs.Prelude.{Option, Some, None, Result, Ok, Err}
 use Rattle.dock.specs.declared.begin.Beginning.{Beginning}
 use Rattle.arithmetic.specs.Refusals.{when_done}
-use Rattle.dock.specs.Begin.{EnterGives, Admits, admission, admission_by, AdmitGives, begins, with_job, selected_of, plan_of, begin_of, Entering, enter_at, decided_of, admit_by, admit_at, PlanInShare, stored_with_by, stored_with}
+use Rattle.dock.specs.Begin.{EnterGives, Admits, admission, admission_by, AdmitGives, begins, with_job, selected_of, plan_of, begin_of, Entering, decided_of, admit_by, admit_at, PlanInShare, stored_with_by, stored_with}
 use Rattle.dock.specs.Next.{is_sound_in}
 use Rattle.dock.specs.Tell.{StepInShare, answered_of}
 use Rattle.dock.specs.SlotLaws.{plan_sound, started, lent_done, leads_told, begin_whole}
@@ -71,18 +71,6 @@ decided_in_share j s b o k v m n l le t plan pe met f (PlanRefused r) e = tt
 decided_in_share j s b o k v m n l le t plan pe met f (Started x) e =
     let w = started l t plan met f x (sym e) in
     (w.slot, plan_sound j s b o k v x (sym pe ∙ w.planned), lent_room s b m n l le w.lent)
-
--- the slot of a job that is admitted is the one that was free
-pub admitted_at : (b : Blockers) (bounce : ℕ) (v : IoVector) (memory scratch : List ℕ) (l : Outcome) (t : Bool) (plan : Plan) (met : Bool) (f : ℕ) (q : Plan) → q ≡ decided_of l t plan met f
-    → (j : Admission) → Ok (Some j) ≡ admission (admit_at b f bounce v memory scratch q) → j.slot < 8
-admitted_at b bounce v memory scratch l t plan met f NothingToDo e j g = absurd (let z : ◌≡◌ {A = ℕ} 0 1 = cc in omega arith)
-admitted_at b bounce v memory scratch l t plan met f (PlanRefused r) e j g = absurd (let z : ◌≡◌ {A = ℕ} 0 1 = cc in omega arith)
-admitted_at b bounce v memory scratch l t plan met f (Started x) e j g = there (enter_at b f (f * bounce) x v memory scratch).outcome g
-  where
-    there : (o : Outcome) → Ok (Some j) ≡ admission (admit_by o b f x (enter_at b f (f * bounce) x v memory scratch)) → j.slot < 8
-    there Done k = let w : record { slot = f; blockers = (enter_at b f (f * bounce) x v memory scratch).blockers; state = x } ≡ j = cc in
-        let u : f ≡ j.slot = ap (λ (z : Admission). z.slot) w in omega (arith, (started l t plan met f x (sym e)).slot)
-    there (Refused r) k = absurd (let z : ◌≡◌ {A = ℕ} 0 1 = cc in omega arith)
 
 -- where the blocker does not enter or its bytes are not filled, that is the answer
 pub admit_err : (b : Blockers) (p : ℕ) (x : State) (e : Entering) (r : Refusal) (s : List ℕ) → EnterGives e (Err r) s → AdmitGives (admit_by e.outcome b p x e) (Err r) s

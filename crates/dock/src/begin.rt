@@ -5,7 +5,7 @@ ghost use Rattle.dock.specs.Begin.{plan_of, begin_of, enter_at, EnterGives, deci
 ghost use Rattle.blockers.specs.Blockers.{changed};
 ghost use Rattle.vectors.specs.Vectors.{alignment_of};
 
-use crate::bytes::fill;
+use crate::bytes::Place;
 use crate::dock::{Dock, SLOTS, check_lent, first_free, meets, meets_itself};
 use arithmetic::offsets::StoreOffset;
 use arithmetic::refusals::{Outcome, Refusal};
@@ -171,24 +171,24 @@ fn enter_blocker(b: Blockers, slot: usize, x: State) -> Result<Blockers, Refusal
     b.weak_write_blocker(slot, range)
 }
 
-// The job x comes to its stage in `slot`: its blocker enters, its bytes are filled where it reads nothing first.
-#[tactic(auto, unfolding(crate::specs::Begin::enter_at))]
-pub(crate) fn enter(
-    b: Blockers,
-    slot: usize,
-    share: usize,
-    x: State,
-    v: IoVector,
-    data: &[u8],
-    scratch: &mut [u8],
-) -> Result<Blockers, Refusal>
-    requires { InShare share x (length scratch.old) }
-    ensures { EnterGives (enter_at b slot share x v «data».now scratch.old) result scratch.new }
-{
-    let blockers = enter_blocker(b, slot, x)?;
-    match fill(share, x, v, data, scratch) {
-        Outcome::Done => Ok(blockers),
-        Outcome::Refused(r) => Err(r),
+impl Place {
+    // The job x comes to its stage: its blocker enters, its bytes are filled where it reads nothing first.
+    #[tactic(auto, unfolding(crate::specs::Begin::enter_at))]
+    pub(crate) fn enter(
+        &self,
+        b: Blockers,
+        x: State,
+        data: &[u8],
+        scratch: &mut [u8],
+    ) -> Result<Blockers, Refusal>
+        requires { InShare self.now.share x (length scratch.old) }
+        ensures { EnterGives (enter_at b self.now.slot self.now.share x self.now.vector «data».now scratch.old) result scratch.new }
+    {
+        let blockers = enter_blocker(b, self.slot, x)?;
+        match self.fill(x, data, scratch) {
+            Outcome::Done => Ok(blockers),
+            Outcome::Refused(r) => Err(r),
+        }
     }
 }
 
@@ -210,8 +210,12 @@ fn admit(
         Plan::Refused(r) => return Err(r),
         Plan::Started(x) => x,
     };
-    let share = slot * bounce as usize;
-    let blockers = enter(b, slot, share, state, v, data, scratch)?;
+    let place = Place {
+        slot,
+        share: slot * bounce as usize,
+        vector: v,
+    };
+    let blockers = place.enter(b, state, data, scratch)?;
     Ok(Some(Admission {
         slot,
         blockers,

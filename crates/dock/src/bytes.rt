@@ -1,8 +1,10 @@
 // What is copied between the data and a slot's share of the scratch.
-ghost use Rattle.std.specs.Prelude.{◌≡◌, ◌+◌, ◌≤◌, length};
+ghost use Rattle.std.specs.Prelude.{◌≡◌, ◌+◌, ◌*◌, ◌≤◌, length, Some, None};
+ghost use Rattle.arithmetic.specs.Rounding.{pick};
 ghost use Rattle.dock.specs.Begin.{is_write_job, is_bounced_write, fills, merged_at, filled, InShare};
 ghost use Rattle.dock.specs.Tell.{is_bounced_read, hands, copied_at, handed};
 ghost use Rattle.dock.specs.Slots.{filled_share, handed_share};
+ghost use Rattle.dock.specs.Next.{is_sound_at};
 
 use crate::next::is_sound_at;
 use arithmetic::refusals::{Outcome, Refusal};
@@ -48,20 +50,6 @@ fn merge(start: usize, n: usize, job: Job, v: IoVector, data: &[u8], scratch: &m
     Outcome::Done
 }
 
-// As a job comes to its write from the bounce buffer, the asked part of its share, which starts at `share`, is filled.
-#[tactic(auto, unfolding(crate::specs::Begin::filled))]
-pub(crate) fn fill(share: usize, x: State, v: IoVector, data: &[u8], scratch: &mut [u8]) -> Outcome
-    requires { InShare share x (length scratch.old) }
-    ensures { fills result scratch.new ≡ filled share x v «data».now scratch.old }
-{
-    if !is_bounced_write(x.phase) {
-        return Outcome::Done;
-    }
-    let start = share + x.stage.head.0;
-    let n = size(x.stage.asked) as usize;
-    merge(start, n, x.job, v, data, scratch)
-}
-
 // n bytes of the scratch from `start` on into the vector's segments.
 #[tactic(auto, unfolding(crate::specs::Tell::copied_at))]
 fn copy_out(start: usize, n: usize, v: IoVector, data: &mut [u8], scratch: &[u8]) -> Outcome
@@ -76,25 +64,59 @@ fn copy_out(start: usize, n: usize, v: IoVector, data: &mut [u8], scratch: &[u8]
     Outcome::Done
 }
 
-// As a padded read ends with 0, its asked bytes are copied out of its share, which starts at `share`.
-#[tactic(auto, unfolding(crate::specs::Tell::handed))]
-pub(crate) fn hand_out(
-    share: usize,
-    x: State,
-    code: u8,
-    v: IoVector,
-    data: &mut [u8],
-    scratch: &[u8],
-) -> Outcome
-    requires { InShare share x (length scratch.now) }
-    ensures { hands result «data».new ≡ handed share x code v «data».old scratch.now }
-{
-    if !is_bounced_read(x.phase) || code != 0 {
-        return Outcome::Done;
+// Where a job is: its slot, where the slot's share of the scratch starts, and its vector, as long as it runs. That its bytes lie in the
+// scratch is asked by each method below (`InShare`) and is no invariant: the scratch comes with each call.
+#[derive(Clone, Copy)]
+pub(crate) struct Place {
+    pub slot: usize,
+    pub share: usize,
+    pub vector: IoVector,
+}
+
+impl Place {
+    // As the job comes to its write from the bounce buffer, the asked part of its share is filled.
+    #[tactic(auto, unfolding(crate::specs::Begin::filled))]
+    pub(crate) fn fill(&self, x: State, data: &[u8], scratch: &mut [u8]) -> Outcome
+        requires { InShare self.now.share x (length scratch.old) }
+        ensures { fills result scratch.new ≡ filled self.now.share x self.now.vector «data».now scratch.old }
+    {
+        if !is_bounced_write(x.phase) {
+            return Outcome::Done;
+        }
+        let start = self.share + x.stage.head.0;
+        let n = size(x.stage.asked) as usize;
+        merge(start, n, x.job, self.vector, data, scratch)
     }
-    let start = share + x.stage.head.0;
-    let n = size(x.stage.asked) as usize;
-    copy_out(start, n, v, data, scratch)
+
+    // As a padded read ends with 0, its asked bytes are copied out of its share.
+    #[tactic(auto, unfolding(crate::specs::Tell::handed))]
+    pub(crate) fn hand_out(&self, x: State, code: u8, data: &mut [u8], scratch: &[u8]) -> Outcome
+        requires { InShare self.now.share x (length scratch.now) }
+        ensures { hands result «data».new ≡ handed self.now.share x code self.now.vector «data».old scratch.now }
+    {
+        if !is_bounced_read(x.phase) || code != 0 {
+            return Outcome::Done;
+        }
+        let start = self.share + x.stage.head.0;
+        let n = size(x.stage.asked) as usize;
+        copy_out(start, n, self.vector, data, scratch)
+    }
+}
+
+// Where the share of `slot` starts, if the bytes of the job x lie in it and it lies in the scratch.
+fn share_of(
+    slot: usize,
+    settings: Settings,
+    buffers: Buffers,
+    x: State,
+    scratch_len: usize,
+) -> Option<usize>
+    ensures { result ≡ pick (is_sound_at slot x settings buffers scratch_len) (Some (slot * settings.bounce)) None }
+{
+    if !is_sound_at(slot, x, settings, buffers, scratch_len) {
+        return None;
+    }
+    Some(slot * settings.bounce as usize)
 }
 
 // What `fill` does in the share of `slot`, for any job: refused (208) where its bytes do not lie there.
@@ -113,11 +135,15 @@ pub fn fill_share(
     if !is_bounced_write(x.phase) {
         return Outcome::Done;
     }
-    if !is_sound_at(slot, x, settings, buffers, scratch.len()) {
+    let Some(share) = share_of(slot, settings, buffers, x, scratch.len()) else {
         return Outcome::Refused(Refusal::Slot);
-    }
-    let share = slot * settings.bounce as usize;
-    fill(share, x, v, data, scratch)
+    };
+    let place = Place {
+        slot,
+        share,
+        vector: v,
+    };
+    place.fill(x, data, scratch)
 }
 
 // What `hand_out` does with the share of `slot`, for any job: refused (208) where its bytes do not lie there.
@@ -138,9 +164,13 @@ pub fn hand_out_share(
     if !is_bounced_read(x.phase) || code != 0 {
         return Outcome::Done;
     }
-    if !is_sound_at(slot, x, settings, buffers, scratch.len()) {
+    let Some(share) = share_of(slot, settings, buffers, x, scratch.len()) else {
         return Outcome::Refused(Refusal::Slot);
-    }
-    let share = slot * settings.bounce as usize;
-    hand_out(share, x, code, v, data, scratch)
+    };
+    let place = Place {
+        slot,
+        share,
+        vector: v,
+    };
+    place.hand_out(x, code, data, scratch)
 }

@@ -6,8 +6,7 @@ ghost use Rattle.dock.specs.Tell.{enters_at, stepped_at, answered_of, told_in};
 ghost use Rattle.blockers.specs.Blockers.{changed};
 ghost use Rattle.dock.specs.Dock.{lent_fits};
 
-use crate::begin::enter;
-use crate::bytes::{fill, hand_out};
+use crate::bytes::Place;
 use crate::dock::{Dock, SLOTS, lent_fits};
 use crate::next::{is_out, is_sound_in};
 use crate::open::make_vacant;
@@ -63,89 +62,87 @@ fn leave_blocker(b: Blockers, slot: usize, x: State) -> Result<Blockers, Refusal
     b.leave(slot)
 }
 
-// The job goes on in its stage: once its reads are done, its vector is copied in.
-fn stays(
-    b: Blockers,
-    share: usize,
-    y: State,
-    v: IoVector,
-    data: &[u8],
-    scratch: &mut [u8],
-) -> Result<Stepping, Refusal>
-    requires { InShare share y (length scratch.old) }
-    ensures { StepGives (stays_at b share y v «data».now scratch.old) result «data».now scratch.new }
-{
-    match fill(share, y, v, data, scratch) {
-        Outcome::Done => Ok(Stepping {
-            blockers: b,
-            state: y,
-        }),
-        Outcome::Refused(r) => Err(r),
+impl Place {
+    // The job goes on in its stage: once its reads are done, its vector is copied in.
+    fn stays(
+        &self,
+        b: Blockers,
+        y: State,
+        data: &[u8],
+        scratch: &mut [u8],
+    ) -> Result<Stepping, Refusal>
+        requires { InShare self.now.share y (length scratch.old) }
+        ensures { StepGives (stays_at b self.now.share y self.now.vector «data».now scratch.old) result «data».now scratch.new }
+    {
+        match self.fill(y, data, scratch) {
+            Outcome::Done => Ok(Stepping {
+                blockers: b,
+                state: y,
+            }),
+            Outcome::Refused(r) => Err(r),
+        }
     }
-}
 
-// The job x ends as y: its blocker leaves, and a padded read's bytes are copied out.
-#[tactic(auto, unfolding(crate::specs::Tell::ends_at))]
-fn ends(
-    b: Blockers,
-    slot: usize,
-    share: usize,
-    x: State,
-    code: u8,
-    y: State,
-    v: IoVector,
-    data: &mut [u8],
-    scratch: &[u8],
-) -> Result<Stepping, Refusal>
-    requires { InShare share x (length scratch.now) }
-    ensures { StepGives (ends_at b slot share x code y v «data».old scratch.now) result «data».new scratch.now }
-{
-    let blockers = leave_blocker(b, slot, x)?;
-    match hand_out(share, x, code, v, data, scratch) {
-        Outcome::Done => Ok(Stepping { blockers, state: y }),
-        Outcome::Refused(r) => Err(r),
+    // The job x ends as y: its blocker leaves, and a padded read's bytes are copied out.
+    #[tactic(auto, unfolding(crate::specs::Tell::ends_at))]
+    fn ends(
+        &self,
+        b: Blockers,
+        x: State,
+        code: u8,
+        y: State,
+        data: &mut [u8],
+        scratch: &[u8],
+    ) -> Result<Stepping, Refusal>
+        requires { InShare self.now.share x (length scratch.now) }
+        ensures { StepGives (ends_at b self.now.slot self.now.share x code y self.now.vector «data».old scratch.now) result
+            «data».new scratch.now }
+    {
+        let blockers = leave_blocker(b, self.slot, x)?;
+        match self.hand_out(x, code, data, scratch) {
+            Outcome::Done => Ok(Stepping { blockers, state: y }),
+            Outcome::Refused(r) => Err(r),
+        }
     }
-}
 
-// The job x enters its next stage as y: its blocker leaves first, then the next one enters and notes all that are entered then.
-#[tactic(auto, unfolding(crate::specs::Tell::enters_at))]
-fn enters(
-    b: Blockers,
-    slot: usize,
-    share: usize,
-    x: State,
-    y: State,
-    v: IoVector,
-    data: &[u8],
-    scratch: &mut [u8],
-) -> Result<Stepping, Refusal>
-    requires { InShare share y (length scratch.old) }
-    ensures { StepGives (enters_at b slot share x y v «data».now scratch.old) result «data».now scratch.new }
-{
-    let left = leave_blocker(b, slot, x)?;
-    let blockers = enter(left, slot, share, y, v, data, scratch)?;
-    Ok(Stepping { blockers, state: y })
-}
+    // The job x enters its next stage as y: its blocker leaves first, then the next one enters and notes all that are entered then.
+    #[tactic(auto, unfolding(crate::specs::Tell::enters_at))]
+    fn enters(
+        &self,
+        b: Blockers,
+        x: State,
+        y: State,
+        data: &[u8],
+        scratch: &mut [u8],
+    ) -> Result<Stepping, Refusal>
+        requires { InShare self.now.share y (length scratch.old) }
+        ensures { StepGives (enters_at b self.now.slot self.now.share x y self.now.vector «data».now scratch.old) result
+            «data».now scratch.new }
+    {
+        let left = leave_blocker(b, self.slot, x)?;
+        let blockers = self.enter(left, y, data, scratch)?;
+        Ok(Stepping { blockers, state: y })
+    }
 
-// The job x after its step.
-fn take_step(
-    b: Blockers,
-    slot: usize,
-    share: usize,
-    x: State,
-    code: u8,
-    step: Step,
-    v: IoVector,
-    data: &mut [u8],
-    scratch: &mut [u8],
-) -> Result<Stepping, Refusal>
-    requires { InShare share x (length scratch.old) × StepInShare share (length scratch.old) step }
-    ensures { StepGives (stepped_at b slot share x code v «data».old scratch.old step) result «data».new scratch.new }
-{
-    match step {
-        Step::Stays(y) => stays(b, share, y, v, data, scratch),
-        Step::Ends(y) => ends(b, slot, share, x, code, y, v, data, scratch),
-        Step::Enters(y) => enters(b, slot, share, x, y, v, data, scratch),
+    // The job x after its step.
+    fn take_step(
+        &self,
+        b: Blockers,
+        x: State,
+        code: u8,
+        step: Step,
+        data: &mut [u8],
+        scratch: &mut [u8],
+    ) -> Result<Stepping, Refusal>
+        requires { InShare self.now.share x (length scratch.old) × StepInShare self.now.share (length scratch.old) step }
+        ensures { StepGives (stepped_at b self.now.slot self.now.share x code self.now.vector «data».old scratch.old step) result
+            «data».new scratch.new }
+    {
+        match step {
+            Step::Stays(y) => self.stays(b, y, data, scratch),
+            Step::Ends(y) => self.ends(b, x, code, y, data, scratch),
+            Step::Enters(y) => self.enters(b, x, y, data, scratch),
+        }
     }
 }
 
@@ -182,19 +179,13 @@ impl Dock {
         }
         match interpret_code(x, self.settings, code) {
             Answered::Refused(r) => Err(r),
-            Answered::Leads(t) => {
-                let share = slot * self.settings.bounce as usize;
-                take_step(
-                    b,
+            Answered::Leads(step) => {
+                let place = Place {
                     slot,
-                    share,
-                    x,
-                    code,
-                    t,
-                    self.vectors[slot],
-                    data,
-                    scratch,
-                )
+                    share: slot * self.settings.bounce as usize,
+                    vector: self.vectors[slot],
+                };
+                place.take_step(b, x, code, step, data, scratch)
             }
         }
     }

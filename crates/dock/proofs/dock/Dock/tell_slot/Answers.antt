@@ -9,8 +9,8 @@ use Rattle.dock.proofs.Steps.{sound_room, leads_in_share}
 use Rattle.dock.proofs.Merging.{in_share}
 use Rattle.dock.proofs.dock.Dock.tell_slot.Goals as goal
 
-pub overflow_mul-share : goal.overflow_mul-share
-overflow_mul-share c = let a = c.args in let d = a.self.now in
+pub overflow_mul-place : goal.overflow_mul-place
+overflow_mul-place c = let a = c.args in let d = a.self.now in
     omega (arith, share_sound a.slot (state_at d a.slot) d.settings d.buffers (length a.«data».now) (length a.scratch.now) c.requires.0 c.requires.1 (sym c.is_sound_in.ensures ∙ c.if-not-is_sound_in.false), c.well_formed)
 
 pub take_step-requires : goal.take_step-requires
