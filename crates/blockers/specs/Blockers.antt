@@ -1,16 +1,18 @@
 -- Document 01, "Blockers": who notes whom, and who waits.
-use Rattle.std.specs.Prelude.{Bool, true, false, ◌&&◌, not, List, [], map, ℕ, ltb, get_or, set, replicate}
+use Rattle.std.specs.Prelude.{Result, Ok, Err, Bool, true, false, ◌&&◌, not, List, [], map, ℕ, ltb, get_or, set, replicate}
 use Rattle.arithmetic.specs.Rounding.{pick}
 use Rattle.arithmetic.specs.Loops.{any_below}
 use Rattle.arithmetic.specs.Offsets.{range_of}
 use Rattle.arithmetic.specs.declared.offsets.Range.{Range}
+use Rattle.arithmetic.specs.Refusals.{when_done}
+use Rattle.arithmetic.specs.declared.refusals.Refusal.{Refusal}
 use Rattle.arithmetic.specs.declared.refusals.Refusal.TheVariants.{Slot}
+use Rattle.arithmetic.specs.declared.refusals.Outcome.{Outcome}
 use Rattle.arithmetic.specs.declared.refusals.Outcome.TheVariants.{Done, Refused}
 use Rattle.blockers.specs.declared.Kind.{Kind}
 use Rattle.blockers.specs.declared.Kind.TheVariants.{Absent, Weak, Strong}
 use Rattle.blockers.specs.declared.Blocker.{Blocker}
 use Rattle.blockers.specs.declared.Blockers.{Blockers}
-use Rattle.blockers.specs.declared.Changed.{Changed}
 
 -- "Ranges overlap when each starts before the other ends"
 unfoldable pub overlaps : Range → Range → Bool
@@ -59,6 +61,15 @@ blocker_at b p = get_or b.slots p nowhere
 
 unfoldable pub no_blockers : Blockers
 no_blockers = record { slots = replicate 8 vacant }
+
+-- the blockers after a call, and whether it was carried out
+pub record Changed : Type 0 where
+  pub blockers : Blockers
+  pub outcome : Outcome
+
+-- what such a call answers: an error leaves the caller with the blockers that it had
+abbrev pub changed : Changed → Result Blockers Refusal
+changed c = when_done c.outcome (Ok c.blockers) Err
 
 abbrev pub refused : Blockers → Changed
 refused b = record { blockers = b; outcome = Refused Slot }

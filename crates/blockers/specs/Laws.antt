@@ -15,9 +15,8 @@ use Rattle.blockers.specs.declared.Kind.{Kind}
 use Rattle.blockers.specs.declared.Kind.TheVariants.{Absent, Weak, Strong}
 use Rattle.blockers.specs.declared.Blocker.{Blocker}
 use Rattle.blockers.specs.declared.Blockers.{Blockers}
-use Rattle.blockers.specs.declared.Changed.{Changed}
 use Rattle.blockers.specs.Blockers.{overlaps, present, is_entered, conflict, notes, notes_of, vacant, nowhere, blocker_at, no_blockers}
-use Rattle.blockers.specs.Blockers.{refused, changed_to, entered_of, forgetting, left_of, has_noted, waits_of}
+use Rattle.blockers.specs.Blockers.{Changed, refused, changed_to, entered_of, forgetting, left_of, has_noted, waits_of}
 use Rattle.blockers.specs.Reached.{Meet, Entered, Reached}
 
 -- ---- ranges

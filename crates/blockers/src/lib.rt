@@ -3,14 +3,15 @@
 #![tactic(auto)]
 
 ghost use Rattle.std.specs.Prelude.{map, ◌≡◌, ◌<◌};
-ghost use Rattle.blockers.specs.Blockers.{overlaps, is_entered, conflict, notes, notes_of, vacant, no_blockers, forgetting, refused};
+ghost use Rattle.blockers.specs.Blockers.{overlaps, is_entered, conflict, notes, notes_of, vacant, no_blockers, forgetting, changed};
 ghost use Rattle.blockers.specs.Blockers.{entered_of, left_of, waits_of, strength};
 
 use arithmetic::offsets::{Range, StoreOffset};
-use arithmetic::refusals::{Outcome, Refusal};
+use arithmetic::refusals::Refusal;
 
-// What stands in a slot.
-#[derive(Clone, Copy)]
+// What stands in a slot. Not an Option of the two kinds: any words are a blocker, and those of an absent one have a range and notes
+// too (`blocker_of`, specs/View.antt of crate dock_words).
+#[derive(Clone, Copy, PartialEq, Eq)]
 pub enum Kind {
     Absent,
     Weak,
@@ -30,24 +31,14 @@ pub struct Blockers {
     pub slots: [Blocker; 8],
 }
 
-// The blockers after a call, and whether it was carried out.
-#[derive(Clone, Copy)]
-pub struct Changed {
-    pub blockers: Blockers,
-    pub outcome: Outcome,
-}
-
 const SLOTS: usize = 8;
 
 // Whether two ranges overlap: each starts before the other ends.
+#[tactic(auto, unfolding(crate::specs::Blockers::overlaps))]
 pub fn range_overlaps(a: Range, b: Range) -> bool
     ensures { result ≡ overlaps a b }
 {
-    let a_start = a.start;
-    let a_end = a.end;
-    let b_start = b.start;
-    let b_end = b.end;
-    (a_start.0 < b_end.0) & (b_start.0 < a_end.0)
+    (a.start.0 < b.end.0) & (b.start.0 < a.end.0)
 }
 
 // The kind of one that is strong, or is not.
@@ -58,22 +49,14 @@ pub fn strength(strong: bool) -> Kind
 }
 
 // Whether a blocker of kind `entering` notes an overlapping one of kind `there`: not where both are weak.
+#[tactic(auto, unfolding(crate::specs::Blockers::conflict))]
 pub fn conflicts(entering: Kind, there: Kind) -> bool
     ensures { result ≡ conflict entering there }
 {
-    match entering {
-        Kind::Absent => false,
-        Kind::Weak => match there {
-            Kind::Absent => false,
-            Kind::Weak => false,
-            Kind::Strong => true,
-        },
-        Kind::Strong => match there {
-            Kind::Absent => false,
-            Kind::Weak => true,
-            Kind::Strong => true,
-        },
-    }
+    matches!(
+        (entering, there),
+        (Kind::Weak, Kind::Strong) | (Kind::Strong, Kind::Weak) | (Kind::Strong, Kind::Strong)
+    )
 }
 
 // No blocker.
@@ -90,37 +73,23 @@ pub fn make_vacant() -> Blocker
     }
 }
 
-fn refuse(b: Blockers) -> Changed
-    ensures { result ≡ refused b }
-{
-    Changed {
-        blockers: b,
-        outcome: Outcome::Refused(Refusal::Slot),
-    }
-}
-
 impl Blocker {
     fn is_entered(self) -> bool
         ensures { result ≡ is_entered self }
     {
-        let kind = self.kind;
-        match kind {
-            Kind::Absent => false,
-            Kind::Weak => true,
-            Kind::Strong => true,
-        }
+        self.kind != Kind::Absent
     }
 
     // Whether a blocker of this kind over `range` that enters now must wait for this one.
+    #[tactic(auto, unfolding(crate::specs::Blockers::notes))]
     fn is_noted(self, kind: Kind, range: Range) -> bool
         ensures { result ≡ notes kind range self }
     {
-        let there = self.kind;
-        let own = self.range;
-        conflicts(kind, there) & range_overlaps(own, range)
+        conflicts(kind, self.kind) & range_overlaps(self.range, range)
     }
 
     // The blocker without `slot` among those that it noted.
+    #[tactic(auto, unfolding(crate::specs::Blockers::forgetting))]
     fn forget_slot(mut self, slot: usize) -> Blocker
         requires { slot < 8 }
         ensures { result ≡ forgetting slot self }
@@ -132,6 +101,7 @@ impl Blocker {
 
 impl Blockers {
     // No blocker entered.
+    #[tactic(auto, unfolding(crate::specs::Blockers::no_blockers))]
     pub fn new() -> Blockers
         ensures { result ≡ no_blockers }
     {
@@ -143,85 +113,56 @@ impl Blockers {
     fn notes(self, kind: Kind, range: Range) -> [bool; 8]
         ensures { result ≡ notes_of kind range self }
     {
-        let mut noted = [false; 8];
-        let mut i = 0;
-        while i < SLOTS {
-            let b = self.slots[i];
-            let n = b.is_noted(kind, range);
-            noted[i] = n;
-            i += 1;
-        }
-        noted
+        self.slots.map(|b| b.is_noted(kind, range))
     }
 
-    fn enter(mut self, kind: Kind, slot: usize, range: Range) -> Changed
-        ensures { result ≡ entered_of kind slot range self }
+    #[tactic(auto, unfolding(crate::specs::Blockers::entered_of))]
+    fn enter(mut self, kind: Kind, slot: usize, range: Range) -> Result<Blockers, Refusal>
+        ensures { result ≡ changed (entered_of kind slot range self) }
     {
-        if SLOTS <= slot {
-            return refuse(self);
-        }
-        let there = self.slots[slot];
-        if there.is_entered() {
-            return refuse(self);
+        if SLOTS <= slot || self.slots[slot].is_entered() {
+            return Err(Refusal::Slot);
         }
         let noted = self.notes(kind, range);
-        self.slots[slot] = Blocker {
-            kind: kind,
-            range: range,
-            noted: noted,
-        };
-        Changed {
-            blockers: self,
-            outcome: Outcome::Done,
-        }
+        self.slots[slot] = Blocker { kind, range, noted };
+        Ok(self)
     }
 
     // Enter a weak blocker: it waits for every overlapping strong one. Refused (208) past slot 7 and where one is entered.
-    pub fn weak_write_blocker(self, slot: usize, range: Range) -> Changed
-        ensures { result ≡ entered_of Kind.Weak slot range self }
+    pub fn weak_write_blocker(self, slot: usize, range: Range) -> Result<Blockers, Refusal>
+        ensures { result ≡ changed (entered_of Kind.Weak slot range self) }
     {
         self.enter(Kind::Weak, slot, range)
     }
 
     // Enter a strong blocker: it waits for every overlapping one. Refused (208) past slot 7 and where one is entered.
-    pub fn strong_write_blocker(self, slot: usize, range: Range) -> Changed
-        ensures { result ≡ entered_of Kind.Strong slot range self }
+    pub fn strong_write_blocker(self, slot: usize, range: Range) -> Result<Blockers, Refusal>
+        ensures { result ≡ changed (entered_of Kind.Strong slot range self) }
     {
         self.enter(Kind::Strong, slot, range)
     }
 
     // The blockers, none of which notes `slot`.
-    fn forget(mut self, slot: usize) -> Blockers
+    fn forget(self, slot: usize) -> Blockers
         requires { slot < 8 }
         ensures { result.slots ≡ map (forgetting slot) self.slots }
     {
-        let mut i = 0;
-        while i < SLOTS {
-            let b = self.slots[i];
-            let c = b.forget_slot(slot);
-            self.slots[i] = c;
-            i += 1;
+        Blockers {
+            slots: self.slots.map(|b| b.forget_slot(slot)),
         }
-        self
     }
 
     // The slot's blocker is gone, and nobody notes it any more. Refused (208) past slot 7 and where none is entered.
-    pub fn leave(self, slot: usize) -> Changed
-        ensures { result ≡ left_of slot self }
+    #[tactic(auto, unfolding(crate::specs::Blockers::left_of))]
+    pub fn leave(self, slot: usize) -> Result<Blockers, Refusal>
+        ensures { result ≡ changed (left_of slot self) }
     {
-        if SLOTS <= slot {
-            return refuse(self);
-        }
-        let there = self.slots[slot];
-        if !there.is_entered() {
-            return refuse(self);
+        if SLOTS <= slot || !self.slots[slot].is_entered() {
+            return Err(Refusal::Slot);
         }
         let mut rest = self.forget(slot);
         rest.slots[slot] = make_vacant();
-        Changed {
-            blockers: rest,
-            outcome: Outcome::Done,
-        }
+        Ok(rest)
     }
 
     // Whether the slot's blocker waits: one that it noted is still there. Past slot 7 none waits.
@@ -232,14 +173,10 @@ impl Blockers {
             return false;
         }
         let own = self.slots[slot];
-        let mut i = 0;
-        while i < SLOTS {
-            let other = self.slots[i];
-            let there = other.is_entered();
-            if own.noted[i] & there {
+        for (i, other) in self.slots.iter().enumerate() {
+            if own.noted[i] & other.is_entered() {
                 return true;
             }
-            i += 1;
         }
         false
     }

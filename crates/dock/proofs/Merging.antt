@@ -13,18 +13,15 @@ use Rattle.arithmetic.specs.Rounding.{pick}
 use Rattle.arithmetic.specs.SettingsLaws.{and_left, and_right}
 use Rattle.arithmetic.specs.declared.refusals.Outcome.{Outcome}
 use Rattle.arithmetic.specs.declared.refusals.Outcome.TheVariants.{Done}
-use Rattle.vectors.specs.Vectors.{put, bytes_of, segments_of, copies, is_valid, outcome_of, scatter_of}
+use Rattle.vectors.specs.Vectors.{put, bytes_of, segments_of, copies, is_valid, outcome_of}
 use Rattle.vectors.specs.ByteLaws.{bytes_length}
 use Rattle.vectors.specs.SegmentLaws.{valid}
 use Rattle.vectors.specs.declared.vector.IoVector.{IoVector}
 use Rattle.stages.specs.Stages.{size_of, uses_bounce, lies_in, is_sound, second_at}
 use Rattle.stages.specs.declared.state.Job.{Job}
 use Rattle.stages.specs.declared.state.State.{State}
-use Rattle.stages.specs.declared.state.Phase.{Phase}
-use Rattle.stages.specs.declared.state.Phase.TheVariants.{Free, Ended, DirectRead, BouncedRead, FirstRead, SecondRead, BouncedWrite, DirectWrite, ZeroRequest, DiscardRequest}
 use Rattle.dock.proofs.SlotsOf.{share_in}
-use Rattle.dock.specs.Begin.{fills, is_write_job, is_bounced_write, source_of, source_fits, merged_at, filled, InShare}
-use Rattle.dock.specs.Tell.{hands, copied_at, is_bounced_read, handed}
+use Rattle.dock.specs.Begin.{fills, is_write_job, source_of, source_fits, merged_at, InShare}
 
 -- a lent part put back
 back : (l : List ℕ) (a n : ℕ) (ys : List ℕ) → length ys ≡ n → put_mid a (a + n - a) l ys ≡ put l a ys
@@ -75,25 +72,6 @@ module _ (a n : ℕ) (j : Job) (v : IoVector) (memory scratch : List ℕ) (h : a
       let p2 : ys ≡ replicate n 0 = rw (part_long scratch a n h) at p1 in
       rw (p2, back scratch a n (replicate n 0) (length-replicate n 0)) (simp w)
 
--- n bytes of the scratch into the segments
-pub copied_out_lem : (a n : ℕ) (v : IoVector) (memory scratch : List ℕ) → a + n ≤ length scratch → (r : Outcome) (ys : List ℕ)
-    → r ≡ outcome_of (copies memory v (length (take (a + n - a) (drop a scratch))))
-    → ys ≡ pick (copies memory v (length (take (a + n - a) (drop a scratch)))) (scatter_of memory (segments_of v) (take (a + n - a) (drop a scratch))) memory
-    → hands r ys ≡ copied_at a n v memory scratch
-unfolding copied_at
-copied_out_lem a n v memory scratch h r ys p q =
-    let k : a + n - a ≡ n = omega arith in
-    let p2 : r ≡ outcome_of (copies memory v (length (take n (drop a scratch)))) = rw k at p in
-    let q2 : ys ≡ pick (copies memory v (length (take n (drop a scratch)))) (scatter_of memory (segments_of v) (take n (drop a scratch))) memory = rw k at q in
-    let p3 : r ≡ outcome_of (copies memory v n) = rw (part_long scratch a n h) at p2 in
-    let q3 : ys ≡ pick (copies memory v n) (scatter_of memory (segments_of v) (take n (drop a scratch))) memory = rw (part_long scratch a n h) at q2 in
-    go (copies memory v n) refl p3 q3
-  where
-    go : (t : Bool) → copies memory v n ≡ t → r ≡ outcome_of t → ys ≡ pick t (scatter_of memory (segments_of v) (take n (drop a scratch))) memory
-        → hands r ys ≡ copied_at a n v memory scratch
-    go true c p q = rw (p, q) (simp c)
-    go false c p q = rw (p, q) (simp c)
-
 -- ---- a job's bytes lie in its share
 
 uses : (b : Bool) (t : Bool) → (not b || t) ≡ true → b ≡ true → t ≡ true
@@ -112,36 +90,3 @@ in_share p b x n h e k u =
     let t4 = leb (second_at g + size_of g.second) b in
     let m = leb-true (g.head.0 + size_of g.asked) b (and_left t1 t2 (and_left (t1 && t2) t3 (and_left (t1 && t2 && t3) t4 l))) in
     omega (arith, m, share_in p b h)
-
--- the phases that are copied out use the bounce buffer
-pub reads_use : (ph : Phase) → is_bounced_read ph ≡ true → uses_bounce ph ≡ true
-reads_use Free e = e
-reads_use Ended e = e
-reads_use DirectRead e = e
-reads_use BouncedRead e = refl
-reads_use FirstRead e = refl
-reads_use SecondRead e = refl
-reads_use BouncedWrite e = refl
-reads_use DirectWrite e = e
-reads_use ZeroRequest e = e
-reads_use DiscardRequest e = e
-
--- ---- what fill and hand_out give
-
-module _ (share : ℕ) (x : State) (v : IoVector) (memory scratch : List ℕ) where
-  pub filled_write : is_bounced_write x.phase ≡ true → filled share x v memory scratch ≡ merged_at (share + x.stage.head.0) (size_of x.stage.asked) x.job v memory scratch
-  unfolding filled
-  filled_write e = simp e
-
-  pub filled_none : is_bounced_write x.phase ≡ false → filled share x v memory scratch ≡ fills Done scratch
-  unfolding filled
-  filled_none e = simp e
-
-module _ (share : ℕ) (x : State) (code : ℕ) (v : IoVector) (memory scratch : List ℕ) where
-  pub handed_read : (is_bounced_read x.phase && eqb code 0) ≡ true → handed share x code v memory scratch ≡ copied_at (share + x.stage.head.0) (size_of x.stage.asked) v memory scratch
-  unfolding handed
-  handed_read e = simp e
-
-  pub handed_none : (is_bounced_read x.phase && eqb code 0) ≡ false → handed share x code v memory scratch ≡ hands Done memory
-  unfolding handed
-  handed_none e = simp e

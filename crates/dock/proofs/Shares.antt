@@ -1,6 +1,8 @@
 -- The bytes of a job that is sound in its slot lie in its share, and its share in the scratch. Assumes nothing.
-use mathlib.Core.Path.{◌≡◌}
-use mathlib.Core.Bool.{true, ◌&&◌}
+use mathlib.Core.Path.{◌≡◌, refl}
+use Rattle.std.specs.Prelude.{Some, None}
+use Rattle.arithmetic.specs.Rounding.{pick}
+use mathlib.Core.Bool.{Bool, true, false, ◌&&◌}
 use Prim.Native.Nat.{ℕ, ◌*◌, ◌+◌, ◌≤◌}
 use native.Mathlib.Omega.{arith}
 use lib.Dec.{ltb}
@@ -32,3 +34,11 @@ module _ (p : ℕ) (x : State) (s : Settings) (b : Buffers) (n : ℕ) (e : is_so
   pub sound_in_share : InShare (p * s.bounce) x n
   unfolding is_sound_at is_sound_in
   sound_in_share = in_share p s.bounce x n (ltb-true p 8 (and_left (ltb p 8) _ (and_left (ltb p 8 && is_sound_in x s b) _ e))) (sound_share x s b sound) (omega (arith, lent, leb-true (8 * s.bounce) b.scratch.length (and_right (is_sound s.bounce x) _ sound)))
+
+-- where a share was found, it is the slot's, and the job's bytes lie in it
+pub found_in_share : (p : ℕ) (x : State) (s : Settings) (b : Buffers) (n share : ℕ) → Some share ≡ pick (is_sound_at p x s b n) (Some (p * s.bounce)) None → InShare share x n
+found_in_share p x s b n share e = go (is_sound_at p x s b n) refl e
+  where
+    go : (t : Bool) → is_sound_at p x s b n ≡ t → Some share ≡ pick t (Some (p * s.bounce)) None → InShare share x n
+    go true k f = let w : share ≡ p * s.bounce = cc in rw w (sound_in_share p x s b n k)
+    go false k f = absurd (let z : ◌≡◌ {A = ℕ} 0 1 = cc in omega arith)

@@ -1,25 +1,21 @@
--- Laws on the slots: a slot's share of the scratch, and what a sound stage holds. Assumes nothing.
-use mathlib.Core.Path.{◌≡◌, refl, sym, ap, ◌∙◌}
-use mathlib.Core.Bool.{Bool, true, false, ◌&&◌, ◌||◌, not}
+-- Laws on a slot's share of the scratch, and on what a sound stage holds there. Assumes nothing.
+use mathlib.Core.Path.{◌≡◌, sym, ap, ◌∙◌}
+use mathlib.Core.Bool.{true, ◌&&◌, ◌||◌, not}
 use Prim.Native.Nat.{ℕ, suc, ◌+◌, ◌*◌, ◌/◌, ◌≤◌, ◌<◌}
 use native.Mathlib.Decide.{dec_le}
 use native.Mathlib.Nat.{mul-le-mul_right}
 use native.Mathlib.Omega.{arith}
 use lib.Dec.{leb, eqb}
-use borrow.Author.Tests.{leb-true, eqb-true, le-leb, lt-leb, lt-ltb, le-ltb}
-use Rattle.arithmetic.specs.Rounding.{pick}
+use borrow.Author.Tests.{leb-true, eqb-true, le-leb, lt-leb}
 use Rattle.arithmetic.specs.SettingsLaws.{and_right}
-use Rattle.arithmetic.specs.declared.refusals.Refusal.TheVariants.{Buffer, Slot}
 use Rattle.arithmetic.specs.declared.settings.Settings.{Settings}
 use Rattle.arithmetic.specs.declared.settings.Buffers.{Buffers}
 use Rattle.stages.specs.Stages.{size_of, uses_bounce, second_at, lies_in, is_sound}
 use Rattle.stages.specs.declared.state.Phase.{Phase}
 use Rattle.stages.specs.declared.state.Phase.TheVariants.{SecondRead}
 use Rattle.stages.specs.declared.state.State.{State}
-use Rattle.dock.specs.Dock.{lent_fits, is_out_by, is_out, state_at, vector_at}
-use Rattle.dock.specs.Next.{is_sound_in, is_sound_of, piece_in, piece_at, piece_of}
-use Rattle.dock.specs.declared.dock.Dock.{Dock}
-use Rattle.dock.specs.declared.next.Piece.TheVariants.{Refused as NoPiece}
+use Rattle.dock.specs.Dock.{lent_fits}
+use Rattle.dock.specs.Next.{is_sound_in}
 
 -- ---- shares
 
@@ -58,24 +54,3 @@ second_in n x e s =
     let l : lies_in n x.stage ≡ true = sym (ap (λ (ph : Phase). not (uses_bounce ph) || lies_in n x.stage) e) ∙ s in
     let k = leb-true (second_at x.stage + size_of x.stage.second) n (and_right (leb (x.stage.head.0 + size_of x.stage.asked) n && leb (size_of x.stage.request) n && leb (size_of x.stage.first) n) _ l) in
     omega arith
-
--- ---- a request's piece: 205, then 208 past the last slot, then the slot's
-
--- two tests, one after the other
-both : {A : Type 0} (a b : Bool) (k z : A) → pick a (pick b k z) z ≡ pick (a && b) k z
-both true b k z = refl
-both false b k z = refl
-
-module _ (d : Dock) (p i m n : ℕ) where
-  pub piece_unlent : lent_fits d.buffers m n ≡ false → NoPiece Buffer ≡ piece_of d p i m n
-  unfolding piece_of
-  piece_unlent f = simp f
-
-  module _ (f : lent_fits d.buffers m n ≡ true) where
-    pub piece_no_slot : 8 ≤ p → NoPiece Slot ≡ piece_of d p i m n
-    unfolding piece_of is_out
-    piece_no_slot h = simp (f, le-ltb p 8 h)
-
-    pub piece_there : p < 8 → piece_at d.blockers p d.settings d.buffers (state_at d p) (vector_at d p) i m ≡ piece_of d p i m n
-    unfolding piece_of is_out is_sound_of piece_in piece_at
-    piece_there h = simp (f, lt-ltb p 8 h) (both (is_out_by d.blockers (state_at d p) p) _ _ _)

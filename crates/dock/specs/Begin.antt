@@ -1,5 +1,5 @@
 -- Document 01, "Events": begin. What is filled in the scratch, what is entered, and the order of refusals.
-use Rattle.std.specs.Prelude.{◌≡◌, Result, Ok, Err, Bool, true, false, List, [], ℕ, ◌+◌, ◌*◌, ◌<◌, ◌≤◌, ltb, length, set, replicate}
+use Rattle.std.specs.Prelude.{Option, None, Some, Result, Ok, Err, ◌≡◌, Bool, true, false, List, [], ℕ, ◌+◌, ◌*◌, ◌<◌, ◌≤◌, ltb, length, set, replicate}
 use Rattle.arithmetic.specs.Rounding.{pick}
 use Rattle.arithmetic.specs.Refusals.{when_done}
 use Rattle.arithmetic.specs.declared.refusals.Refusal.{Refusal}
@@ -13,7 +13,7 @@ use Rattle.vectors.specs.Vectors.{put, bytes_of, segments_of, copies, is_valid, 
 use Rattle.vectors.specs.declared.vector.IoVector.{IoVector}
 use Rattle.blockers.specs.Blockers.{entered_of, strength}
 use Rattle.blockers.specs.declared.Blockers.{Blockers}
-use Rattle.blockers.specs.declared.Changed.{Changed}
+use Rattle.blockers.specs.Blockers.{Changed}
 use Rattle.stages.specs.Stages.{size_of, blocked_of, is_blocking, uses_bounce, is_sound, zero_job, read_plan, write_plan, zero_plan}
 use Rattle.stages.specs.Stages.{discard_plan}
 use Rattle.stages.specs.declared.state.Job.{Job}
@@ -109,6 +109,10 @@ pub record Entering : Type 0 where
 abbrev pub enters : Changed → List ℕ → Entering
 enters c s = record { blockers = c.blockers; outcome = c.outcome; scratch = s }
 
+-- a call answers r and leaves this scratch, as e has them
+abbrev pub EnterGives : Entering → Result Blockers Refusal → List ℕ → Type 0
+EnterGives e r scratch = (r ≡ when_done e.outcome (Ok e.blockers) Err) × (scratch ≡ e.scratch)
+
 unfoldable pub enter_at : Blockers → ℕ → ℕ → State → IoVector → List ℕ → List ℕ → Entering
 enter_at b p share x v memory scratch =
     when_done (blockers_with b p x).outcome
@@ -181,11 +185,21 @@ pub record Admits : Type 0 where
   pub state : State
   pub scratch : List ℕ
 
-abbrev pub admits : Admission → List ℕ → Admits
-admits a s = record { answer = a.answer; blockers = a.blockers; state = a.state; scratch = s }
+-- what a call answers that leaves the slot and the scratch so: none where there is no request to make
+abbrev pub admission_by : Begun → Blockers → State → Result (Option Admission) Refusal
+admission_by NoRequest b x = Ok None
+admission_by (Admitted p) b x = Ok (Some (record { slot = p; blockers = b; state = x }))
+admission_by (BeginRefused r) b x = Err r
 
-abbrev pub admit_none : Blockers → Begun → Admission
-admit_none b a = record { answer = a; blockers = b; state = vacant }
+abbrev pub admission : Admits → Result (Option Admission) Refusal
+admission a = admission_by a.answer a.blockers a.state
+
+-- a call answers r and leaves this scratch, as a has them
+abbrev pub AdmitGives : Admits → Result (Option Admission) Refusal → List ℕ → Type 0
+AdmitGives a r scratch = (r ≡ admission a) × (scratch ≡ a.scratch)
+
+abbrev pub admit_none : Blockers → Begun → List ℕ → Admits
+admit_none b a scratch = record { answer = a; blockers = b; state = vacant; scratch = scratch }
 
 -- A dock of no call's making may have a blocker where the slot is free: the begin is then refused, and changes nothing. No dock that calls
 -- made is refused so: MadeLaws of crate theorem_lists.
@@ -196,11 +210,11 @@ admit_by o b p x e =
       blockers = e.blockers;
       state = x;
       scratch = e.scratch;
-    }) (λ r. admits (admit_none b (BeginRefused r)) e.scratch)
+    }) (λ r. admit_none b (BeginRefused r) e.scratch)
 
 abbrev pub admit_at : Blockers → ℕ → ℕ → IoVector → List ℕ → List ℕ → Plan → Admits
-admit_at b p bounce v memory scratch NothingToDo = admits (admit_none b NoRequest) scratch
-admit_at b p bounce v memory scratch (PlanRefused r) = admits (admit_none b (BeginRefused r)) scratch
+admit_at b p bounce v memory scratch NothingToDo = admit_none b NoRequest scratch
+admit_at b p bounce v memory scratch (PlanRefused r) = admit_none b (BeginRefused r) scratch
 admit_at b p bounce v memory scratch (Started x) =
     admit_by (enter_at b p (p * bounce) x v memory scratch).outcome b p x (enter_at b p (p * bounce) x v memory scratch)
 

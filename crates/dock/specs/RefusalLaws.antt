@@ -26,7 +26,7 @@ use Rattle.dock.specs.Begin.{fills, is_bounced_write, source_of, source_fits, me
 use Rattle.dock.specs.Begin.{admit_by}
 use Rattle.dock.specs.Begin.{admit_at, Begins, with_job, stored_with, vector_for, decided_for, begin_of}
 use Rattle.dock.specs.Next.{is_sound_in}
-use Rattle.dock.specs.Tell.{hands, is_bounced_read, copied_at, handed, blockers_without, Stepped, steps, refused_step, ends_at, enters_by}
+use Rattle.dock.specs.Tell.{hands, is_bounced_read, copied_at, handed, blockers_without, Stepped, refused_step, ends_at, enters_by}
 use Rattle.dock.specs.Tell.{enters_at, stepped_at, answered_of, answered_by, told_at, Told, refused_tell, stored_by, stored, tell_of}
 use Rattle.dock.specs.Tell.{collect_of}
 use Rattle.dock.specs.declared.dock.Dock.{Dock}
@@ -131,7 +131,7 @@ module _ (b : Blockers) (p share : ℕ) (x : State) (code : ℕ) (v : IoVector) 
             memory = (handed share x code v memory scratch).memory;
             scratch = scratch;
           })
-          (λ s. steps (refused_step b x s) memory scratch))
+          (λ s. refused_step b x s memory scratch))
       go Done = λ r e. (handed_refused share x code v memory scratch r e, refl)
       go (Refused s) = λ r e. (refl, refl)
   step_unchanged (Enters y) = go (blockers_without b p x).outcome (blockers_with B p y).outcome
@@ -147,7 +147,7 @@ module _ (b : Blockers) (p share : ℕ) (x : State) (code : ℕ) (v : IoVector) 
             scratch = (filled share y v memory scratch).scratch;
           })
           (λ s. record { blockers = (blockers_with B p y).blockers; outcome = n; scratch = scratch })) y memory)
-          (λ s. steps (refused_step b x s) memory scratch))
+          (λ s. refused_step b x s memory scratch))
       go Done Done = λ r e. (refl, filled_refused share y v memory scratch r e)
       go Done (Refused s) = λ r e. (refl, refl)
       go (Refused s) n = λ r e. (refl, refl)
@@ -160,7 +160,7 @@ module _ (b : Blockers) (p share : ℕ) (x : State) (code : ℕ) (v : IoVector) 
       go : (a u : Bool)
           → StepUnchanged memory scratch (pick a (answered_by
           (pick u (Leads (told_of s x code)) (NoLead NoAnswer)) b p share x code v memory scratch)
-          (steps (refused_step b x Slot) memory scratch))
+          (refused_step b x Slot memory scratch))
       go true true = step_unchanged (told_of s x code)
       go true false = λ r e. (refl, refl)
       go false u = λ r e. (refl, refl)

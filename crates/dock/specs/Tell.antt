@@ -1,5 +1,5 @@
 -- Document 01, "Events": tell and collect.
-use Rattle.std.specs.Prelude.{◌≡◌, Bool, true, false, ◌&&◌, List, [], ℕ, ◌+◌, ◌*◌, ltb, eqb, length, take, drop, set}
+use Rattle.std.specs.Prelude.{Result, Ok, Err, ◌≡◌, Bool, true, false, ◌&&◌, List, [], ℕ, ◌+◌, ◌*◌, ltb, eqb, length, take, drop, set}
 use Rattle.arithmetic.specs.Rounding.{pick}
 use Rattle.arithmetic.specs.Refusals.{when_done}
 use Rattle.arithmetic.specs.declared.refusals.Refusal.{Refusal}
@@ -12,7 +12,7 @@ use Rattle.vectors.specs.Vectors.{scatter_of, segments_of, copies, vector_of}
 use Rattle.vectors.specs.declared.vector.IoVector.{IoVector}
 use Rattle.blockers.specs.Blockers.{left_of}
 use Rattle.blockers.specs.declared.Blockers.{Blockers}
-use Rattle.blockers.specs.declared.Changed.{Changed}
+use Rattle.blockers.specs.Blockers.{Changed}
 use Rattle.stages.specs.Stages.{size_of, has_ended, is_blocking, told_of}
 use Rattle.stages.specs.declared.state.Phase.{Phase}
 use Rattle.stages.specs.declared.state.Phase.TheVariants.{Free, Ended, DirectRead, BouncedRead, FirstRead, SecondRead, BouncedWrite}
@@ -77,11 +77,16 @@ pub record Stepped : Type 0 where
   pub memory : List ℕ
   pub scratch : List ℕ
 
-abbrev pub steps : Stepping → List ℕ → List ℕ → Stepped
-steps t m s = record { outcome = t.outcome; blockers = t.blockers; state = t.state; memory = m; scratch = s }
+-- what a call answers that leaves the slot, the data and the scratch so
+abbrev pub stepping : Stepped → Result Stepping Refusal
+stepping t = when_done t.outcome (Ok (record { blockers = t.blockers; state = t.state })) Err
 
-abbrev pub refused_step : Blockers → State → Refusal → Stepping
-refused_step b x r = record { outcome = Refused r; blockers = b; state = x }
+-- a call answers r and leaves this data and this scratch, as t has them
+abbrev pub StepGives : Stepped → Result Stepping Refusal → List ℕ → List ℕ → Type 0
+StepGives t r memory scratch = (r ≡ stepping t) × (memory ≡ t.memory) × (scratch ≡ t.scratch)
+
+abbrev pub refused_step : Blockers → State → Refusal → List ℕ → List ℕ → Stepped
+refused_step b x r memory scratch = record { outcome = Refused r; blockers = b; state = x; memory = memory; scratch = scratch }
 
 -- A dock of no call's making may lack the blocker that leaves, have one where another enters, or a vector of other bytes than the stage's:
 -- the tell is then refused, and changes nothing. Law `made_tell` of crate theorem_lists: no dock that calls made is refused so.
@@ -108,7 +113,7 @@ ends_at b p share x code y v memory scratch =
       memory = (handed share x code v memory scratch).memory;
       scratch = scratch;
     })
-    (λ r. steps (refused_step b x r) memory scratch)
+    (λ r. refused_step b x r memory scratch)
 
 -- it enters its next stage: its blocker leaves first, then the next stage's enters, and where that reads nothing its scratch is filled
 abbrev pub enters_by : Entering → State → List ℕ → Stepped
@@ -117,7 +122,7 @@ enters_by e y memory = record { outcome = e.outcome; blockers = e.blockers; stat
 unfoldable pub enters_at : Blockers → ℕ → ℕ → State → State → IoVector → List ℕ → List ℕ → Stepped
 enters_at b p share x y v memory scratch =
     when_done (blockers_without b p x).outcome (enters_by (enter_at (blockers_without b p x).blockers p share y v memory scratch) y memory)
-    (λ r. steps (refused_step b x r) memory scratch)
+    (λ r. refused_step b x r memory scratch)
 
 abbrev pub stepped_at : Blockers → ℕ → ℕ → State → ℕ → IoVector → List ℕ → List ℕ → Step → Stepped
 stepped_at b p share x code v memory scratch (Stays y) = stays_at b share y v memory scratch
@@ -135,7 +140,7 @@ unfoldable pub answered_of : Settings → State → ℕ → Answered
 answered_of s x code = pick (ltb code 200) (Leads (told_of s x code)) (NoLead NoAnswer)
 
 abbrev pub answered_by : Answered → Blockers → ℕ → ℕ → State → ℕ → IoVector → List ℕ → List ℕ → Stepped
-answered_by (NoLead r) b p share x code v memory scratch = steps (refused_step b x r) memory scratch
+answered_by (NoLead r) b p share x code v memory scratch = refused_step b x r memory scratch
 answered_by (Leads t) b p share x code v memory scratch = stepped_at b p share x code v memory scratch t
 
 -- "Tell: [..] 208, 209"
@@ -143,7 +148,11 @@ unfoldable pub told_at : Blockers → ℕ → Settings → Buffers → State →
 told_at b p s lent x v code memory scratch =
     pick (is_out_by b x p && is_sound_in x s lent)
     (answered_by (answered_of s x code) b p (p * s.bounce) x code v memory scratch)
-    (steps (refused_step b x Slot) memory scratch)
+    (refused_step b x Slot memory scratch)
+
+-- of the job in slot p of a dock
+abbrev pub told_in : Dock → ℕ → ℕ → List ℕ → List ℕ → Stepped
+told_in d p code memory scratch = told_at d.blockers p d.settings d.buffers (state_at d p) (vector_at d p) code memory scratch
 
 -- ---- tell
 
@@ -191,7 +200,7 @@ unfoldable pub tell_of : Dock → ℕ → ℕ → List ℕ → List ℕ → Told
 tell_of d p code memory scratch =
     pick (lent_fits d.buffers (length memory) (length scratch))
     (pick (ltb p 8)
-    (stored d p (told_at d.blockers p d.settings d.buffers (state_at d p) (vector_at d p) code memory scratch))
+    (stored d p (told_in d p code memory scratch))
     (refused_tell d memory scratch Slot))
     (refused_tell d memory scratch Buffer)
 

@@ -1,16 +1,16 @@
 // Begin: of a read, a write, zeroes or a discard.
 ghost use Rattle.std.specs.Prelude.{◌≡◌, length};
 ghost use Rattle.dock.specs.Begin.{InShare, begins, blockers_with, is_aligned, read_of, write_of, zeroes_of, discard_of, selected_of};
-ghost use Rattle.dock.specs.Begin.{plan_of, begin_of, enters, enter_at, decided_of, PlanInShare, admit_none, admits, admit_at};
+ghost use Rattle.dock.specs.Begin.{plan_of, begin_of, enter_at, EnterGives, decided_of, PlanInShare, admit_at, AdmitGives};
+ghost use Rattle.blockers.specs.Blockers.{changed};
 ghost use Rattle.vectors.specs.Vectors.{alignment_of};
 
-use crate::bytes::fill;
+use crate::bytes::Place;
 use crate::dock::{Dock, SLOTS, check_lent, first_free, meets, meets_itself};
-use crate::open::make_vacant;
 use arithmetic::offsets::StoreOffset;
 use arithmetic::refusals::{Outcome, Refusal};
 use arithmetic::settings::{Alignments, Buffers, Lent, Settings};
-use blockers::{Blockers, Changed};
+use blockers::Blockers;
 use stages::plan::{Plan, plan_discard, plan_read, plan_write, plan_zeroes, zero_job};
 use stages::state::{Job, State, is_blocking};
 use vectors::vector::IoVector;
@@ -33,16 +33,17 @@ pub enum Begun {
     Refused(Refusal),
 }
 
+// By value, the dock beside the answer: it comes back from a refused begin too (`begin_of`).
 #[derive(Clone, Copy)]
 pub struct Beginning {
     pub answer: Begun,
     pub dock: Dock,
 }
 
-// What a begin leaves of the slot it takes, to be stored where the job is admitted.
+// What a begin leaves of the slot it takes.
 #[derive(Clone, Copy)]
 pub struct Admission {
-    pub answer: Begun,
+    pub slot: usize,
     pub blockers: Blockers,
     pub state: State,
 }
@@ -102,11 +103,8 @@ pub fn select_vector(job: Job, vector: IoVector) -> IoVector
     ensures { result ≡ selected_of job vector }
 {
     match job {
-        Job::Read => vector,
-        Job::Write => vector,
-        Job::Zeroes => IoVector::new(),
-        Job::AllocatedZeroes => IoVector::new(),
-        Job::Discard => IoVector::new(),
+        Job::Read | Job::Write => vector,
+        Job::Zeroes | Job::AllocatedZeroes | Job::Discard => IoVector::new(),
     }
 }
 
@@ -126,16 +124,14 @@ fn is_aligned(v: IoVector, align: Alignments, data: Lent) -> bool
 pub fn plan_asked(asked: Asked, settings: Settings, buffers: Buffers) -> Plan
     ensures { result ≡ plan_of asked.job settings buffers asked.offset asked.length asked.vector }
 {
-    let job = asked.job;
-    let offset = asked.offset;
     let v = asked.vector;
     let aligned = is_aligned(v, settings.align, buffers.data);
-    match job {
-        Job::Read => plan_read(settings, offset, v.total, aligned),
-        Job::Write => plan_write(settings, offset, v.total, aligned),
-        Job::Zeroes => plan_zeroes(settings, false, offset, asked.length),
-        Job::AllocatedZeroes => plan_zeroes(settings, true, offset, asked.length),
-        Job::Discard => plan_discard(settings, offset, asked.length),
+    match asked.job {
+        Job::Read => plan_read(settings, asked.offset, v.total, aligned),
+        Job::Write => plan_write(settings, asked.offset, v.total, aligned),
+        Job::Zeroes => plan_zeroes(settings, false, asked.offset, asked.length),
+        Job::AllocatedZeroes => plan_zeroes(settings, true, asked.offset, asked.length),
+        Job::Discard => plan_discard(settings, asked.offset, asked.length),
     }
 }
 
@@ -162,58 +158,42 @@ pub fn decide(lent: Outcome, valid: bool, plan: Plan, met: bool, free: usize) ->
 }
 
 // The blockers once the stage of the job in `slot` has entered: strong for a padded write, none for a read.
-fn enter_blocker(b: Blockers, slot: usize, x: State) -> Changed
-    ensures { result ≡ blockers_with b slot x }
+#[tactic(auto, unfolding(crate::specs::Begin::blockers_with))]
+fn enter_blocker(b: Blockers, slot: usize, x: State) -> Result<Blockers, Refusal>
+    ensures { result ≡ changed (blockers_with b slot x) }
 {
-    let phase = x.phase;
-    let stage = x.stage;
-    let range = stage.request;
-    if !is_blocking(phase) {
-        return Changed {
-            blockers: b,
-            outcome: Outcome::Done,
-        };
+    if !is_blocking(x.phase) {
+        return Ok(b);
     }
-    if stage.strong {
+    let range = x.stage.request;
+    if x.stage.strong {
         return b.strong_write_blocker(slot, range);
     }
     b.weak_write_blocker(slot, range)
 }
 
-// The job x comes to its stage in `slot`: its blocker enters, its bytes are filled where it reads nothing first.
-pub(crate) fn enter(
-    b: Blockers,
-    slot: usize,
-    share: usize,
-    x: State,
-    v: IoVector,
-    data: &[u8],
-    scratch: &mut [u8],
-) -> Changed
-    requires { InShare share x (length scratch.old) }
-    ensures { enters result scratch.new ≡ enter_at b slot share x v «data».now scratch.old }
-{
-    let entered = enter_blocker(b, slot, x);
-    let there = entered.outcome;
-    let Outcome::Done = there else {
-        return entered;
-    };
-    let outcome = fill(share, x, v, data, scratch);
-    let blockers = entered.blockers;
-    Changed { blockers, outcome }
-}
-
-fn admit_none(b: Blockers, answer: Begun) -> Admission
-    ensures { result ≡ admit_none b answer }
-{
-    Admission {
-        answer,
-        blockers: b,
-        state: make_vacant(),
+impl Place {
+    // The job x comes to its stage: its blocker enters, its bytes are filled where it reads nothing first.
+    #[tactic(auto, unfolding(crate::specs::Begin::enter_at))]
+    pub(crate) fn enter(
+        &self,
+        b: Blockers,
+        x: State,
+        data: &[u8],
+        scratch: &mut [u8],
+    ) -> Result<Blockers, Refusal>
+        requires { InShare self.now.share x (length scratch.old) }
+        ensures { EnterGives (enter_at b self.now.slot self.now.share x self.now.vector «data».now scratch.old) result scratch.new }
+    {
+        let blockers = enter_blocker(b, self.slot, x)?;
+        match self.fill(x, data, scratch) {
+            Outcome::Done => Ok(blockers),
+            Outcome::Refused(r) => Err(r),
+        }
     }
 }
 
-// A decided job comes to its slot.
+// A decided job comes to its slot; none does where there is no request to make.
 fn admit(
     b: Blockers,
     slot: usize,
@@ -222,31 +202,31 @@ fn admit(
     v: IoVector,
     data: &[u8],
     scratch: &mut [u8],
-) -> Admission
+) -> Result<Option<Admission>, Refusal>
     requires { PlanInShare slot bounce (length scratch.old) plan }
-    ensures { admits result scratch.new ≡ admit_at b slot bounce v «data».now scratch.old plan }
+    ensures { AdmitGives (admit_at b slot bounce v «data».now scratch.old plan) result scratch.new }
 {
-    let x = match plan {
-        Plan::Done => return admit_none(b, Begun::Done),
-        Plan::Refused(r) => return admit_none(b, Begun::Refused(r)),
+    let state = match plan {
+        Plan::Done => return Ok(None),
+        Plan::Refused(r) => return Err(r),
         Plan::Started(x) => x,
     };
-    let share = slot * bounce as usize;
-    let entered = enter(b, slot, share, x, v, data, scratch);
-    let there = entered.outcome;
-    if let Outcome::Refused(r) = there {
-        return admit_none(b, Begun::Refused(r));
-    }
-    let blockers = entered.blockers;
-    Admission {
-        answer: Begun::Admitted(slot),
+    let place = Place {
+        slot,
+        share: slot * bounce as usize,
+        vector: v,
+    };
+    let blockers = place.enter(b, state, data, scratch)?;
+    Ok(Some(Admission {
+        slot,
         blockers,
-        state: x,
-    }
+        state,
+    }))
 }
 
 impl Dock {
     // Begin what is asked, in the lowest free slot.
+    #[tactic(auto, unfolding(crate::specs::Begin::begin_of))]
     pub fn begin(mut self, asked: Asked, data: &[u8], scratch: &mut [u8]) -> Beginning
         ensures { begins result scratch.new ≡ begin_of self asked «data».now scratch.old }
     {
@@ -255,27 +235,34 @@ impl Dock {
         let job = asked.job;
         let v = select_vector(job, asked.vector);
         let mut met = meets_itself(job, v);
-        let mut i = 0;
-        while i < SLOTS {
-            let x = self.states[i];
-            let w = self.vectors[i];
-            met = met | meets(x, w, job, v);
-            i += 1;
+        for (i, x) in self.states.iter().enumerate() {
+            met |= meets(*x, self.vectors[i], job, v);
         }
         let lent = check_lent(settings, buffers, data.len(), scratch.len());
         let free = first_free(self.states);
         let first = plan_asked(asked, settings, buffers);
         let plan = decide(lent, v.is_valid(data.len()), first, met, free);
-        let admission = admit(self.blockers, free, settings.bounce, plan, v, data, scratch);
-        let answer = admission.answer;
-        let Begun::Admitted(slot) = answer else {
-            return Beginning { answer, dock: self };
+        let job = match admit(self.blockers, free, settings.bounce, plan, v, data, scratch) {
+            Ok(Some(job)) => job,
+            Ok(None) => {
+                return Beginning {
+                    answer: Begun::Done,
+                    dock: self,
+                };
+            }
+            Err(r) => {
+                return Beginning {
+                    answer: Begun::Refused(r),
+                    dock: self,
+                };
+            }
         };
-        let blockers = admission.blockers;
-        let state = admission.state;
-        self.blockers = blockers;
-        self.states[slot] = state;
-        self.vectors[slot] = v;
-        Beginning { answer, dock: self }
+        self.blockers = job.blockers;
+        self.states[job.slot] = job.state;
+        self.vectors[job.slot] = v;
+        Beginning {
+            answer: Begun::Admitted(job.slot),
+            dock: self,
+        }
     }
 }

@@ -1,8 +1,10 @@
 // What is copied between the data and a slot's share of the scratch.
-ghost use Rattle.std.specs.Prelude.{◌≡◌, ◌+◌, ◌≤◌, length};
+ghost use Rattle.std.specs.Prelude.{◌≡◌, ◌+◌, ◌*◌, ◌≤◌, length, Some, None};
+ghost use Rattle.arithmetic.specs.Rounding.{pick};
 ghost use Rattle.dock.specs.Begin.{is_write_job, is_bounced_write, fills, merged_at, filled, InShare};
 ghost use Rattle.dock.specs.Tell.{is_bounced_read, hands, copied_at, handed};
 ghost use Rattle.dock.specs.Slots.{filled_share, handed_share};
+ghost use Rattle.dock.specs.Next.{is_sound_at};
 
 use crate::next::is_sound_at;
 use arithmetic::refusals::{Outcome, Refusal};
@@ -14,50 +16,24 @@ use vectors::vector::IoVector;
 fn is_write_job(j: Job) -> bool
     ensures { result ≡ is_write_job j }
 {
-    match j {
-        Job::Read => false,
-        Job::Write => true,
-        Job::Zeroes => false,
-        Job::AllocatedZeroes => false,
-        Job::Discard => false,
-    }
+    j == Job::Write
 }
 
+// Not its first or second read: the scratch is filled once the reads are done.
 pub fn is_bounced_write(p: Phase) -> bool
     ensures { result ≡ is_bounced_write p }
 {
-    match p {
-        Phase::Free => false,
-        Phase::Ended => false,
-        Phase::DirectRead => false,
-        Phase::BouncedRead => false,
-        Phase::FirstRead => false, // filled once its reads are done
-        Phase::SecondRead => false,
-        Phase::BouncedWrite => true,
-        Phase::DirectWrite => false,
-        Phase::ZeroRequest => false,
-        Phase::DiscardRequest => false,
-    }
+    p == Phase::BouncedWrite
 }
 
 pub fn is_bounced_read(p: Phase) -> bool
     ensures { result ≡ is_bounced_read p }
 {
-    match p {
-        Phase::Free => false,
-        Phase::Ended => false,
-        Phase::DirectRead => false,
-        Phase::BouncedRead => true,
-        Phase::FirstRead => false,
-        Phase::SecondRead => false,
-        Phase::BouncedWrite => false,
-        Phase::DirectWrite => false,
-        Phase::ZeroRequest => false,
-        Phase::DiscardRequest => false,
-    }
+    p == Phase::BouncedRead
 }
 
 // n bytes of what the job writes, its vector's or zeroes, into the scratch from `start` on.
+#[tactic(auto, unfolding(crate::specs::Begin::merged_at, crate::specs::Begin::source_of, crate::specs::Begin::source_fits))]
 fn merge(start: usize, n: usize, job: Job, v: IoVector, data: &[u8], scratch: &mut [u8]) -> Outcome
     requires { start + n ≤ length scratch.old }
     ensures { fills result scratch.new ≡ merged_at start n job v «data».now scratch.old }
@@ -74,24 +50,8 @@ fn merge(start: usize, n: usize, job: Job, v: IoVector, data: &[u8], scratch: &m
     Outcome::Done
 }
 
-// As a job comes to its write from the bounce buffer, the asked part of its share, which starts at `share`, is filled.
-pub(crate) fn fill(share: usize, x: State, v: IoVector, data: &[u8], scratch: &mut [u8]) -> Outcome
-    requires { InShare share x (length scratch.old) }
-    ensures { fills result scratch.new ≡ filled share x v «data».now scratch.old }
-{
-    let phase = x.phase;
-    let job = x.job;
-    let stage = x.stage;
-    let head = stage.head;
-    let n = size(stage.asked);
-    if is_bounced_write(phase) {
-        let start = share + head.0;
-        return merge(start, n as usize, job, v, data, scratch);
-    }
-    Outcome::Done
-}
-
 // n bytes of the scratch from `start` on into the vector's segments.
+#[tactic(auto, unfolding(crate::specs::Tell::copied_at))]
 fn copy_out(start: usize, n: usize, v: IoVector, data: &mut [u8], scratch: &[u8]) -> Outcome
     requires { start + n ≤ length scratch.now }
     ensures { hands result «data».new ≡ copied_at start n v «data».old scratch.now }
@@ -104,31 +64,63 @@ fn copy_out(start: usize, n: usize, v: IoVector, data: &mut [u8], scratch: &[u8]
     Outcome::Done
 }
 
-// As a padded read ends with 0, its asked bytes are copied out of its share, which starts at `share`.
-pub(crate) fn hand_out(
-    share: usize,
-    x: State,
-    code: u8,
-    v: IoVector,
-    data: &mut [u8],
-    scratch: &[u8],
-) -> Outcome
-    requires { InShare share x (length scratch.now) }
-    ensures { hands result «data».new ≡ handed share x code v «data».old scratch.now }
-{
-    let phase = x.phase;
-    let stage = x.stage;
-    let head = stage.head;
-    let n = size(stage.asked);
-    let read = is_bounced_read(phase) & (code == 0);
-    if read {
-        let start = share + head.0;
-        return copy_out(start, n as usize, v, data, scratch);
+// Where a job is: its slot, where the slot's share of the scratch starts, and its vector, as long as it runs. That its bytes lie in the
+// scratch is asked by each method below (`InShare`) and is no invariant: the scratch comes with each call.
+#[derive(Clone, Copy)]
+pub(crate) struct Place {
+    pub slot: usize,
+    pub share: usize,
+    pub vector: IoVector,
+}
+
+impl Place {
+    // As the job comes to its write from the bounce buffer, the asked part of its share is filled.
+    #[tactic(auto, unfolding(crate::specs::Begin::filled))]
+    pub(crate) fn fill(&self, x: State, data: &[u8], scratch: &mut [u8]) -> Outcome
+        requires { InShare self.now.share x (length scratch.old) }
+        ensures { fills result scratch.new ≡ filled self.now.share x self.now.vector «data».now scratch.old }
+    {
+        if !is_bounced_write(x.phase) {
+            return Outcome::Done;
+        }
+        let start = self.share + x.stage.head.0;
+        let n = size(x.stage.asked) as usize;
+        merge(start, n, x.job, self.vector, data, scratch)
     }
-    Outcome::Done
+
+    // As a padded read ends with 0, its asked bytes are copied out of its share.
+    #[tactic(auto, unfolding(crate::specs::Tell::handed))]
+    pub(crate) fn hand_out(&self, x: State, code: u8, data: &mut [u8], scratch: &[u8]) -> Outcome
+        requires { InShare self.now.share x (length scratch.now) }
+        ensures { hands result «data».new ≡ handed self.now.share x code self.now.vector «data».old scratch.now }
+    {
+        if !is_bounced_read(x.phase) || code != 0 {
+            return Outcome::Done;
+        }
+        let start = self.share + x.stage.head.0;
+        let n = size(x.stage.asked) as usize;
+        copy_out(start, n, self.vector, data, scratch)
+    }
+}
+
+// Where the share of `slot` starts, if the bytes of the job x lie in it and it lies in the scratch.
+fn share_of(
+    slot: usize,
+    settings: Settings,
+    buffers: Buffers,
+    x: State,
+    scratch_len: usize,
+) -> Option<usize>
+    ensures { result ≡ pick (is_sound_at slot x settings buffers scratch_len) (Some (slot * settings.bounce)) None }
+{
+    if !is_sound_at(slot, x, settings, buffers, scratch_len) {
+        return None;
+    }
+    Some(slot * settings.bounce as usize)
 }
 
 // What `fill` does in the share of `slot`, for any job: refused (208) where its bytes do not lie there.
+#[tactic(auto, unfolding(crate::specs::Slots::filled_share))]
 pub fn fill_share(
     slot: usize,
     settings: Settings,
@@ -140,18 +132,22 @@ pub fn fill_share(
 ) -> Outcome
     ensures { fills result scratch.new ≡ filled_share slot settings buffers x v «data».now scratch.old }
 {
-    let phase = x.phase;
-    if !is_bounced_write(phase) {
+    if !is_bounced_write(x.phase) {
         return Outcome::Done;
     }
-    if !is_sound_at(slot, x, settings, buffers, scratch.len()) {
+    let Some(share) = share_of(slot, settings, buffers, x, scratch.len()) else {
         return Outcome::Refused(Refusal::Slot);
-    }
-    let share = slot * settings.bounce as usize;
-    fill(share, x, v, data, scratch)
+    };
+    let place = Place {
+        slot,
+        share,
+        vector: v,
+    };
+    place.fill(x, data, scratch)
 }
 
 // What `hand_out` does with the share of `slot`, for any job: refused (208) where its bytes do not lie there.
+#[tactic(auto, unfolding(crate::specs::Slots::handed_share))]
 pub fn hand_out_share(
     slot: usize,
     settings: Settings,
@@ -165,14 +161,16 @@ pub fn hand_out_share(
     ensures { hands result «data».new ≡ handed_share slot settings buffers x code v «data».old
         scratch.now }
 {
-    let phase = x.phase;
-    let read = is_bounced_read(phase) & (code == 0);
-    if !read {
+    if !is_bounced_read(x.phase) || code != 0 {
         return Outcome::Done;
     }
-    if !is_sound_at(slot, x, settings, buffers, scratch.len()) {
+    let Some(share) = share_of(slot, settings, buffers, x, scratch.len()) else {
         return Outcome::Refused(Refusal::Slot);
-    }
-    let share = slot * settings.bounce as usize;
-    hand_out(share, x, code, v, data, scratch)
+    };
+    let place = Place {
+        slot,
+        share,
+        vector: v,
+    };
+    place.hand_out(x, code, data, scratch)
 }

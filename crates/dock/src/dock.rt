@@ -20,15 +20,15 @@ pub struct Dock {
 pub const SLOTS: usize = 8;
 
 // Whether the lent buffers have their lengths of opening: false is refusal 205.
+#[tactic(auto, unfolding(crate::specs::Dock::lent_fits))]
 pub fn lent_fits(b: Buffers, data_len: usize, scratch_len: usize) -> bool
     ensures { result ≡ lent_fits b data_len scratch_len }
 {
-    let data = b.data;
-    let scratch = b.scratch;
-    (data_len as u64 == data.length) & (scratch_len as u64 == scratch.length)
+    (data_len as u64 == b.data.length) & (scratch_len as u64 == b.scratch.length)
 }
 
 // What a begin is lent: settings and buffers that opening accepts, with their lengths of opening.
+#[tactic(auto, unfolding(crate::specs::Dock::lent_of))]
 pub fn check_lent(s: Settings, b: Buffers, data_len: usize, scratch_len: usize) -> Outcome
     ensures { result ≡ lent_of s b data_len scratch_len }
 {
@@ -46,53 +46,32 @@ pub fn check_lent(s: Settings, b: Buffers, data_len: usize, scratch_len: usize) 
 pub fn is_read_job(j: Job) -> bool
     ensures { result ≡ is_read_job j }
 {
-    match j {
-        Job::Read => true,
-        Job::Write => false,
-        Job::Zeroes => false,
-        Job::AllocatedZeroes => false,
-        Job::Discard => false,
-    }
+    j == Job::Read
 }
 
 // Whether a job's vector meets that of another job, of which one reads.
+#[tactic(auto, unfolding(crate::specs::Dock::meets_of))]
 pub fn meets(x: State, w: IoVector, j: Job, v: IoVector) -> bool
     ensures { result ≡ meets_of x w j v }
 {
-    let phase = x.phase;
-    let job = x.job;
-    if is_free(phase) {
-        return false;
-    }
-    let reads = is_read_job(j) | is_read_job(job);
-    if !reads {
-        return false;
-    }
-    v.overlaps(w)
+    !is_free(x.phase) && (is_read_job(j) | is_read_job(x.job)) && v.overlaps(w)
 }
 
 // Whether a vector that is read into meets itself.
 pub fn meets_itself(j: Job, v: IoVector) -> bool
     ensures { result ≡ meets_itself j v }
 {
-    if is_read_job(j) {
-        return v.overlaps_itself();
-    }
-    false
+    is_read_job(j) && v.overlaps_itself()
 }
 
 // The lowest free slot; 8 where there is none.
 pub fn first_free(states: [State; 8]) -> usize
     ensures { result ≡ first_free states }
 {
-    let mut i = 0;
-    while i < SLOTS {
-        let x = states[i];
-        let phase = x.phase;
-        if is_free(phase) {
+    for (i, x) in states.iter().enumerate() {
+        if is_free(x.phase) {
             return i;
         }
-        i += 1;
     }
-    i
+    SLOTS
 }

@@ -15,7 +15,7 @@ use Rattle.vectors.specs.Vectors.{outcome_of}
 use Rattle.vectors.specs.declared.vector.IoVector.{IoVector}
 use Rattle.vectors.specs.declared.vector.Halves.{Halves}
 use Rattle.vectors.specs.declared.vector.Tail.{Tail}
-use Rattle.blockers.specs.declared.Changed.{Changed}
+use Rattle.blockers.specs.Blockers.{Changed}
 use Rattle.stages.specs.Stages.{size_of}
 use Rattle.dock.specs.Begin.{Begins}
 use Rattle.dock.specs.Tell.{Told}

@@ -6,7 +6,7 @@ use Rattle.arithmetic.specs.declared.refusals.Outcome.{Outcome}
 use Rattle.arithmetic.specs.declared.refusals.Outcome.TheVariants.{Done, Refused}
 use Rattle.vectors.specs.declared.vector.IoVector.{IoVector}
 use Rattle.blockers.specs.declared.Blockers.{Blockers}
-use Rattle.blockers.specs.declared.Changed.{Changed}
+use Rattle.blockers.specs.Blockers.{Changed}
 use Rattle.stages.specs.declared.state.State.{State}
 use Rattle.dock.specs.Begin.{blockers_with, Admits, Begins, begins}
 use Rattle.dock.specs.Tell.{blockers_without, Stepped, Told, tells}

@@ -19,11 +19,11 @@ use Rattle.arithmetic.specs.declared.offsets.Range.{Range}
 use Rattle.blockers.specs.declared.Kind.{Kind}
 use Rattle.blockers.specs.declared.Blocker.{Blocker}
 use Rattle.blockers.specs.declared.Blockers.{Blockers}
-use Rattle.blockers.specs.declared.Changed.{Changed}
+use Rattle.blockers.specs.Blockers.{Changed}
 use Rattle.stages.specs.Stages.{is_blocking}
 use Rattle.stages.specs.declared.state.State.{State}
 use Rattle.dock.specs.Begin.{Begins, begins, blockers_with, filled, enter_at, Admits, stored_with_by, stored_with}
-use Rattle.dock.specs.Tell.{Told, tells, blockers_without, handed, Stepped, steps, refused_step, stored_by, stored, enters_by, ends_at}
+use Rattle.dock.specs.Tell.{Told, tells, blockers_without, handed, Stepped, refused_step, stored_by, stored, enters_by, ends_at}
 use Rattle.dock.specs.Tell.{enters_at}
 use Rattle.dock.specs.declared.dock.Dock.{Dock}
 use Rattle.dock.specs.declared.open.Opened.{Opened}
@@ -246,7 +246,7 @@ module _ (b : Blockers) (p share : ℕ) (x : State) (code : ℕ) (y : State) (v 
   ends_left e = simp (is_done_lem (blockers_without b p x).outcome e)
 
   pub ends_stuck : is_done (blockers_without b p x).outcome ≡ false
-      → ends_at b p share x code y v memory scratch ≡ steps (refused_step b x Slot) memory scratch
+      → ends_at b p share x code y v memory scratch ≡ refused_step b x Slot memory scratch
   unfolding ends_at
   ends_stuck e = simp (leaves_not b p x e)
 
@@ -272,7 +272,7 @@ module _ (b : Blockers) (p share : ℕ) (x y : State) (v : IoVector) (memory scr
             outcome = (filled share y v memory scratch).outcome;
             scratch = (filled share y v memory scratch).scratch;
           })
-          (λ r. record { blockers = B; outcome = n; scratch = scratch })) y memory) (λ r. steps (refused_step b x r) memory scratch)
+          (λ r. record { blockers = B; outcome = n; scratch = scratch })) y memory) (λ r. refused_step b x r memory scratch)
           ≡ record {
             outcome = (filled share y v memory scratch).outcome;
             blockers = B;
@@ -301,7 +301,7 @@ module _ (b : Blockers) (p share : ℕ) (x y : State) (v : IoVector) (memory scr
         outcome = (filled share y v memory scratch).outcome;
         scratch = (filled share y v memory scratch).scratch;
       })
-          (λ r. record { blockers = B; outcome = n; scratch = scratch })) y memory) (λ r. steps (refused_step b x r) memory scratch)
+          (λ r. record { blockers = B; outcome = n; scratch = scratch })) y memory) (λ r. refused_step b x r memory scratch)
 
       go : (q : Outcome) → (is_done q ≡ false → q ≡ Refused Slot) → (n : Outcome) → (is_done n ≡ false → n ≡ Refused Slot) →
           is_done (when_done q n Refused) ≡ false

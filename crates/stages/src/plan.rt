@@ -20,6 +20,7 @@ pub enum Plan {
     Refused(Refusal),
 }
 
+#[tactic(auto, unfolding(crate::specs::Stages::direct_stage))]
 fn direct_stage(r: Range) -> Stage
     ensures { result ≡ direct_stage r }
 {
@@ -38,11 +39,13 @@ fn first_bytes(s: Span, end: BufferOffset) -> Range
     requires { s.start.0 + end.0 < 2 ^ 64 }
     ensures { result ≡ range_of s.start.0 (s.start.0 + end.0) }
 {
-    let start = s.start;
-    let OnStore::At(end) = end.on_store(start) else {
+    let OnStore::At(end) = end.on_store(s.start) else {
         return nowhere();
     };
-    Range { start, end }
+    Range {
+        start: s.start,
+        end,
+    }
 }
 
 // The last `length` bytes of a padded range.
@@ -50,11 +53,9 @@ fn last_bytes(s: Span, length: u64) -> Range
     requires { length ≤ s.end.0 }
     ensures { result ≡ range_of (s.end.0 - length) s.end.0 }
 {
-    let end = s.end;
-    let start = end.0 - length;
     Range {
-        start: StoreOffset(start),
-        end,
+        start: StoreOffset(s.end.0 - length),
+        end: s.end,
     }
 }
 
@@ -63,14 +64,15 @@ fn first_read(s: Span) -> Range
     requires { Holds s }
     ensures { result ≡ first_of s (reads_of s) }
 {
-    let start = s.start;
-    let end = s.end;
     match s.reads() {
-        Reads::Nothing => nowhere(),
-        Reads::Whole => Range { start, end },
-        Reads::Head(_) => first_bytes(s, BufferOffset(s.prefix as usize)),
-        Reads::Tail(_) => nowhere(),
-        Reads::HeadThenTail(_, _) => first_bytes(s, BufferOffset(s.prefix as usize)),
+        Reads::Nothing | Reads::Tail(_) => nowhere(),
+        Reads::Whole => Range {
+            start: s.start,
+            end: s.end,
+        },
+        Reads::Head(_) | Reads::HeadThenTail(_, _) => {
+            first_bytes(s, BufferOffset(s.prefix as usize))
+        }
     }
 }
 
@@ -80,34 +82,31 @@ fn second_read(s: Span) -> Range
     ensures { result ≡ second_of s (reads_of s) }
 {
     match s.reads() {
-        Reads::Nothing => nowhere(),
-        Reads::Whole => nowhere(),
-        Reads::Head(_) => nowhere(),
-        Reads::Tail(_) => last_bytes(s, s.suffix),
-        Reads::HeadThenTail(_, _) => last_bytes(s, s.suffix),
+        Reads::Nothing | Reads::Whole | Reads::Head(_) => nowhere(),
+        Reads::Tail(_) | Reads::HeadThenTail(_, _) => last_bytes(s, s.suffix),
     }
 }
 
+#[tactic(auto, unfolding(crate::specs::Stages::padded_stage))]
 fn padded_stage(s: Span, asked: Range) -> Stage
     requires { Holds s }
     ensures { result ≡ padded_stage s asked }
 {
-    let start = s.start;
-    let end = s.end;
-    let head = s.head;
-    let first = first_read(s);
-    let second = second_read(s);
     Stage {
         asked,
-        request: Range { start, end },
-        first,
-        second,
-        head,
+        request: Range {
+            start: s.start,
+            end: s.end,
+        },
+        first: first_read(s),
+        second: second_read(s),
+        head: s.head,
         strong: true,
     }
 }
 
 // The first phase of a write from the bounce buffer: its reads come first.
+#[tactic(auto, unfolding(crate::specs::Stages::first_phase))]
 fn first_phase(g: Stage) -> Phase
     ensures { result ≡ first_phase g }
 {
@@ -140,10 +139,9 @@ fn asked_range(offset: StoreOffset, n: u64) -> Range
     requires { offset.0 + n < 2 ^ 64 }
     ensures { result ≡ asked offset n }
 {
-    let end = offset.0 + n;
     Range {
         start: offset,
-        end: StoreOffset(end),
+        end: StoreOffset(offset.0 + n),
     }
 }
 
@@ -151,7 +149,7 @@ fn asked_range(offset: StoreOffset, n: u64) -> Range
 fn bounced_phase(job: Job, g: Stage) -> Phase
     ensures { result ≡ bounced_phase job g }
 {
-    if let Job::Read = job {
+    if job == Job::Read {
         return Phase::BouncedRead;
     }
     first_phase(g)
@@ -188,6 +186,7 @@ fn plan_vector(
 }
 
 // A read of n bytes at `offset` into a vector that is or is not aligned.
+#[tactic(auto, unfolding(crate::specs::Stages::read_plan))]
 pub fn plan_read(settings: Settings, offset: StoreOffset, n: u64, aligned: bool) -> Plan
     ensures { result ≡ read_plan settings offset n aligned }
 {
@@ -195,6 +194,7 @@ pub fn plan_read(settings: Settings, offset: StoreOffset, n: u64, aligned: bool)
 }
 
 // A write of n bytes at `offset` from a vector that is or is not aligned.
+#[tactic(auto, unfolding(crate::specs::Stages::write_plan))]
 pub fn plan_write(settings: Settings, offset: StoreOffset, n: u64, aligned: bool) -> Plan
     ensures { result ≡ write_plan settings offset n aligned }
 {
@@ -202,21 +202,20 @@ pub fn plan_write(settings: Settings, offset: StoreOffset, n: u64, aligned: bool
 }
 
 impl State {
-    // The job at its next stage. Phase and course are enums, and a store to one is not covered: they are set as the state is made anew.
+    // The job at its next stage.
     fn set_stage(mut self, course: Course, stage: Stage, phase: Phase) -> State
         ensures { result ≡ state_of self.job self.range self.middle course stage phase }
     {
+        self.phase = phase;
         self.answer = 0;
+        self.course = course;
         self.stage = stage;
-        State {
-            phase,
-            course,
-            ..self
-        }
+        self
     }
 
     // A write of zeroes over `part` as the next stage of a zero job. The bounce buffer starts at a multiple of M, so the write is
     // aligned where its length is a multiple of L.
+    #[tactic(auto, unfolding(crate::specs::Stages::zeroes_plan))]
     pub fn plan_zero_write(self, settings: Settings, course: Course, part: Range) -> Plan
         ensures { result ≡ zeroes_plan settings self.job self.range self.middle course part }
     {
@@ -251,6 +250,7 @@ pub fn zero_job(allocate: bool) -> Job
 }
 
 // Zeroes over n bytes at `offset`, plain or allocating.
+#[tactic(auto, unfolding(crate::specs::Stages::zero_plan))]
 pub fn plan_zeroes(settings: Settings, allocate: bool, offset: StoreOffset, n: u64) -> Plan
     ensures { result ≡ zero_plan settings allocate offset n }
 {
@@ -285,6 +285,7 @@ pub fn plan_zeroes(settings: Settings, allocate: bool, offset: StoreOffset, n: u
 }
 
 // A discard of n bytes at `offset`.
+#[tactic(auto, unfolding(crate::specs::Stages::discard_plan))]
 pub fn plan_discard(settings: Settings, offset: StoreOffset, n: u64) -> Plan
     ensures { result ≡ discard_plan settings offset n }
 {

@@ -8,7 +8,7 @@ ghost use Rattle.stages.specs.Stages.{request_of};
 use arithmetic::offsets::{BufferOffset, InBuffer, Range, StoreOffset};
 
 // What a job was begun as.
-#[derive(Clone, Copy)]
+#[derive(Clone, Copy, PartialEq, Eq)]
 pub enum Job {
     Read,
     Write,
@@ -18,7 +18,7 @@ pub enum Job {
 }
 
 // Which request is out, or waited for.
-#[derive(Clone, Copy)]
+#[derive(Clone, Copy, PartialEq, Eq)]
 pub enum Phase {
     Free, // no job
     Ended, // the final answer is there
@@ -55,7 +55,9 @@ pub struct Stage {
 #[derive(Clone, Copy)]
 pub struct State {
     pub phase: Phase,
-    pub answer: u8, // the final answer, once ended
+    // The final answer, once ended. It stands beside the phase and not in `Ended`: any words are a state, and those of one that has not
+    // ended have an answer too (`state_from`, specs/View.antt of crate dock_words).
+    pub answer: u8,
     pub job: Job,
     pub range: Range, // the job's asked range
     pub middle: Range, // of a zero job: the range of its zero request
@@ -85,12 +87,7 @@ pub struct Request {
 pub fn size(r: Range) -> u64
     ensures { result ≡ size_of r }
 {
-    let start = r.start;
-    let end = r.end;
-    if end.0 < start.0 {
-        return 0;
-    }
-    end.0 - start.0
+    r.end.0.saturating_sub(r.start.0)
 }
 
 // A range without bytes.
@@ -106,53 +103,28 @@ pub fn nowhere() -> Range
 pub fn is_free(p: Phase) -> bool
     ensures { result ≡ is_free p }
 {
-    match p {
-        Phase::Free => true,
-        Phase::Ended => false,
-        Phase::DirectRead => false,
-        Phase::BouncedRead => false,
-        Phase::FirstRead => false,
-        Phase::SecondRead => false,
-        Phase::BouncedWrite => false,
-        Phase::DirectWrite => false,
-        Phase::ZeroRequest => false,
-        Phase::DiscardRequest => false,
-    }
+    p == Phase::Free
 }
 
 pub fn has_ended(p: Phase) -> bool
     ensures { result ≡ has_ended p }
 {
-    match p {
-        Phase::Free => false,
-        Phase::Ended => true,
-        Phase::DirectRead => false,
-        Phase::BouncedRead => false,
-        Phase::FirstRead => false,
-        Phase::SecondRead => false,
-        Phase::BouncedWrite => false,
-        Phase::DirectWrite => false,
-        Phase::ZeroRequest => false,
-        Phase::DiscardRequest => false,
-    }
+    p == Phase::Ended
 }
 
 // Whether a job in this phase has a blocker: reads have none.
 pub fn is_blocking(p: Phase) -> bool
     ensures { result ≡ is_blocking p }
 {
-    match p {
-        Phase::Free => false,
-        Phase::Ended => false,
-        Phase::DirectRead => false,
-        Phase::BouncedRead => false,
-        Phase::FirstRead => true,
-        Phase::SecondRead => true,
-        Phase::BouncedWrite => true,
-        Phase::DirectWrite => true,
-        Phase::ZeroRequest => true,
-        Phase::DiscardRequest => true,
-    }
+    matches!(
+        p,
+        Phase::FirstRead
+            | Phase::SecondRead
+            | Phase::BouncedWrite
+            | Phase::DirectWrite
+            | Phase::ZeroRequest
+            | Phase::DiscardRequest
+    )
 }
 
 // Plain or allocating, for a zero request of this job.
@@ -160,23 +132,18 @@ fn zero_kind(j: Job) -> Kind
     ensures { result ≡ zero_kind j }
 {
     match j {
-        Job::Read => Kind::Zero,
-        Job::Write => Kind::Zero,
-        Job::Zeroes => Kind::Zero,
         Job::AllocatedZeroes => Kind::AllocatedZero,
-        Job::Discard => Kind::Zero,
+        Job::Read | Job::Write | Job::Zeroes | Job::Discard => Kind::Zero,
     }
 }
 
 fn request_for(kind: Kind, r: Range, segments: usize) -> Request
     ensures { result ≡ request kind r segments }
 {
-    let offset = r.start;
-    let length = size(r);
     Request {
         kind,
-        offset,
-        length,
+        offset: r.start,
+        length: size(r),
         segments,
     }
 }
@@ -185,28 +152,17 @@ fn request_for(kind: Kind, r: Range, segments: usize) -> Request
 pub fn uses_bounce(p: Phase) -> bool
     ensures { result ≡ uses_bounce p }
 {
-    match p {
-        Phase::Free => false,
-        Phase::Ended => false,
-        Phase::DirectRead => false,
-        Phase::BouncedRead => true,
-        Phase::FirstRead => true,
-        Phase::SecondRead => true,
-        Phase::BouncedWrite => true,
-        Phase::DirectWrite => false,
-        Phase::ZeroRequest => false,
-        Phase::DiscardRequest => false,
-    }
+    matches!(
+        p,
+        Phase::BouncedRead | Phase::FirstRead | Phase::SecondRead | Phase::BouncedWrite
+    )
 }
 
 // Whether a + b is at most n.
 fn is_sum_within(a: u64, b: u64, n: u64) -> bool
     ensures { result ≡ leb (a + b) n }
 {
-    if n < a {
-        return false;
-    }
-    b <= n - a
+    a <= n && b <= n - a
 }
 
 impl Stage {
@@ -214,9 +170,7 @@ impl Stage {
     pub fn second_at(self) -> BufferOffset
         ensures { result ≡ buffer_at (second_at self) }
     {
-        let request = self.request;
-        let second = self.second;
-        let InBuffer::At(place) = second.start.in_buffer(request.start) else {
+        let InBuffer::At(place) = self.second.start.in_buffer(self.request.start) else {
             return BufferOffset(0); // a stage without one
         };
         place
@@ -224,48 +178,41 @@ impl Stage {
 }
 
 // Whether a stage's bytes lie in a bounce buffer of n bytes.
+#[tactic(auto, unfolding(crate::specs::Stages::lies_in))]
 fn lies_in(g: Stage, n: u64) -> bool
     ensures { result ≡ lies_in n g }
 {
-    let head = g.head;
-    let tail = g.second_at();
-    let asked = is_sum_within(head.0 as u64, size(g.asked), n);
+    let asked = is_sum_within(g.head.0 as u64, size(g.asked), n);
     let first = size(g.first) <= n;
-    let last = is_sum_within(tail.0 as u64, size(g.second), n);
+    let last = is_sum_within(g.second_at().0 as u64, size(g.second), n);
     asked & (size(g.request) <= n) & first & last
 }
 
 impl State {
     // The request that is out, or waited for, of a job whose vector has `count` segments.
+    #[tactic(auto, unfolding(crate::specs::Stages::request_of))]
     pub fn request(self, count: usize) -> Request
         ensures { result ≡ request_of self count }
     {
-        let p = self.phase;
-        let job = self.job;
         let g = self.stage;
-        match p {
-            Phase::Free => request_for(Kind::Read, g.request, 0),
-            Phase::Ended => request_for(Kind::Read, g.request, 0),
+        match self.phase {
+            Phase::Free | Phase::Ended => request_for(Kind::Read, g.request, 0),
             Phase::DirectRead => request_for(Kind::Read, g.request, count),
             Phase::BouncedRead => request_for(Kind::Read, g.request, 1),
             Phase::FirstRead => request_for(Kind::Read, g.first, 1),
             Phase::SecondRead => request_for(Kind::Read, g.second, 1),
             Phase::BouncedWrite => request_for(Kind::Write, g.request, 1),
             Phase::DirectWrite => request_for(Kind::Write, g.request, count),
-            Phase::ZeroRequest => request_for(zero_kind(job), g.request, 0),
+            Phase::ZeroRequest => request_for(zero_kind(self.job), g.request, 0),
             Phase::DiscardRequest => request_for(Kind::Discard, g.request, 0),
         }
     }
 
     // Whether the stage's bytes lie in a bounce buffer of `bounce` bytes, where the phase uses one.
+    #[tactic(auto, unfolding(crate::specs::Stages::is_sound))]
     pub fn is_sound(self, bounce: u64) -> bool
         ensures { result ≡ is_sound bounce self }
     {
-        let phase = self.phase;
-        if uses_bounce(phase) {
-            let stage = self.stage;
-            return lies_in(stage, bounce);
-        }
-        true
+        !uses_bounce(self.phase) || lies_in(self.stage, bounce)
     }
 }

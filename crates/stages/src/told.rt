@@ -20,11 +20,12 @@ pub enum Step {
 }
 
 impl State {
-    // The job in another phase. A store to a field that is an enum is not covered: the state is made anew of the other fields.
-    fn set_phase(self, phase: Phase) -> State
+    // The job in another phase.
+    fn set_phase(mut self, phase: Phase) -> State
         ensures { result ≡ in_phase phase self }
     {
-        State { phase, ..self }
+        self.phase = phase;
+        self
     }
 
     // The job ended, with its final answer.
@@ -32,7 +33,8 @@ impl State {
         ensures { result ≡ ended_with answer self }
     {
         self.answer = answer;
-        self.set_phase(Phase::Ended)
+        self.phase = Phase::Ended;
+        self
     }
 
     // The job ends: a failure ends it with its number.
@@ -60,12 +62,14 @@ impl State {
     }
 
     // The next chunk of write_full_zeroes, from `start` to the end of the job's range.
+    #[tactic(auto, unfolding(crate::specs::Stages::chunk_next))]
     fn write_chunk(self, settings: Settings, start: StoreOffset) -> Step
         ensures { result ≡ chunk_next settings self start }
     {
-        let range = self.range;
-        let end = range.end;
-        let rest = Range { start, end };
+        let rest = Range {
+            start,
+            end: self.range.end,
+        };
         match next_chunk(rest, settings) {
             Chunk::Nothing => self.ends(0),
             Chunk::Next(part) => self.write_zeroes(settings, Course::Chunks, part),
@@ -74,14 +78,14 @@ impl State {
     }
 
     // The write of zeroes behind the middle, where not empty.
+    #[tactic(auto, unfolding(crate::specs::Stages::tail_next))]
     fn write_tail(self, settings: Settings) -> Step
         ensures { result ≡ tail_next settings self }
     {
-        let range = self.range;
-        let middle = self.middle;
-        let start = middle.end;
-        let end = range.end;
-        let part = Range { start, end };
+        let part = Range {
+            start: self.middle.end,
+            end: self.range.end,
+        };
         if 0 < size(part) {
             return self.write_zeroes(settings, Course::Last, part);
         }
@@ -89,14 +93,14 @@ impl State {
     }
 
     // The write of zeroes before the middle, where not empty, otherwise the one behind it.
+    #[tactic(auto, unfolding(crate::specs::Stages::head_next))]
     fn write_head(self, settings: Settings) -> Step
         ensures { result ≡ head_next settings self }
     {
-        let range = self.range;
-        let middle = self.middle;
-        let start = range.start;
-        let end = middle.start;
-        let part = Range { start, end };
+        let part = Range {
+            start: self.range.start,
+            end: self.middle.start,
+        };
         if 0 < size(part) {
             return self.write_zeroes(settings, Course::Head, part);
         }
@@ -107,14 +111,11 @@ impl State {
     fn end_stage(self, settings: Settings) -> Step
         ensures { result ≡ stage_done self.course settings self }
     {
-        let course = self.course;
-        let stage = self.stage;
-        let asked = stage.asked;
-        match course {
+        match self.course {
             Course::Last => self.ends(0),
             Course::Middle => self.write_head(settings),
             Course::Head => self.write_tail(settings),
-            Course::Chunks => self.write_chunk(settings, asked.end),
+            Course::Chunks => self.write_chunk(settings, self.stage.asked.end),
         }
     }
 
@@ -122,8 +123,7 @@ impl State {
     fn pass_first_read(self) -> Phase
         ensures { result ≡ pick (ltb 0 (size_of self.stage.second)) Phase.SecondRead Phase.BouncedWrite }
     {
-        let stage = self.stage;
-        if 0 < size(stage.second) {
+        if 0 < size(self.stage.second) {
             return Phase::SecondRead;
         }
         Phase::BouncedWrite
@@ -133,8 +133,7 @@ impl State {
     pub fn done(self, settings: Settings) -> Step
         ensures { result ≡ done_next self.phase settings self }
     {
-        let phase = self.phase;
-        match phase {
+        match self.phase {
             Phase::FirstRead => Step::Stays(self.set_phase(self.pass_first_read())),
             Phase::SecondRead => Step::Stays(self.set_phase(Phase::BouncedWrite)),
             Phase::BouncedWrite | Phase::ZeroRequest => self.end_stage(settings),
@@ -151,9 +150,8 @@ impl State {
     pub fn unsupported(self, settings: Settings) -> Step
         ensures { result ≡ unsupported_next self.phase settings self }
     {
-        let phase = self.phase;
         let whole = self.range;
-        match phase {
+        match self.phase {
             Phase::ZeroRequest => self.write_chunk(settings, whole.start),
             Phase::DiscardRequest => self.ends(0), // answer 1 counts as done
             Phase::Free

@@ -23,7 +23,7 @@ use Rattle.blockers.specs.declared.Kind.{Kind}
 use Rattle.blockers.specs.declared.Kind.TheVariants.{Absent}
 use Rattle.blockers.specs.declared.Blocker.{Blocker}
 use Rattle.blockers.specs.declared.Blockers.{Blockers}
-use Rattle.blockers.specs.declared.Changed.{Changed}
+use Rattle.blockers.specs.Blockers.{Changed}
 use Rattle.stages.specs.Stages.{blocked_of, is_blocking, is_sound}
 use Rattle.stages.specs.declared.state.Stage.{Stage}
 use Rattle.stages.specs.declared.state.State.{State}

@@ -22,7 +22,7 @@ use Rattle.dock.specs.Dock.{state_at, vector_at, share_at, vacant, open_of, open
 use Rattle.dock.specs.Dock.{first_free}
 use Rattle.dock.specs.Begin.{admit_at, with_job, Begins, stored_with, vector_for, plan_for, decided_for, begin_of}
 use Rattle.dock.specs.Next.{is_sound_in, is_sound_of}
-use Rattle.dock.specs.Tell.{steps, refused_step, answered_of, answered_by, told_at, Told, refused_tell, stored, tell_of, collect_of}
+use Rattle.dock.specs.Tell.{refused_step, answered_of, answered_by, told_at, Told, refused_tell, stored, tell_of, collect_of}
 use Rattle.dock.specs.SlotLaws.{started, lent_done}
 use Rattle.dock.specs.declared.dock.Dock.{Dock}
 use Rattle.dock.specs.declared.begin.Asked.{Asked}
@@ -113,7 +113,7 @@ module _ (d : Dock) (H : Held d) (p : ℕ) where
         stored d p (pick (t && is_sound_in (state_at d p) d.settings d.buffers)
         (answered_by (pick u (Leads (told_of d.settings (state_at d p) code)) (NoLead NoAnswer)) d.blockers p (share_at d p)
         (state_at d p) code (vector_at d p)
-        memory scratch) (steps (refused_step d.blockers (state_at d p) Slot) memory scratch))
+        memory scratch) (refused_step d.blockers (state_at d p) Slot memory scratch))
 
     there : p < 8 → length memory ≡ d.buffers.«data».length → (t u : Bool) → is_out_by d.blockers (state_at d p) p ≡ t
         → told t u ≡ pick t (pick u step (refused_tell d memory scratch NoAnswer)) (refused_tell d memory scratch Slot)
