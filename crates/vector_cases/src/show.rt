@@ -1,138 +1,78 @@
 // One line a case: a label, then the answer.
 use arithmetic::refusals::Outcome;
-use std::io;
+use std::{fmt, io};
 use vectors::vector::{Alignment, Changed, Halves, IoVector, Segment, Tail};
 
-pub fn text(rt: &impl Print, bytes: &[u8]) -> io::Result<()> {
-    rt.write_all(bytes)
-}
+// What became of a call: done, or the number of its refusal.
+#[derive(Clone, Copy)]
+struct Became(Outcome);
 
-pub fn number(rt: &impl Print, n: u64) -> io::Result<()> {
-    rt.print(n)
-}
-
-fn widen(x: u8) -> u64 {
-    x as u64
-}
-
-pub fn outcome(rt: &impl Print, o: Outcome) -> io::Result<()> {
-    let n = o.number();
-    if n == 0 {
-        text(rt, b"done")
-    } else {
-        number(rt, widen(n))
+impl fmt::Display for Became {
+    fn fmt<W: fmt::Write>(&self, f: &mut fmt::Formatter<W>) -> fmt::Result {
+        match self.0.number() {
+            0 => f.write_str("done"),
+            n => write!(f, "{n}"),
+        }
     }
-}
-
-fn segment(rt: &impl Print, p: Segment) -> io::Result<()> {
-    text(rt, b" ")?;
-    number(rt, p.start as u64)?;
-    text(rt, b"+")?;
-    number(rt, p.length as u64)
 }
 
 // Count, total, and each segment as start+length.
-fn vector(rt: &impl Print, v: IoVector) -> io::Result<()> {
-    number(rt, v.count as u64)?;
-    text(rt, b" segments, ")?;
-    number(rt, v.total)?;
-    text(rt, b" bytes")?;
-    segments(rt, v)
-}
+#[derive(Clone, Copy)]
+struct Shown<'a>(&'a IoVector);
 
-fn segments(rt: &impl Print, v: IoVector) -> io::Result<()> {
-    let n = v.count;
-    let mut i = 0usize;
-    while i < 16 {
-        if i < n {
-            let p = v.segments[i];
-            segment(rt, p)?;
+impl fmt::Display for Shown<'_> {
+    fn fmt<W: fmt::Write>(&self, f: &mut fmt::Formatter<W>) -> fmt::Result {
+        let v = self.0;
+        write!(f, "{} segments, {} bytes", v.count, v.total)?;
+        for s in v.segments.iter().take(v.count) {
+            write!(f, " {}+{}", s.start, s.length)?;
         }
-        i += 1;
+        Ok(())
     }
-    Ok(())
 }
 
-pub fn vector_line(rt: &impl Print, label: &[u8], v: IoVector) -> io::Result<()> {
-    text(rt, label)?;
-    text(rt, b": ")?;
-    vector(rt, v)?;
-    text(rt, b"\n")
+pub fn vector_line(rt: &impl Print, label: &str, v: IoVector) -> io::Result<()> {
+    println!(rt; "{label}: {}", Shown(&v))
 }
 
-pub fn changed(rt: &impl Print, label: &[u8], c: Changed) -> io::Result<()> {
-    text(rt, label)?;
-    text(rt, b": ")?;
-    let o = c.outcome;
-    outcome(rt, o)?;
-    text(rt, b", ")?;
-    let v = c.vector;
-    vector(rt, v)?;
-    text(rt, b"\n")
+pub fn changed(rt: &impl Print, label: &str, c: Changed) -> io::Result<()> {
+    println!(rt; "{label}: {}, {}", Became(c.outcome), Shown(&c.vector))
 }
 
 pub fn halves(rt: &impl Print, mid: u64, h: Halves) -> io::Result<()> {
-    text(rt, b"split at ")?;
-    number(rt, mid)?;
-    text(rt, b": ")?;
-    let o = h.outcome;
-    outcome(rt, o)?;
-    text(rt, b", ")?;
-    let head = h.head;
-    vector(rt, head)?;
-    text(rt, b" | ")?;
-    let tail = h.tail;
-    vector(rt, tail)?;
-    looked(rt, h.looked)
+    print!(rt; "split at {mid}: {}, ", Became(h.outcome))?;
+    println!(rt;
+        "{} | {}, {} looked at",
+        Shown(&h.head),
+        Shown(&h.tail),
+        h.looked
+    )
 }
 
-pub fn tail(rt: &impl Print, t: Tail) -> io::Result<()> {
-    text(rt, b": ")?;
-    let o = t.outcome;
-    outcome(rt, o)?;
-    text(rt, b", ")?;
-    let v = t.vector;
-    vector(rt, v)?;
-    looked(rt, t.looked)
+pub fn tail(rt: &impl Print, mid: u64, t: Tail) -> io::Result<()> {
+    print!(rt; "tail from {mid}: {}, ", Became(t.outcome))?;
+    println!(rt; "{}, {} looked at", Shown(&t.vector), t.looked)
 }
 
-fn looked(rt: &impl Print, n: usize) -> io::Result<()> {
-    text(rt, b", ")?;
-    number(rt, n as u64)?;
-    text(rt, b" looked at\n")
+pub fn yes_no(rt: &impl Print, label: &str, b: bool) -> io::Result<()> {
+    println!(rt; "{label}: {}", if b { "yes" } else { "no" })
 }
 
-pub fn yes_no(rt: &impl Print, label: &[u8], b: bool) -> io::Result<()> {
-    text(rt, label)?;
-    if b {
-        text(rt, b": yes\n")
-    } else {
-        text(rt, b": no\n")
-    }
+pub fn number_line(rt: &impl Print, label: &str, n: u64) -> io::Result<()> {
+    println!(rt; "{label}: {n}")
 }
 
-pub fn number_line(rt: &impl Print, label: &[u8], n: u64) -> io::Result<()> {
-    text(rt, label)?;
-    text(rt, b": ")?;
-    number(rt, n)?;
-    text(rt, b"\n")
+pub fn bytes(rt: &impl Print, label: &str, o: Outcome, bytes: &[u8]) -> io::Result<()> {
+    print!(rt; "{label}: {}, ", Became(o))?;
+    rt.write_all(bytes)?;
+    print!(rt; "\n")
 }
 
-pub fn bytes(rt: &impl Print, label: &[u8], o: Outcome, bytes: &[u8]) -> io::Result<()> {
-    text(rt, label)?;
-    text(rt, b": ")?;
-    outcome(rt, o)?;
-    text(rt, b", ")?;
-    text(rt, bytes)?;
-    text(rt, b"\n")
-}
-
-pub fn alignment(rt: &impl Print, label: &[u8], a: Alignment) -> io::Result<()> {
-    text(rt, label)?;
+pub fn alignment(rt: &impl Print, label: &str, a: Alignment) -> io::Result<()> {
     match a {
-        Alignment::Aligned => text(rt, b": aligned\n"),
-        Alignment::Unaligned => text(rt, b": unaligned\n"),
-        Alignment::Refused(r) => number_line(rt, b"", widen(r.number())),
+        Alignment::Aligned => println!(rt; "{label}: aligned"),
+        Alignment::Unaligned => println!(rt; "{label}: unaligned"),
+        Alignment::Refused(r) => println!(rt; "{label}: {}", r.number()),
     }
 }
 

@@ -1,9 +1,0 @@
--- The index stays below the array's length.
-use Rattle.std.proofs.Common.{◌-◌, ◌≤◌}
-use Rattle.vector_cases.proofs.show.segments.Given as goal
-
-abbrev pub invariant-loop-i : goal.invariant-loop-i
-invariant-loop-i g l = l.i ≤ 16
-
-abbrev pub decreases-loop-i : goal.decreases-loop-i
-decreases-loop-i g l = 16 - l.i
