@@ -72,7 +72,7 @@ fn split(rt: &impl Print, c: Cut) -> io::Result<()> {
     print!(rt; " zero {}", Extent::from(c.middle))?;
     part(rt, c.head)?;
     part(rt, c.tail)?;
-    print!(rt; "\n")
+    println!(rt)
 }
 
 // A drive, whose jobs are printed.
@@ -121,7 +121,7 @@ impl Drive {
             let end = StoreOffset(end);
             self.chunks(rt, Range { start, end }, most)?;
         }
-        print!(rt; "\n")
+        println!(rt)
     }
 
     fn chunks(self, rt: &impl Print, mut rest: Range, most: u64) -> io::Result<()> {

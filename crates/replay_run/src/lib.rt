@@ -254,6 +254,7 @@ impl Bench {
     fn perform(&mut self, rt: &impl Print, line: &[u8], e: Event) -> io::Result<()> {
         trace::copy(rt, line, ":")?;
         self.answer(rt, e)?;
+        // By its fields, and not by `view`, since the marks change beside them.
         let view = View {
             dock: &self.dock,
             data: &self.data,

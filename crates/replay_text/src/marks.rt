@@ -2,13 +2,14 @@
 use dock::dock::SLOTS;
 
 // A request is shown when it is due, then carried out, then told.
-#[derive(Clone, Copy, PartialEq)]
+#[derive(Clone, Copy, PartialEq, Eq)]
 pub enum Mark {
     New, // not shown yet, or no request
     Shown,
     Carried(u8), // with that code
 }
 
+// The mark of each slot.
 #[derive(Clone, Copy)]
 pub struct Marks {
     of: [Mark; SLOTS],

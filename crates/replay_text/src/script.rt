@@ -31,7 +31,7 @@ pub enum Flaw {
     Long, // more than 64 bytes to show
 }
 
-// An event: its word, and the numbers after it; 0 for those that are not there. An array and a count, since memory is fixed: there is no heap.
+// An event: its word, and the numbers after it; 0 for those that are not there. They are an array and a count: memory is fixed.
 #[derive(Clone, Copy)]
 pub struct Event {
     pub verb: Verb,

@@ -184,7 +184,14 @@ fn slot(rt: &impl Print, view: View, slot: usize, marks: &mut Marks) -> io::Resu
     }
     print!(rt; "  slot {slot}:{}", due_or_out(d, slot, marks))?;
     due(rt, view, slot, d)?;
-    print!(rt; "\n")
+    println!(rt)
+}
+
+fn slots(rt: &impl Print, view: View, marks: &mut Marks) -> io::Result<()> {
+    for i in 0..SLOTS {
+        slot(rt, view, i, marks)?;
+    }
+    Ok(())
 }
 
 // The sum of the bytes, modulo 65536.
@@ -196,10 +203,8 @@ fn checksum(bytes: &[u8]) -> u16 {
 
 // After an event's answer: the line's end, every slot that has a job, and the checksums.
 pub fn state(rt: &impl Print, view: View, marks: &mut Marks, store: &[u8]) -> io::Result<()> {
-    print!(rt; "\n")?;
-    for i in 0..SLOTS {
-        slot(rt, view, i, marks)?;
-    }
+    println!(rt)?;
+    slots(rt, view, marks)?;
     println!(rt; "  store {} data {}", checksum(store), checksum(view.data))
 }
 

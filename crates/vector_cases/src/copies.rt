@@ -63,7 +63,7 @@ pub fn fills(rt: &impl Print) -> io::Result<()> {
     bytes::fill_bytes(&mut eight, 46);
     print!(rt; "fill eight bytes: ")?;
     rt.write_all(&eight)?;
-    print!(rt; "\n")
+    println!(rt)
 }
 
 fn own(rt: &impl Print, label: &str, buffer: &mut [u8]) -> io::Result<()> {

@@ -65,7 +65,7 @@ pub fn number_line(rt: &impl Print, label: &str, n: u64) -> io::Result<()> {
 pub fn bytes(rt: &impl Print, label: &str, o: Outcome, bytes: &[u8]) -> io::Result<()> {
     print!(rt; "{label}: {}, ", Became(o))?;
     rt.write_all(bytes)?;
-    print!(rt; "\n")
+    println!(rt)
 }
 
 pub fn alignment(rt: &impl Print, label: &str, a: Alignment) -> io::Result<()> {
