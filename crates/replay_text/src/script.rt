@@ -1,7 +1,8 @@
 // A line of the script, taken apart.
+use std::str;
 use vectors::vector::Segment;
 
-// The word that a line starts with.
+// The word that an event starts with.
 #[derive(Clone, Copy)]
 pub enum Verb {
     Open,
@@ -17,7 +18,6 @@ pub enum Verb {
     Tell,
     Collect,
     Show,
-    Unknown,
 }
 
 // What is wrong with a line.
@@ -31,63 +31,94 @@ pub enum Flaw {
     Long, // more than 64 bytes to show
 }
 
-// Whether a line is an event.
-#[derive(Clone, Copy)]
-pub enum Verdict {
-    Good,
-    Bad(Flaw),
-}
-
-// An event: its word, and the numbers after it; 0 for those that are not there.
+// An event: its word, and the numbers after it; 0 for those that are not there. They are an array and a count: memory is fixed.
 #[derive(Clone, Copy)]
 pub struct Event {
     pub verb: Verb,
     pub count: usize,
-    pub values: [u64; 35],
+    pub values: [u64; MOST],
 }
 
-// What a line says, which counts only where the verdict is good.
+// What a line says.
 #[derive(Clone, Copy)]
-pub struct Parsed {
-    pub event: Event,
-    pub verdict: Verdict,
+pub enum Line {
+    Comment,
+    Event(Event),
+    Malformed(Flaw),
 }
 
-// A number, and where it ends.
-#[derive(Clone, Copy)]
-pub enum Number {
-    Is(u64, usize),
-    Bad,
-}
-
-// The numbers of a line up to the first that is none: good where the line ends there.
-#[derive(Clone, Copy)]
-struct Numbers {
-    values: [u64; 35],
-    count: usize,
-    good: bool,
-}
-
-// One more than a vector takes, so that a script can see it refused.
-const MOST_SEGMENTS: usize = 17;
-
-// An offset, and two numbers for each segment.
+// An offset, and two numbers for each segment, of which there may be one more than a vector takes, so that a script can see it refused.
 const MOST: usize = 35;
 
 const MOST_SHOWN: u64 = 64;
 
-impl Event {
-    // Number i, from 0 on; 0 where there is none.
-    pub fn number(self, i: usize) -> u64 {
-        if MOST <= i {
-            return 0;
+// The verbs, by their words.
+const VERBS: [(&str, Verb); 13] = [
+    ("open", Verb::Open),
+    ("store", Verb::Store),
+    ("data", Verb::Data),
+    ("read", Verb::Read),
+    ("write", Verb::Write),
+    ("zero", Verb::Zero),
+    ("alloc", Verb::Alloc),
+    ("discard", Verb::Discard),
+    ("next", Verb::Next),
+    ("carry", Verb::Carry),
+    ("tell", Verb::Tell),
+    ("collect", Verb::Collect),
+    ("show", Verb::Show),
+];
+
+impl TryFrom<&[u8]> for Verb {
+    type Error = Flaw;
+
+    fn try_from(word: &[u8]) -> Result<Verb, Flaw> {
+        VERBS
+            .iter()
+            .find(|(name, _)| name.as_bytes() == word)
+            .map(|(_, verb)| *verb)
+            .ok_or(Flaw::Word)
+    }
+}
+
+impl Verb {
+    // Whether the event takes that many numbers.
+    fn takes(self, count: usize) -> bool {
+        match self {
+            Verb::Read | Verb::Write => count % 2 == 1,
+            Verb::Store | Verb::Data => count == 3,
+            Verb::Carry => (count == 2) | (count == 3),
+            Verb::Next | Verb::Collect => count == 1,
+            Verb::Open | Verb::Zero | Verb::Alloc | Verb::Discard | Verb::Tell | Verb::Show => {
+                count == 2
+            }
         }
-        self.values[i]
+    }
+}
+
+impl Event {
+    // Number i, from 0 on, where there is one.
+    pub fn get(self, i: usize) -> Option<u64> {
+        if i < self.count {
+            self.values.get(i).copied()
+        } else {
+            None
+        }
+    }
+
+    // Likewise, and 0 where there is none.
+    pub fn number(self, i: usize) -> u64 {
+        self.get(i).unwrap_or(0)
+    }
+
+    // Number i as a byte, which the script's reader has found it to be; 255 where it is above.
+    pub fn byte(self, i: usize) -> u8 {
+        u8::try_from(self.number(i)).unwrap_or(255)
     }
 
     // Segment k, from 0 on, whose start and length stand after the offset; an empty one where there is none.
     pub fn segment(self, k: usize) -> Segment {
-        if MOST_SEGMENTS <= k {
+        if MOST / 2 <= k {
             return Segment {
                 start: 0,
                 length: 0,
@@ -98,230 +129,80 @@ impl Event {
             length: self.number(2 * k + 2) as usize,
         }
     }
-}
 
-// Where the first word of a line ends.
-fn word_end(line: &[u8]) -> usize {
-    let mut i = 0;
-    while i < line.len() {
-        if line[i] == b' ' {
-            return i;
+    // Whether bytes and codes are at most 255, and no more is to be shown than fits a line.
+    fn check_bounds(self) -> Result<(), Flaw> {
+        match self.verb {
+            Verb::Store | Verb::Data if 255 < self.number(2) => Err(Flaw::Byte),
+            Verb::Carry | Verb::Tell if 255 < self.number(1) => Err(Flaw::Code),
+            Verb::Show if MOST_SHOWN < self.number(1) => Err(Flaw::Long),
+            _ => Ok(()),
         }
-        i += 1;
     }
-    i
 }
 
-// Whether the first n bytes of the line are that word.
-fn is_word(line: &[u8], n: usize, word: &[u8]) -> bool {
-    if word.len() != n {
-        return false;
-    }
-    if line.len() < n {
-        return false;
-    }
-    let mut i = 0;
-    while i < n {
-        if line[i] != word[i] {
-            return false;
+// The decimal number that a text starts with, of at least one digit and of 64 bits, and what follows it.
+fn number(text: &[u8]) -> Option<(u64, &[u8])> {
+    let end = text.iter().take_while(|b| b.is_ascii_digit()).count();
+    let (digits, rest) = text.split_at(end);
+    let n = str::from_utf8(digits).ok()?.parse::<u64>().ok()?;
+    Some((n, rest))
+}
+
+// The event of a verb and the numbers that follow it, each after one blank, up to the line's end.
+fn with_numbers(verb: Verb, text: &[u8]) -> Result<Event, Flaw> {
+    let mut values = [0u64; MOST];
+    let mut rest = text;
+    for count in 0..MOST {
+        if rest.is_empty() {
+            return Ok(Event {
+                verb,
+                count,
+                values,
+            });
         }
-        i += 1;
+        let (n, next) = rest
+            .strip_prefix(b" ")
+            .and_then(number)
+            .ok_or(Flaw::Number(count))?;
+        values[count] = n;
+        rest = next;
     }
-    true
-}
-
-// A word that begins a job.
-fn begin_verb(line: &[u8], n: usize) -> Verb {
-    if is_word(line, n, b"read") {
-        return Verb::Read;
-    }
-    if is_word(line, n, b"write") {
-        return Verb::Write;
-    }
-    if is_word(line, n, b"zero") {
-        return Verb::Zero;
-    }
-    if is_word(line, n, b"alloc") {
-        return Verb::Alloc;
-    }
-    if is_word(line, n, b"discard") {
-        return Verb::Discard;
-    }
-    Verb::Unknown
-}
-
-// The event that the first n bytes of the line name.
-fn verb_of(line: &[u8], n: usize) -> Verb {
-    if is_word(line, n, b"next") {
-        return Verb::Next;
-    }
-    if is_word(line, n, b"carry") {
-        return Verb::Carry;
-    }
-    if is_word(line, n, b"tell") {
-        return Verb::Tell;
-    }
-    if is_word(line, n, b"collect") {
-        return Verb::Collect;
-    }
-    if is_word(line, n, b"open") {
-        return Verb::Open;
-    }
-    if is_word(line, n, b"store") {
-        return Verb::Store;
-    }
-    if is_word(line, n, b"data") {
-        return Verb::Data;
-    }
-    if is_word(line, n, b"show") {
-        return Verb::Show;
-    }
-    begin_verb(line, n)
-}
-
-fn is_digit(b: u8) -> bool {
-    (b'0' <= b) & (b <= b'9')
-}
-
-fn digit(b: u8) -> u64 {
-    if b < b'0' {
-        return 0;
-    }
-    let d = b - b'0';
-    d as u64
-}
-
-// The number x with one digit more; Bad where it does not fit 64 bits.
-fn add_digit(x: u64, b: u8, next: usize) -> Number {
-    let d = digit(b);
-    if 1844674407370955161 < x {
-        return Number::Bad;
-    }
-    if 0xffff_ffff_ffff_ffff - x * 10 < d {
-        return Number::Bad;
-    }
-    Number::Is(x * 10 + d, next)
-}
-
-// The decimal number of the line that starts at `from`: at least one digit.
-fn number_at(line: &[u8], from: usize) -> Number {
-    let mut i = from;
-    let mut x = 0u64;
-    while i < line.len() {
-        if !is_digit(line[i]) {
-            break;
-        }
-        let Number::Is(y, _) = add_digit(x, line[i], i) else {
-            return Number::Bad;
-        };
-        x = y;
-        i += 1;
-    }
-    if i == from {
-        return Number::Bad;
-    }
-    Number::Is(x, i)
-}
-
-// The number after one blank at `at`; Bad where there is none.
-fn number_after(line: &[u8], at: usize) -> Number {
-    if line.len() <= at {
-        return Number::Bad;
-    }
-    if line[at] != b' ' {
-        return Number::Bad;
-    }
-    number_at(line, at + 1)
-}
-
-// The numbers from `from` on, each after one blank.
-fn numbers_at(line: &[u8], from: usize) -> Numbers {
-    let mut values = [0u64; 35];
-    let mut count = 0usize;
-    let mut at = from;
-    while count < MOST {
-        let Number::Is(x, next) = number_after(line, at) else {
-            break;
-        };
-        values[count] = x;
-        count += 1;
-        at = next;
-    }
-    Numbers {
-        values,
-        count,
-        good: line.len() <= at,
+    if rest.is_empty() {
+        Ok(Event {
+            verb,
+            count: MOST,
+            values,
+        })
+    } else {
+        Err(Flaw::Count(verb))
     }
 }
 
-// Whether an event takes that many numbers.
-fn takes(verb: Verb, count: usize) -> bool {
-    match verb {
-        Verb::Read | Verb::Write => count % 2 == 1,
-        Verb::Store | Verb::Data => count == 3,
-        Verb::Carry => (count == 2) | (count == 3),
-        Verb::Next | Verb::Collect => count == 1,
-        Verb::Unknown => false,
-        _ => count == 2,
-    }
+// The first word of a line, and what follows it.
+fn split_word(line: &[u8]) -> (&[u8], &[u8]) {
+    let end = line.iter().position(|b| *b == b' ');
+    line.split_at(end.unwrap_or(line.len()))
 }
 
-// Whether a number is below a bound, and the flaw that it has where it is not.
-fn check_below(x: u64, bound: u64, flaw: Flaw) -> Verdict {
-    if x < bound {
-        return Verdict::Good;
+// The event of a line, or what is wrong with it: its word, then its numbers from the first to the last, then how many they are.
+fn read_event(line: &[u8]) -> Result<Event, Flaw> {
+    let (word, numbers) = split_word(line);
+    let event = with_numbers(Verb::try_from(word)?, numbers)?;
+    if !event.verb.takes(event.count) {
+        return Err(Flaw::Count(event.verb));
     }
-    Verdict::Bad(flaw)
+    event.check_bounds()?;
+    Ok(event)
 }
 
-// Whether bytes and codes are at most 255, and no more is to be shown than fits a line.
-fn check_bounds(e: Event) -> Verdict {
-    let verb = e.verb;
-    match verb {
-        Verb::Store | Verb::Data => check_below(e.number(2), 256, Flaw::Byte),
-        Verb::Carry | Verb::Tell => check_below(e.number(1), 256, Flaw::Code),
-        Verb::Show => check_below(e.number(1), MOST_SHOWN + 1, Flaw::Long),
-        _ => Verdict::Good,
+// What a line says: it is a comment where it is empty or starts with #.
+pub fn parse(line: &[u8]) -> Line {
+    if line.is_empty() || line.starts_with(b"#") {
+        return Line::Comment;
     }
-}
-
-fn is_known(verb: Verb) -> bool {
-    match verb {
-        Verb::Unknown => false,
-        _ => true,
+    match read_event(line) {
+        Ok(event) => Line::Event(event),
+        Err(flaw) => Line::Malformed(flaw),
     }
-}
-
-// What is wrong with an event: its word, then its numbers from the first to the last, then how many they are.
-fn judge(e: Event, good: bool) -> Verdict {
-    let verb = e.verb;
-    let count = e.count;
-    if !is_known(verb) {
-        return Verdict::Bad(Flaw::Word);
-    }
-    if !good {
-        if count < MOST {
-            return Verdict::Bad(Flaw::Number(count));
-        }
-        return Verdict::Bad(Flaw::Count(verb));
-    }
-    if !takes(verb, count) {
-        return Verdict::Bad(Flaw::Count(verb));
-    }
-    check_bounds(e)
-}
-
-// The event of a line, and what is wrong with it.
-pub fn parse(line: &[u8]) -> Parsed {
-    let n = word_end(line);
-    let verb = verb_of(line, n);
-    let found = numbers_at(line, n);
-    let values = found.values;
-    let event = Event {
-        verb,
-        count: found.count,
-        values,
-    };
-    let verdict = judge(event, found.good);
-    Parsed { event, verdict }
 }

@@ -1,7 +1,5 @@
 // What is printed.
-ghost use Rattle.std.specs.Prelude.{◌<◌};
-
-use crate::marks;
+use crate::marks::{Mark, Marks};
 use crate::script::{Flaw, Verb};
 use arithmetic::refusals::{Outcome, Refusal};
 use dock::begin::Begun;
@@ -9,303 +7,285 @@ use dock::dock::{Dock, SLOTS};
 use dock::next::{Due, Piece};
 use dock::tell::Collected;
 use stages::state::{Kind, Request};
-use std::io;
+use std::{fmt, io};
 use vectors::vector::Segment;
 
-pub fn text(rt: &impl Print, bytes: &[u8]) -> io::Result<()> {
-    rt.write_all(bytes)
+// A dock, and the buffers that are lent to it.
+#[derive(Clone, Copy)]
+pub struct View<'a> {
+    pub dock: &'a Dock,
+    pub data: &'a [u8],
+    pub scratch: &'a [u8],
 }
 
-pub fn number(rt: &impl Print, n: u64) -> io::Result<()> {
-    rt.print(n)
+impl View<'_> {
+    pub fn next(self, slot: usize) -> Due {
+        self.dock.next(slot, self.data, self.scratch)
+    }
+
+    // Where piece i of the request in `slot` lies.
+    fn piece(self, slot: usize, i: usize) -> Place {
+        Place(
+            self.dock
+                .piece_place(slot, i, self.data.len(), self.scratch.len()),
+        )
+    }
 }
 
-// A word and a number after a blank each.
-fn pair(rt: &impl Print, word: &[u8], n: u64) -> io::Result<()> {
-    text(rt, b" ")?;
-    text(rt, word)?;
-    text(rt, b" ")?;
-    number(rt, n)
+// A refusal, by its number: refused 208
+#[derive(Clone, Copy)]
+struct Reason(Refusal);
+
+impl fmt::Display for Reason {
+    fn fmt<W: fmt::Write>(&self, f: &mut fmt::Formatter<W>) -> fmt::Result {
+        write!(f, "refused {}", self.0.number())
+    }
+}
+
+// Where a run of bytes starts, and how many they are: 0+512
+#[derive(Clone, Copy)]
+struct Extent {
+    start: u64,
+    length: u64,
+}
+
+impl From<Segment> for Extent {
+    fn from(s: Segment) -> Extent {
+        Extent {
+            start: s.start as u64,
+            length: s.length as u64,
+        }
+    }
+}
+
+impl fmt::Display for Extent {
+    fn fmt<W: fmt::Write>(&self, f: &mut fmt::Formatter<W>) -> fmt::Result {
+        write!(f, "{}+{}", self.start, self.length)
+    }
+}
+
+// Where a piece lies: scratch 0+512
+#[derive(Clone, Copy)]
+struct Place(Piece);
+
+impl fmt::Display for Place {
+    fn fmt<W: fmt::Write>(&self, f: &mut fmt::Formatter<W>) -> fmt::Result {
+        match self.0 {
+            Piece::InData(s) => write!(f, "data {}", Extent::from(s)),
+            Piece::InScratch(s) => write!(f, "scratch {}", Extent::from(s)),
+            Piece::Refused(r) => write!(f, "{}", Reason(r)),
+        }
+    }
 }
 
 pub fn refused(rt: &impl Print, r: Refusal) -> io::Result<()> {
-    pair(rt, b"refused", r.number() as u64)
+    print!(rt; " {}", Reason(r))
 }
 
 pub fn outcome(rt: &impl Print, o: Outcome) -> io::Result<()> {
     match o {
-        Outcome::Done => text(rt, b" done"),
+        Outcome::Done => print!(rt; " done"),
         Outcome::Refused(r) => refused(rt, r),
     }
 }
 
 pub fn begun(rt: &impl Print, b: Begun) -> io::Result<()> {
     match b {
-        Begun::Done => text(rt, b" done"),
-        Begun::Admitted(slot) => pair(rt, b"slot", slot as u64),
+        Begun::Done => print!(rt; " done"),
+        Begun::Admitted(slot) => print!(rt; " slot {slot}"),
         Begun::Refused(r) => refused(rt, r),
     }
 }
 
 pub fn collected(rt: &impl Print, c: Collected) -> io::Result<()> {
     match c {
-        Collected::Final(code) => pair(rt, b"code", code as u64),
+        Collected::Final(code) => print!(rt; " code {code}"),
         Collected::Refused(r) => refused(rt, r),
     }
 }
 
-// Where a run of bytes starts, and how many they are: 0+512.
-fn extent(rt: &impl Print, start: u64, n: u64) -> io::Result<()> {
-    number(rt, start)?;
-    text(rt, b"+")?;
-    number(rt, n)
-}
+// What a request is, where on the store, and which way the bytes of its pieces go: read 0+512 into
+#[derive(Clone, Copy)]
+struct Head(Request);
 
-fn kind(rt: &impl Print, k: Kind) -> io::Result<()> {
-    match k {
-        Kind::Read => text(rt, b" read "),
-        Kind::Write => text(rt, b" write "),
-        Kind::Zero => text(rt, b" zero "),
-        Kind::AllocatedZero => text(rt, b" alloc "),
-        Kind::Discard => text(rt, b" discard "),
+fn word(kind: Kind) -> &'static str {
+    match kind {
+        Kind::Read => "read",
+        Kind::Write => "write",
+        Kind::Zero => "zero",
+        Kind::AllocatedZero => "alloc",
+        Kind::Discard => "discard",
     }
 }
 
-// Which way the bytes of a request's pieces go; zero and discard requests have none.
-fn direction(rt: &impl Print, k: Kind) -> io::Result<()> {
-    match k {
-        Kind::Read => text(rt, b" into"),
-        Kind::Write => text(rt, b" from"),
-        _ => Ok(()),
+// Zero and discard requests have no pieces.
+fn direction(kind: Kind) -> &'static str {
+    match kind {
+        Kind::Read => " into",
+        Kind::Write => " from",
+        Kind::Zero | Kind::AllocatedZero | Kind::Discard => "",
     }
 }
 
-fn segment(rt: &impl Print, s: Segment) -> io::Result<()> {
-    extent(rt, s.start as u64, s.length as u64)
-}
-
-fn piece(rt: &impl Print, p: Piece) -> io::Result<()> {
-    match p {
-        Piece::InData(s) => {
-            text(rt, b" data ")?;
-            segment(rt, s)
-        }
-        Piece::InScratch(s) => {
-            text(rt, b" scratch ")?;
-            segment(rt, s)
-        }
-        Piece::Refused(r) => refused(rt, r),
+impl fmt::Display for Head {
+    fn fmt<W: fmt::Write>(&self, f: &mut fmt::Formatter<W>) -> fmt::Result {
+        let request = self.0;
+        let start = request.offset.0;
+        let kind = request.kind;
+        write!(
+            f,
+            "{} {start}+{}{}",
+            word(kind),
+            request.length,
+            direction(kind)
+        )
     }
 }
 
 // Where the n pieces of the request in `slot` lie, in order.
-fn pieces(
-    rt: &impl Print,
-    dock: Dock,
-    slot: usize,
-    n: usize,
-    data_len: usize,
-    scratch_len: usize,
-) -> io::Result<()> {
-    let mut i = 0usize;
-    while i < n {
-        piece(rt, dock.piece_place(slot, i, data_len, scratch_len))?;
-        i += 1;
+fn pieces(rt: &impl Print, view: View, slot: usize, n: usize) -> io::Result<()> {
+    for i in 0..n {
+        print!(rt; " {}", view.piece(slot, i))?;
     }
     Ok(())
 }
 
-// read 0+512 into scratch 0+512: what, where on the store, and where its pieces lie
-fn request(
-    rt: &impl Print,
-    dock: Dock,
-    slot: usize,
-    q: Request,
-    data_len: usize,
-    scratch_len: usize,
-) -> io::Result<()> {
-    let offset = q.offset;
-    let what = q.kind;
-    kind(rt, what)?;
-    extent(rt, offset.0, q.length)?;
-    direction(rt, what)?;
-    pieces(rt, dock, slot, q.segments, data_len, scratch_len)
+// read 0+512 into scratch 0+512
+fn request(rt: &impl Print, view: View, slot: usize, q: Request) -> io::Result<()> {
+    print!(rt; " {}", Head(q))?;
+    pieces(rt, view, slot, q.segments)
 }
 
 // What next answers for `slot`.
-pub fn due(
-    rt: &impl Print,
-    dock: Dock,
-    slot: usize,
-    d: Due,
-    data_len: usize,
-    scratch_len: usize,
-) -> io::Result<()> {
+pub fn due(rt: &impl Print, view: View, slot: usize, d: Due) -> io::Result<()> {
     match d {
-        Due::Waiting => text(rt, b" waiting"),
-        Due::Make(q) => request(rt, dock, slot, q, data_len, scratch_len),
-        Due::Answer(code) => pair(rt, b"answer", code as u64),
+        Due::Waiting => print!(rt; " waiting"),
+        Due::Make(q) => request(rt, view, slot, q),
+        Due::Answer(code) => print!(rt; " answer {code}"),
         Due::Refused(r) => refused(rt, r),
     }
 }
 
 // Whether a request is newly due, or was out before. From here on it is shown.
-fn due_or_out(rt: &impl Print, d: Due, slot: usize, marks: &mut [u64]) -> io::Result<()> {
+fn due_or_out(d: Due, slot: usize, marks: &mut Marks) -> &'static str {
     let Due::Make(_) = d else {
-        return Ok(());
+        return "";
     };
-    if marks::is_new(marks, slot) {
-        text(rt, b" due")?;
-    } else {
-        text(rt, b" out")?;
-    }
-    marks::show(marks, slot);
-    Ok(())
+    let is_new = marks.at(slot) == Mark::New;
+    marks.show(slot);
+    if is_new { " due" } else { " out" }
 }
 
 // What the job in `slot` needs now; nothing for a free slot.
-fn slot(
-    rt: &impl Print,
-    dock: Dock,
-    slot: usize,
-    marks: &mut [u64],
-    data: &[u8],
-    scratch: &[u8],
-) -> io::Result<()> {
-    let d = dock.next(slot, data, scratch);
+fn slot(rt: &impl Print, view: View, slot: usize, marks: &mut Marks) -> io::Result<()> {
+    let d = view.next(slot);
     if let Due::Refused(_) = d {
         return Ok(());
     }
-    text(rt, b" ")?;
-    pair(rt, b"slot", slot as u64)?;
-    text(rt, b":")?;
-    due_or_out(rt, d, slot, marks)?;
-    due(rt, dock, slot, d, data.len(), scratch.len())?;
-    text(rt, b"\n")
+    print!(rt; "  slot {slot}:{}", due_or_out(d, slot, marks))?;
+    due(rt, view, slot, d)?;
+    println!(rt)
 }
 
-fn slots(
-    rt: &impl Print,
-    dock: Dock,
-    marks: &mut [u64],
-    data: &[u8],
-    scratch: &[u8],
-) -> io::Result<()> {
-    let mut i = 0usize;
-    while i < SLOTS {
-        slot(rt, dock, i, marks, data, scratch)?;
-        i += 1;
+fn slots(rt: &impl Print, view: View, marks: &mut Marks) -> io::Result<()> {
+    for i in 0..SLOTS {
+        slot(rt, view, i, marks)?;
     }
     Ok(())
 }
 
-fn widen(b: u8) -> u64
-    ensures { result < 256 }
-{
-    b as u64
-}
-
 // The sum of the bytes, modulo 65536.
-fn checksum(bytes: &[u8]) -> u64 {
-    let mut sum = 0u64;
-    let mut i = 0usize;
-    while i < bytes.len() {
-        sum = (sum % 65536) + widen(bytes[i]);
-        i += 1;
-    }
-    sum % 65536
+fn checksum(bytes: &[u8]) -> u16 {
+    bytes
+        .iter()
+        .fold(0u16, |sum, b| sum.wrapping_add(u16::from(*b)))
 }
 
 // After an event's answer: the line's end, every slot that has a job, and the checksums.
-pub fn state(
-    rt: &impl Print,
-    dock: Dock,
-    marks: &mut [u64],
-    store: &[u8],
-    data: &[u8],
-    scratch: &[u8],
-) -> io::Result<()> {
-    text(rt, b"\n")?;
-    slots(rt, dock, marks, data, scratch)?;
-    text(rt, b" ")?;
-    pair(rt, b"store", checksum(store))?;
-    pair(rt, b"data", checksum(data))?;
-    text(rt, b"\n")
+pub fn state(rt: &impl Print, view: View, marks: &mut Marks, store: &[u8]) -> io::Result<()> {
+    println!(rt)?;
+    slots(rt, view, marks)?;
+    println!(rt; "  store {} data {}", checksum(store), checksum(view.data))
 }
 
 // n bytes of the store from `at` on, as hex; those past its end are left out.
 pub fn bytes(rt: &impl Print, store: &[u8], at: u64, n: u64) -> io::Result<()> {
-    let mut i = at as usize;
-    let mut left = n;
-    while i < store.len() {
-        if left == 0 {
-            return Ok(());
-        }
-        text(rt, b" ")?;
-        print!(rt; "{:02x}", widen(store[i]))?;
-        i += 1;
-        left -= 1;
+    let end = (at.saturating_add(n) as usize).min(store.len());
+    for b in store.get(at as usize..end).unwrap_or_default() {
+        print!(rt; " {b:02x}")?;
     }
     Ok(())
 }
 
-// The numbers that an event takes, after its word.
-fn usage(rt: &impl Print, verb: Verb) -> io::Result<()> {
-    match verb {
-        Verb::Open => text(rt, b"ROW BOUNCE"),
-        Verb::Store | Verb::Data => text(rt, b"OFFSET LENGTH BYTE"),
-        Verb::Read | Verb::Write => text(
-            rt,
-            b"OFFSET, and START LENGTH for each of at most 17 segments",
-        ),
-        Verb::Next | Verb::Collect => text(rt, b"SLOT"),
-        Verb::Carry => text(rt, b"SLOT CODE, and CHOICE or not"),
-        Verb::Tell => text(rt, b"SLOT CODE"),
-        _ => text(rt, b"OFFSET LENGTH"),
-    }
-}
-
-fn after_numbers(rt: &impl Print, n: usize) -> io::Result<()> {
-    if n == 0 {
-        return text(rt, b"after the word");
-    }
-    text(rt, b"after number ")?;
-    number(rt, n as u64)
-}
-
-// What is wrong with a line.
-fn flaw(rt: &impl Print, f: Flaw) -> io::Result<()> {
-    match f {
-        Flaw::Word => text(rt, b"no event has this name"),
-        Flaw::Number(good) => {
-            after_numbers(rt, good)?;
-            text(
-                rt,
-                b" comes neither the line's end nor one blank and a decimal number below 2^64",
-            )
+impl Verb {
+    // The numbers that the event takes, after its word.
+    fn usage(self) -> &'static str {
+        match self {
+            Verb::Open => "the event takes ROW BOUNCE",
+            Verb::Store | Verb::Data => "the event takes OFFSET LENGTH BYTE",
+            Verb::Read | Verb::Write => {
+                "the event takes OFFSET, and START LENGTH for each of at most 17 segments"
+            }
+            Verb::Next | Verb::Collect => "the event takes SLOT",
+            Verb::Carry => "the event takes SLOT CODE, and CHOICE or not",
+            Verb::Tell => "the event takes SLOT CODE",
+            Verb::Zero | Verb::Alloc | Verb::Discard | Verb::Show => {
+                "the event takes OFFSET LENGTH"
+            }
         }
-        Flaw::Count(verb) => {
-            text(rt, b"the event takes ")?;
-            usage(rt, verb)
-        }
-        Flaw::Byte => text(rt, b"BYTE is at most 255"),
-        Flaw::Code => text(rt, b"CODE is at most 255"),
-        Flaw::Long => text(rt, b"LENGTH is at most 64 to show"),
     }
 }
 
-// The last line of a run that stopped at a line with a flaw.
-pub fn malformed(rt: &impl Print, line_number: u64, line: &[u8], f: Flaw) -> io::Result<()> {
-    text(rt, b"error: line ")?;
-    number(rt, line_number)?;
-    text(rt, b": ")?;
-    flaw(rt, f)?;
-    text(rt, b": ")?;
-    text(rt, line)?;
-    text(rt, b"\n")
+// What stands before the place where a number was to be, after so many: number 2
+#[derive(Clone, Copy)]
+struct Before(usize);
+
+impl fmt::Display for Before {
+    fn fmt<W: fmt::Write>(&self, f: &mut fmt::Formatter<W>) -> fmt::Result {
+        match self.0 {
+            0 => f.write_str("the word"),
+            n => write!(f, "number {n}"),
+        }
+    }
+}
+
+impl fmt::Display for Flaw {
+    fn fmt<W: fmt::Write>(&self, f: &mut fmt::Formatter<W>) -> fmt::Result {
+        f.write_str(match *self {
+            Flaw::Number(good) => {
+                return write!(
+                    f,
+                    "after {} comes neither the line's end nor one blank and a decimal number below 2^64",
+                    Before(good),
+                );
+            }
+            Flaw::Word => "no event has this name",
+            Flaw::Count(verb) => verb.usage(),
+            Flaw::Byte => "BYTE is at most 255",
+            Flaw::Code => "CODE is at most 255",
+            Flaw::Long => "LENGTH is at most 64 to show",
+        })
+    }
+}
+
+// A line of the script, and what ends it.
+pub fn copy(rt: &impl Print, line: &[u8], end: &str) -> io::Result<()> {
+    rt.write_all(line)?;
+    rt.print(end)
+}
+
+// The last line of a run that came to its end.
+pub fn ended(rt: &impl Print) -> io::Result<()> {
+    println!(rt; "ok")
+}
+
+// The last line of a run that stopped at line `number`, which has a flaw.
+pub fn malformed(rt: &impl Print, number: u64, line: &[u8], flaw: Flaw) -> io::Result<()> {
+    print!(rt; "error: line {number}: {flaw}: ")?;
+    copy(rt, line, "\n")
 }
 
 // The last line of a run whose script is too long to be read.
 pub fn too_long(rt: &impl Print) -> io::Result<()> {
-    text(rt, b"error: the script has more than 65535 bytes\n")
+    println!(rt; "error: the script has more than 65535 bytes")
 }

@@ -8,9 +8,7 @@ fn split(rt: &impl Print, v: IoVector, mid: u64, data_len: usize) -> io::Result<
 }
 
 fn tail(rt: &impl Print, v: IoVector, mid: u64, data_len: usize) -> io::Result<()> {
-    show::text(rt, b"tail from ")?;
-    show::number(rt, mid)?;
-    show::tail(rt, v, v.split_tail_at(mid, data_len))
+    show::tail(rt, v, mid, v.split_tail_at(mid, data_len))
 }
 
 // Of 3, 4 and 5 bytes.
@@ -25,18 +23,10 @@ fn uneven() -> IoVector {
 
 pub fn all(rt: &impl Print) -> io::Result<()> {
     let v = three();
-    split(rt, v, 0, 26)?;
-    split(rt, v, 1, 26)?;
-    split(rt, v, 2, 26)?;
-    split(rt, v, 3, 26)?;
-    split(rt, v, 4, 26)?;
-    split(rt, v, 6, 26)?;
-    split(rt, v, 7, 26)?;
-    split(rt, v, 8, 26)?;
-    split(rt, v, 11, 26)?;
-    split(rt, v, 12, 26)?;
-    split(rt, v, 13, 26)?;
-    split(rt, v, 18446744073709551615, 26)
+    for mid in [0, 1, 2, 3, 4, 6, 7, 8, 11, 12, 13, u64::MAX] {
+        split(rt, v, mid, 26)?;
+    }
+    Ok(())
 }
 
 pub fn edges(rt: &impl Print) -> io::Result<()> {
@@ -44,14 +34,11 @@ pub fn edges(rt: &impl Print) -> io::Result<()> {
     split(rt, IoVector::new(), 0, 26)?;
     split(rt, IoVector::new(), 1, 26)?;
     split(rt, v, 3, 24)?;
-    split(rt, uneven(), 6, 26)?;
-    split(rt, uneven(), 7, 26)?;
-    split(rt, uneven(), 8, 26)?;
-    tail(rt, v, 0, 26)?;
-    tail(rt, v, 3, 26)?;
-    tail(rt, v, 4, 26)?;
-    tail(rt, v, 7, 26)?;
-    tail(rt, v, 12, 26)?;
-    tail(rt, v, 13, 26)?;
+    for mid in [6, 7, 8] {
+        split(rt, uneven(), mid, 26)?;
+    }
+    for mid in [0, 3, 4, 7, 12, 13] {
+        tail(rt, v, mid, 26)?;
+    }
     tail(rt, v, 3, 24)
 }

@@ -1,9 +1,0 @@
--- Each turn forgets one slot.
-use Rattle.std.proofs.Common.{◌-◌, ◌≤◌}
-use Rattle.replay_text.proofs.marks.forget_all.Given as goal
-
-abbrev pub invariant-loop-i : goal.invariant-loop-i
-invariant-loop-i l = l.i ≤ l.n
-
-abbrev pub decreases-loop-i : goal.decreases-loop-i
-decreases-loop-i l = l.n - l.i
