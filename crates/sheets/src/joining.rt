@@ -1,5 +1,6 @@
 // Joining by a sweep over the store, from bound to bound of the writes in ascending order. Between two bounds every byte is one write's, so
-// each byte of the output is written once; there are at most 128 bounds, and all writes are looked at in each turn.
+// each byte of the output is written once; there are at most 128 bounds, and all writes are looked at in each turn. The sweeps count no
+// index, but go on where the last stretch ended.
 ghost use Rattle.std.specs.Prelude.{◌≡◌, ◌+◌, ◌-◌, ◌<◌, ◌≤◌, leb, length, take, drop};
 ghost use Rattle.vectors.specs.Vectors.{put};
 ghost use Rattle.sheets.specs.Sheets.{writes_in, writes_of, ranges_of, total_of, join_of, JoinsAs};

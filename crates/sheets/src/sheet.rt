@@ -50,7 +50,7 @@ impl SheetWrite {
 // How many writes a sheet has at most.
 pub const MOST_WRITES: usize = 64;
 
-// Write it into row i.
+// Write it into row i: by index, since of rows that `as_chunks_mut` lends the library does not say what they become.
 pub(crate) fn put_write(rows: &mut [u64; 192], i: usize, w: SheetWrite)
     requires { i < 64 }
     ensures { rows.new ≡ put 3 i rows.old (row_of w) }

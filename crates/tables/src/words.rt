@@ -7,7 +7,8 @@ use crate::table::{MOST_ROWS, Table, load};
 use arithmetic::refusals::{Outcome, Refusal};
 use arithmetic::settings::{Alignments, Profile};
 
-// Write a table over all words.
+// Write a table over all words: by index, since of rows that `as_chunks_mut` lends the library does not say what they become. A row's four
+// words are named here and in `row_of`: `From` for `Alignments` could only stand in the crate that has the type.
 fn put_table(words: &mut [u64; 257], t: Table)
     ensures { words.new ≡ table_words t }
 {

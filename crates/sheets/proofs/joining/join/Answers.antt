@@ -1,6 +1,4 @@
 -- `sheets::joining::join` meets its contract, test by test. Assumes nothing.
-use mathlib.Core.Path.{sym}
-use borrow.Author.Tests.{leb-true}
 use Rattle.std.proofs.lemmas.Result.{err_from_is_err_and}
 use Rattle.sheets.specs.Sheets.{writes_in}
 use Rattle.sheets.proofs.Answering.{joins_unfit, joins_no_room, joins_all}
@@ -12,9 +10,6 @@ returns-in_err-sheet c =
     let p = err_from_is_err_and c.from_residual.result c.from_residual.ensures.1 in
     let e = c.in_err-sheet.ensures in
     rw (p.1, p.2, e.0) (joins_unfit (writes_in a.writes.now) a.«data».now a.output.now a.joined.now e.1)
-
-pub pack-requires : goal.pack-requires
-pack-requires c = leb-true _ _ (sym c.if-not-has_room.ensures)
 
 pub returns-then-not-has_room : goal.returns-then-not-has_room
 returns-then-not-has_room c =

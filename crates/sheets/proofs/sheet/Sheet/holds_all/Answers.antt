@@ -5,11 +5,8 @@ use Prim.Native.Nat.{◌<◌}
 use lib.ListN.{length}
 use Rattle.sheets.specs.Sheets.{writes_of}
 use Rattle.sheets.proofs.Words.{writes_long, write_at}
-use Rattle.sheets.proofs.Answering.{left_none, left_all, left_over, left_more}
+use Rattle.sheets.proofs.Answering.{left_all, left_over, left_more}
 use Rattle.sheets.proofs.sheet.Sheet.holds_all.Goals as goal
-
-pub loop-row-init : goal.loop-row-init
-loop-row-init c = left_none _ _
 
 pub returns-in_default : goal.returns-in_default
 returns-in_default c =

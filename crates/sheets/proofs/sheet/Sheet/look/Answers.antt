@@ -6,13 +6,10 @@ use lib.ListN.{length}
 use Rattle.sheets.specs.Sheets.{writes_of}
 use Rattle.sheets.proofs.Words.{writes_long, write_at}
 use Rattle.sheets.proofs.Testing.{sound_of}
-use Rattle.sheets.proofs.Looking.{looked_none, looked_all, looked_same, looked_before, looked_in, looked_past}
+use Rattle.sheets.proofs.Looking.{looked_all, looked_same, looked_before, looked_in, looked_past}
 use borrow.Author.Rules.{rules}
 use Rattle.sheets.proofs.sheet.Sheet.look.Goals as goal
 use Rattle.sheets.proofs.sheet.Sheet.look.Goals.{then-at-from, else-at-from+then-at-to, else-at-from+else-at-to}
-
-pub loop-row-init : goal.loop-row-init
-loop-row-init c = looked_none _ _ c.requires
 
 pub overflow_add-to : goal.overflow_add-to
 overflow_add-to c =
