@@ -7,13 +7,12 @@ use Rattle.arithmetic.specs.declared.settings.Buffers.{Buffers}
 use Rattle.vectors.specs.Vectors.{is_valid, segment, none}
 use Rattle.vectors.specs.declared.vector.IoVector.{IoVector}
 use Rattle.blockers.specs.Blockers.{waits_of}
-use Rattle.blockers.specs.declared.Blockers.{Blockers}
 use Rattle.stages.specs.Stages.{size_of, is_free, has_ended, is_sound, request_of, second_at}
 use Rattle.stages.specs.declared.state.Phase.{Phase}
 use Rattle.stages.specs.declared.state.Phase.TheVariants.{Free, Ended, DirectRead, BouncedRead, FirstRead, SecondRead, BouncedWrite}
 use Rattle.stages.specs.declared.state.Phase.TheVariants.{DirectWrite, ZeroRequest, DiscardRequest}
 use Rattle.stages.specs.declared.state.State.{State}
-use Rattle.dock.specs.Dock.{state_at, vector_at, lent_fits, is_out_by, is_out, share_at}
+use Rattle.dock.specs.Dock.{state_at, vector_at, lent_fits, is_out, share_at}
 use Rattle.dock.specs.declared.dock.Dock.{Dock}
 use Rattle.dock.specs.declared.next.Due.{Due}
 use Rattle.dock.specs.declared.next.Due.TheVariants.{Waiting, Make, Answer, Refused as NotDue}
@@ -72,10 +71,6 @@ piece_by DiscardRequest share i m x v = NoPiece Slot
 -- the piece of the job x with the vector v in slot p
 unfoldable pub piece_in : ℕ → Settings → Buffers → State → IoVector → ℕ → ℕ → Piece
 piece_in p s lent x v i m = pick (ltb p 8 && is_sound_in x s lent) (piece_by x.phase (p * s.bounce) i m x v) (NoPiece Slot)
-
--- where its request is out
-unfoldable pub piece_at : Blockers → ℕ → Settings → Buffers → State → IoVector → ℕ → ℕ → Piece
-piece_at b p s lent x v i m = pick (is_out_by b x p) (piece_in p s lent x v i m) (NoPiece Slot)
 
 -- "a request's piece [..]: 205, 208"; "208: [..] a piece number that the request lacks"
 unfoldable pub piece_of : Dock → ℕ → ℕ → ℕ → ℕ → Piece

@@ -32,7 +32,8 @@ pub fn is_bounced_read(p: Phase) -> bool
     p == Phase::BouncedRead
 }
 
-// n bytes of what the job writes, its vector's or zeroes, into the scratch from `start` on.
+// n bytes of what the job writes, its vector's or zeroes, into the scratch from `start` on. Here and in `copy_out` the vector's answer is
+// taken apart by `let .. else`, as document 01 has it.
 #[tactic(auto, unfolding(crate::specs::Begin::merged_at, crate::specs::Begin::source_of, crate::specs::Begin::source_fits))]
 fn merge(start: usize, n: usize, job: Job, v: IoVector, data: &[u8], scratch: &mut [u8]) -> Outcome
     requires { start + n ≤ length scratch.old }

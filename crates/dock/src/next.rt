@@ -46,7 +46,8 @@ pub fn is_sound_in(x: State, settings: Settings, buffers: Buffers) -> bool
     x.is_sound(settings.bounce) & (settings.bounce <= buffers.scratch.length / 8)
 }
 
-// Whether they do, and its share, that of `slot`, lies in a scratch of `scratch_len` bytes.
+// Whether they do, and its share, that of `slot`, lies in a scratch of `scratch_len` bytes. Here and in `piece_in`, `fill_share` and
+// `hand_out_share` slot, settings and buffers are no struct: crate dock_words calls them, and has each in words of its own.
 #[tactic(auto, unfolding(crate::specs::Next::is_sound_at))]
 pub fn is_sound_at(
     slot: usize,
@@ -164,7 +165,8 @@ pub fn piece_in(
     piece_of(x, v, share, settings.bounce, i, data_len)
 }
 
-// The n bytes of s from `start` on; none where they go past its end.
+// The n bytes of s from `start` on; none where they go past its end. The two forms, here and below, are one for `&` and one for `&mut`:
+// no function is generic over that.
 #[tactic(auto, unfolding(crate::specs::Next::part_of))]
 fn part<'a>(s: &'a [u8], start: usize, n: usize) -> &'a [u8]
     ensures { result.now ≡ part_of s.now start n }
@@ -203,7 +205,7 @@ fn part_mut_at<'a>(place: Piece, data: &'a mut [u8], scratch: &'a mut [u8]) -> &
 
 impl Dock {
     // Where piece i of the request that is out in `slot` lies.
-    #[tactic(auto, unfolding(crate::specs::Next::piece_of, crate::specs::Next::piece_at, crate::specs::Next::piece_in, crate::specs::Dock::is_out, crate::specs::Next::is_sound_of))]
+    #[tactic(auto, unfolding(crate::specs::Next::piece_of, crate::specs::Dock::is_out))]
     fn place(&self, slot: usize, i: usize, data_len: usize, scratch_len: usize) -> Piece
         ensures { result ≡ piece_of self.now slot i data_len scratch_len }
     {
