@@ -33,7 +33,7 @@ use Rattle.tables.specs.declared.table.Loaded.{Loaded}
 use Rattle.sheets.specs.Sheets.{Joins}
 use Rattle.sheets.specs.declared.joining.Joined.{Joined}
 use Rattle.sheets.specs.declared.joining.Joined.TheVariants.{Into, Refused as NotJoined}
-use Rattle.dock_words.specs.View.{blockers_of}
+use Rattle.dock_words.specs.View.{Rows, blockers_of}
 use Rattle.vectors.specs.Words.{vector_words}
 use Rattle.dock_words.specs.CallWords.{same_unless}
 use Rattle.dock_c.specs.declared.replies.Reply.{Reply}
@@ -136,6 +136,6 @@ abbrev pub JoinsWith : Joins → Reply → List ℕ → List ℕ → Type 0
 JoinsWith j r output words = (r ≡ reply_of (joined_paper j.answer)) × (output ≡ j.output) × (words ≡ j.joined)
 
 -- and of one on the blockers, whose words a refusal leaves
-abbrev pub BlocksAs : Changed → ℕ → List ℕ → List ℕ → Type 0
+abbrev pub BlocksAs : Changed → ℕ → Rows → Rows → Type 0
 BlocksAs c r before after =
     (r ≡ outcome_number c.outcome) × (blockers_of after ≡ c.blockers) × same_unless (is_done c.outcome) before after

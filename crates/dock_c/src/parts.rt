@@ -14,13 +14,13 @@ use arithmetic::offsets::{Range, StoreOffset};
 use arithmetic::refusals::Outcome;
 use arithmetic::settings::{Alignments, Lent};
 use blockers::strength;
-use dock_words::arrays::{enter, leave, put_vector_of, vector_of, waits};
+use dock_words::arrays::{BlockerRows, VectorRow, enter, leave, put_vector_of, vector_of, waits};
 use vectors::vector::Segment;
 
 // The vector with a segment at its end; one that starts where the last ends makes that longer.
 #[unsafe(no_mangle)]
 pub extern "C" fn dock_words_vector_push(
-    vector: &mut [u64; 34],
+    vector: &mut VectorRow,
     start: usize,
     length: usize,
     data_len: usize,
@@ -38,7 +38,7 @@ pub extern "C" fn dock_words_vector_push(
 // The vector with a segment before the one at `index`, joined to either neighbour that it touches.
 #[unsafe(no_mangle)]
 pub extern "C" fn dock_words_vector_insert(
-    vector: &mut [u64; 34],
+    vector: &mut VectorRow,
     index: usize,
     start: usize,
     length: usize,
@@ -57,7 +57,7 @@ pub extern "C" fn dock_words_vector_insert(
 // The bytes of the vector from `mid` on, and how many segments were looked at to find where.
 #[unsafe(no_mangle)]
 pub extern "C" fn dock_words_vector_split_tail_at(
-    vector: &mut [u64; 34],
+    vector: &mut VectorRow,
     mid: u64,
     data_len: usize,
 ) -> Reply
@@ -74,8 +74,8 @@ pub extern "C" fn dock_words_vector_split_tail_at(
 // The vector with the segments of `other` at its end, the first of them as in a push.
 #[unsafe(no_mangle)]
 pub extern "C" fn dock_words_vector_append(
-    vector: &mut [u64; 34],
-    other: &[u64; 34],
+    vector: &mut VectorRow,
+    other: &VectorRow,
     data_len: usize,
 ) -> u8
     ensures { EditsAs (append_of data_len (vector_from vector.old) (vector_from other.now))
@@ -92,8 +92,8 @@ pub extern "C" fn dock_words_vector_append(
 // The first `mid` bytes of the vector, and the rest in `tail`, which a refusal leaves; and how many segments were looked at.
 #[unsafe(no_mangle)]
 pub extern "C" fn dock_words_vector_split_at(
-    vector: &mut [u64; 34],
-    tail: &mut [u64; 34],
+    vector: &mut VectorRow,
+    tail: &mut VectorRow,
     mid: u64,
     data_len: usize,
 ) -> Reply
@@ -114,7 +114,7 @@ pub extern "C" fn dock_words_vector_split_at(
 // `slice` becomes the vector's bytes.
 #[unsafe(no_mangle)]
 pub extern "C" fn dock_words_vector_copy_into_slice(
-    vector: &[u64; 34],
+    vector: &VectorRow,
     data: &[u8],
     slice: &mut [u8],
 ) -> u8
@@ -130,7 +130,7 @@ pub extern "C" fn dock_words_vector_copy_into_slice(
 // The bytes of `slice` go into the vector's segments.
 #[unsafe(no_mangle)]
 pub extern "C" fn dock_words_vector_copy_from_slice(
-    vector: &[u64; 34],
+    vector: &VectorRow,
     data: &mut [u8],
     slice: &[u8],
 ) -> u8
@@ -145,7 +145,7 @@ pub extern "C" fn dock_words_vector_copy_from_slice(
 
 // Every byte of the vector's segments becomes `value`.
 #[unsafe(no_mangle)]
-pub extern "C" fn dock_words_vector_fill(vector: &[u64; 34], data: &mut [u8], value: u8) -> u8
+pub extern "C" fn dock_words_vector_fill(vector: &VectorRow, data: &mut [u8], value: u8) -> u8
     ensures { MovesAs (is_valid (length «data».old) (vector_from vector.now))
         (fill_of «data».old (segments_of (vector_from vector.now)) value)
         «data».old result «data».new }
@@ -158,7 +158,7 @@ pub extern "C" fn dock_words_vector_fill(vector: &[u64; 34], data: &mut [u8], va
 // Whether direct requests can use the vector's segments, over data at that address.
 #[unsafe(no_mangle)]
 pub extern "C" fn dock_words_vector_is_aligned(
-    vector: &[u64; 34],
+    vector: &VectorRow,
     mem: u64,
     req: u64,
     zero: u64,
@@ -182,7 +182,7 @@ pub extern "C" fn dock_words_vector_is_aligned(
 // Enter a blocker over the store's bytes from `start` up to `end`, strong or weak.
 #[unsafe(no_mangle)]
 pub extern "C" fn dock_words_blockers_enter(
-    blockers: &mut [u64; 88],
+    blockers: &mut BlockerRows,
     strong: u8,
     slot: usize,
     start: u64,
@@ -202,7 +202,7 @@ pub extern "C" fn dock_words_blockers_enter(
 
 // The slot's blocker leaves.
 #[unsafe(no_mangle)]
-pub extern "C" fn dock_words_blockers_leave(blockers: &mut [u64; 88], slot: usize) -> u8
+pub extern "C" fn dock_words_blockers_leave(blockers: &mut BlockerRows, slot: usize) -> u8
     ensures { BlocksAs (left_of slot (blockers_of blockers.old))
         result blockers.old blockers.new }
 {
@@ -212,7 +212,7 @@ pub extern "C" fn dock_words_blockers_leave(blockers: &mut [u64; 88], slot: usiz
 
 // 1 where the slot's blocker waits, 0 where not.
 #[unsafe(no_mangle)]
-pub extern "C" fn dock_words_blockers_wait(blockers: &[u64; 88], slot: usize) -> u8
+pub extern "C" fn dock_words_blockers_wait(blockers: &BlockerRows, slot: usize) -> u8
     ensures { result ≡ flag_word (waits_of slot (blockers_of blockers.now)) }
 {
     if waits(blockers, slot) { 1 } else { 0 }

@@ -8,4 +8,4 @@ use Rattle.vectors.specs.Words.{vector_words}
 use Rattle.dock_c.proofs.parts.dock_words_vector_insert.Goals as goal
 
 pub returns : goal.returns
-returns c = let a = c.args in let e = c.insert-changed.ensures ∙ ap (λ (v : IoVector). insert_of a.data_len v a.index (segment a.start a.length)) c.vector_of-v.ensures in (c.number.ensures ∙ ap (λ (z : Changed). outcome_number z.outcome) e, c.put_vector_of.ensures ∙ ap (λ (z : Changed). vector_words z.vector) e)
+returns c = let a = c.args in let e = c.insert-changed.ensures ∙ ap (λ (v : IoVector). insert_of a.data_len v a.index (segment a.start a.length)) c.get_vector-v.ensures in (c.number.ensures ∙ ap (λ (z : Changed). outcome_number z.outcome) e, c.put_vector.ensures ∙ ap (λ (z : Changed). vector_words z.vector) e)

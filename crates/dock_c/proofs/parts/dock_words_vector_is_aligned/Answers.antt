@@ -7,4 +7,4 @@ use Rattle.dock_c.specs.Replies.{reply_of, alignment_paper}
 use Rattle.dock_c.proofs.parts.dock_words_vector_is_aligned.Goals as goal
 
 pub returns : goal.returns
-returns c = let a = c.args in c.alignment_reply.ensures ∙ ap (λ (z : Alignment). reply_of (alignment_paper z)) (c.is_aligned.ensures ∙ ap (λ (v : IoVector). alignment_of (record { mem = a.mem; req = a.req; zero = a.zero; discard = a.discard }) (record { address = a.address; length = a.length }) v) c.vector_of-v.ensures)
+returns c = let a = c.args in c.alignment_reply.ensures ∙ ap (λ (z : Alignment). reply_of (alignment_paper z)) (c.is_aligned.ensures ∙ ap (λ (v : IoVector). alignment_of (record { mem = a.mem; req = a.req; zero = a.zero; discard = a.discard }) (record { address = a.address; length = a.length }) v) c.get_vector-v.ensures)

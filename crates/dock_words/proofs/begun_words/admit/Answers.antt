@@ -9,7 +9,7 @@ use Rattle.dock_words.specs.CallWordsLaws.{same_words}
 use Rattle.dock_words.proofs.begun_words.admit.Goals as goal
 
 pub admit_started-requires : goal.admit_started-requires
-admit_started-requires c = let a = c.args in let w = rw c.in-Started.is at c.requires.3 in (c.requires.0, c.requires.1, c.requires.2, sound_slot a.slot _ a.settings a.buffers _ w, w)
+admit_started-requires c = let a = c.args in let w = rw c.in-Started.is at c.requires in (sound_slot a.slot _ a.settings a.buffers _ w, w)
 
 pub returns-in-Done : goal.returns-in-Done
 returns-in-Done c = record { dock = (let a = c.args in sym (ap (λ (q : Plan). stored_job (blockers_of a.blockers.now) (states_of a.states.now) (vectors_of a.vectors.now) a.v (admit_at (blockers_of a.blockers.now) a.slot a.settings.bounce a.v a.«data».now a.scratch.now q)) c.in-Done.is)); words = (same_words _ _, same_words _ _, same_words _ _) }

@@ -8,4 +8,4 @@ unfolding filled_share
 returns-then-not-is_bounced_write c = simp (sym c.is_bounced_write.ensures ∙ c.if-not-is_bounced_write.true)
 
 pub returns : goal.returns
-returns c = c.fill_share.ensures ∙ rw c.vector_at-v.ensures
+returns c = c.fill_share.ensures ∙ rw c.get_vector-v.ensures

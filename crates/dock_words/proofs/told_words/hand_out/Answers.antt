@@ -8,4 +8,4 @@ unfolding handed_share
 returns-then-not-is_bounced_read c = simp (sym c.is_bounced_read.ensures ∙ c.if-not-is_bounced_read.true)
 
 pub returns : goal.returns
-returns c = c.hand_out_share.ensures ∙ rw c.vector_at-v.ensures
+returns c = c.hand_out_share.ensures ∙ rw c.get_vector-v.ensures
