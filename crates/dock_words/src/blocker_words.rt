@@ -42,16 +42,15 @@ fn notes(all: &BlockerRows, kind: Kind, range: Range) -> [bool; SLOTS]
     noted
 }
 
-// The row of a blocker.
-fn make_row(b: Blocker) -> BlockerRow
-    ensures { result ≡ blocker_words b }
+// Write a blocker over a whole row.
+fn put_blocker(row: &mut BlockerRow, b: Blocker)
+    ensures { row.new ≡ blocker_words b }
 {
-    let mut row = [0; 11];
+    *row = [0; 11];
     row[0] = b.kind.tag();
     row[1] = b.range.start.0;
     row[2] = b.range.end.0;
     row[3..].copy_from_slice(&b.noted.map(|noted| noted as u64));
-    row
 }
 
 // Whether the slot has a blocker entered. Past slot 7 none is.
@@ -95,7 +94,7 @@ pub fn enter(all: &mut BlockerRows, kind: Kind, slot: usize, range: Range) -> Ou
         return Outcome::Refused(Refusal::Slot);
     }
     let noted = notes(all, kind, range);
-    all[slot] = make_row(Blocker { kind, range, noted });
+    put_blocker(&mut all[slot], Blocker { kind, range, noted });
     Outcome::Done
 }
 

@@ -22,4 +22,4 @@ returns c = let a = c.args in
     let w = a.all.now in
     let h = c.if-slot-ge-SLOTS.false in
     let e = sym (entered_word w a.slot (omega (arith, h, c.told-all))) ∙ sym c.is_entered.ensures ∙ c.if-is_entered.false in
-    rw (enter_done a.kind a.slot a.range (blockers_of w) h e, c.make_row.ensures, ← c.notes-noted.ensures) (refl, blocker_put w a.slot _, done_words _ _ _ refl)
+    rw (enter_done a.kind a.slot a.range (blockers_of w) h e, c.put_blocker.ensures, ← c.notes-noted.ensures) (refl, blocker_put w a.slot _, done_words _ _ _ refl)
