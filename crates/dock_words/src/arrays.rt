@@ -13,7 +13,7 @@ use crate::begun_words::{admit, overlaps};
 pub use crate::blocker_words::{enter, leave, waits};
 pub use crate::rows::{BlockerRows, SettingRow, StateRows, VectorRow, VectorRows};
 pub use crate::setting_words::settings_of;
-use crate::setting_words::{buffers_of, put_settings};
+use crate::setting_words::{Place, buffers_of, put_settings};
 use crate::state_words::{first_free, get_state, put_state};
 use crate::told_words::{is_out, tell_slot};
 use arithmetic::refusals::{Outcome, Refusal};
@@ -115,9 +115,12 @@ pub fn begin(
     let free = first_free(states);
     let first = plan_asked(asked, s, b);
     let plan = decide(lent, v.is_valid(data.len()), first, met, free);
-    admit(
-        blockers, states, vectors, free, s, b, plan, v, data, scratch,
-    )
+    let place = Place {
+        slot: free,
+        settings: s,
+        buffers: b,
+    };
+    admit(blockers, states, vectors, place, plan, v, data, scratch)
 }
 
 // What the job in `slot` needs now. Changes nothing.
@@ -202,15 +205,17 @@ pub fn tell(
     if SLOTS <= slot {
         return Outcome::Refused(Refusal::Slot);
     }
-    let s = settings_of(settings);
+    let place = Place {
+        slot,
+        settings: settings_of(settings),
+        buffers: b,
+    };
     let x = get_state(&states[slot]);
     tell_slot(
         blockers,
         states,
         &vectors[slot],
-        slot,
-        s,
-        b,
+        place,
         x,
         code,
         data,

@@ -12,9 +12,9 @@ ghost use Rattle.dock_words.specs.CallWords.{is_admitted, same_three, StoresJob}
 
 use crate::blocker_steps::{enter_blocker, may_enter};
 use crate::rows::{BlockerRows, StateRow, StateRows, VectorRow, VectorRows};
+use crate::setting_words::Place;
 use crate::state_words::{get_state, is_free_row, put_state};
 use arithmetic::refusals::{Outcome, Refusal};
-use arithmetic::settings::{Buffers, Settings};
 use dock::begin::Begun;
 use dock::bytes::fill_share;
 use dock::dock::{SLOTS, meets, meets_itself};
@@ -51,37 +51,43 @@ pub(crate) fn overlaps(states: &StateRows, vectors: &VectorRows, job: Job, v: Io
     meets_itself(job, v) || meets_any(states, vectors, job, v)
 }
 
-// The job x comes to `slot`: its bytes are filled, its blocker enters, and it is stored with its vector.
+// The job x comes to its slot: its bytes are filled, its blocker enters, and it is stored with its vector.
 fn admit_started(
     blockers: &mut BlockerRows,
     states: &mut StateRows,
     vectors: &mut VectorRows,
-    slot: usize,
-    settings: Settings,
-    buffers: Buffers,
+    place: Place,
     x: State,
     v: IoVector,
     data: &[u8],
     scratch: &mut [u8],
 ) -> Begun
-    requires { (slot < 8) × (is_sound_at slot x settings buffers (length scratch.old) ≡ true) }
-    ensures dock { StoresJob (admit_at (blockers_of blockers.old) slot settings.bounce v
+    requires { (place.slot < 8) × (is_sound_at place.slot x place.settings place.buffers (length scratch.old) ≡ true) }
+    ensures dock { StoresJob (admit_at (blockers_of blockers.old) place.slot place.settings.bounce v
         «data».now scratch.old (Started x)) v
         blockers.old states.old vectors.old
         result blockers.new states.new vectors.new scratch.new }
     ensures words { same_three (is_admitted result) blockers.old states.old vectors.old
         blockers.new states.new vectors.new }
 {
-    if !may_enter(blockers, slot, x) {
+    if !may_enter(blockers, place.slot, x) {
         return Begun::Refused(Refusal::Slot);
     }
-    if let Outcome::Refused(r) = fill_share(slot, settings, buffers, x, v, data, scratch) {
+    if let Outcome::Refused(r) = fill_share(
+        place.slot,
+        place.settings,
+        place.buffers,
+        x,
+        v,
+        data,
+        scratch,
+    ) {
         return Begun::Refused(r);
     }
-    enter_blocker(blockers, slot, x);
-    put_state(&mut states[slot], x);
-    put_vector(&mut vectors[slot], v);
-    Begun::Admitted(slot)
+    enter_blocker(blockers, place.slot, x);
+    put_state(&mut states[place.slot], x);
+    put_vector(&mut vectors[place.slot], v);
+    Begun::Admitted(place.slot)
 }
 
 // A decided job comes to its slot.
@@ -89,16 +95,14 @@ pub(crate) fn admit(
     blockers: &mut BlockerRows,
     states: &mut StateRows,
     vectors: &mut VectorRows,
-    slot: usize,
-    settings: Settings,
-    buffers: Buffers,
+    place: Place,
     plan: Plan,
     v: IoVector,
     data: &[u8],
     scratch: &mut [u8],
 ) -> Begun
-    requires { PlanSound slot settings buffers (length scratch.old) plan }
-    ensures dock { StoresJob (admit_at (blockers_of blockers.old) slot settings.bounce v
+    requires { PlanSound place.slot place.settings place.buffers (length scratch.old) plan }
+    ensures dock { StoresJob (admit_at (blockers_of blockers.old) place.slot place.settings.bounce v
         «data».now scratch.old plan) v
         blockers.old states.old vectors.old
         result blockers.new states.new vectors.new scratch.new }
@@ -108,8 +112,6 @@ pub(crate) fn admit(
     match plan {
         Plan::Done => Begun::Done,
         Plan::Refused(r) => Begun::Refused(r),
-        Plan::Started(x) => admit_started(
-            blockers, states, vectors, slot, settings, buffers, x, v, data, scratch,
-        ),
+        Plan::Started(x) => admit_started(blockers, states, vectors, place, x, v, data, scratch),
     }
 }

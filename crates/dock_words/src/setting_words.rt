@@ -5,6 +5,14 @@ ghost use Rattle.dock_words.specs.View.{settings_of, buffers_of, settings_words}
 use crate::rows::SettingRow;
 use arithmetic::settings::{Alignments, Buffers, Lent, Settings};
 
+// A slot of the dock, with what its job needs of the rest: the settings and the buffers.
+#[derive(Clone, Copy)]
+pub(crate) struct Place {
+    pub slot: usize,
+    pub settings: Settings,
+    pub buffers: Buffers,
+}
+
 // The settings in the first 5 words: those that the dock was opened with.
 pub fn settings_of(settings: &SettingRow) -> Settings
     ensures { result ≡ settings_of settings.now }

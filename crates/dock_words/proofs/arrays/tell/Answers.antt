@@ -16,4 +16,4 @@ pub tell_slot-requires : goal.tell_slot-requires
 tell_slot-requires c = (c.if-slot-ge-SLOTS.false, (sym c.lent_fits.ensures ∙ c.if-not-lent_fits.false))
 
 pub returns : goal.returns
-returns c = record { dock = (let a = c.args in tell_there a.settings.now a.blockers.now a.states.now a.vectors.now a.slot a.code a.«data».now a.scratch.now (rw (← c.buffers_of-b.ensures) (sym c.lent_fits.ensures ∙ c.if-not-lent_fits.false)) c.if-slot-ge-SLOTS.false _ (c.get_state-x.ensures ∙ state_row a.states.now a.slot (omega (arith, c.if-slot-ge-SLOTS.false, c.told-states))) _ c.settings_of-s.ensures _ c.buffers_of-b.ensures _ _ _ _ _ (rw (vector_row a.vectors.now a.slot (omega (arith, c.if-slot-ge-SLOTS.false, c.told-vectors))) at c.tell_slot.ensures.dock)); words = c.tell_slot.ensures.words }
+returns c = record { dock = (let a = c.args in tell_there a.settings.now a.blockers.now a.states.now a.vectors.now a.slot a.code a.«data».now a.scratch.now (rw (← c.buffers_of-b.ensures) (sym c.lent_fits.ensures ∙ c.if-not-lent_fits.false)) c.if-slot-ge-SLOTS.false _ (c.get_state-x.ensures ∙ state_row a.states.now a.slot (omega (arith, c.if-slot-ge-SLOTS.false, c.told-states))) _ c.settings_of.ensures _ c.buffers_of-b.ensures _ _ _ _ _ (rw (vector_row a.vectors.now a.slot (omega (arith, c.if-slot-ge-SLOTS.false, c.told-vectors))) at c.tell_slot.ensures.dock)); words = c.tell_slot.ensures.words }

@@ -4,7 +4,7 @@ use Rattle.dock_words.specs.CallWordsLaws.{same_words}
 use Rattle.dock_words.proofs.begun_words.admit.Goals as goal
 
 pub admit_started-requires : goal.admit_started-requires
-admit_started-requires c = let a = c.args in let w = rw c.in-Started.is at c.requires in (sound_slot a.slot _ a.settings a.buffers _ w, w)
+admit_started-requires c = let a = c.args in let w = rw c.in-Started.is at c.requires in (sound_slot a.place.slot _ a.place.settings a.place.buffers _ w, w)
 
 pub returns-in-Done-clause-words : goal.returns-in-Done-clause-words
 returns-in-Done-clause-words c = (same_words _ _, same_words _ _, same_words _ _)
