@@ -1,5 +1,5 @@
 -- What lent words mean: the dock by value. Any words are a dock: a tag that is none is the first variant, an answer counts modulo 256,
--- a flag is true at any word but 0. `..Of` and `..From` read a row, `..Words` write it.
+-- a flag is true at any word but 0. `.._of` and `.._from` read a row, `.._words` write it.
 use Rattle.std.specs.Prelude.{Bool, true, false, not, List, [], ◌∷◌, ◌++◌, map, ℕ, ◌+◌, ◌%◌, eqb, get_or, drop}
 use Rattle.arithmetic.specs.Rounding.{pick}
 use Rattle.arithmetic.specs.Offsets.{buffer_at, range_of}

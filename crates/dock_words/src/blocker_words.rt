@@ -16,10 +16,7 @@ use dock::dock::SLOTS;
 fn is_entered(tag: u64) -> bool
     ensures { result ≡ present (kind_of tag) }
 {
-    match Kind::from_tag(tag) {
-        Kind::Absent => false,
-        Kind::Weak | Kind::Strong => true,
-    }
+    matches!(Kind::from_tag(tag), Kind::Weak | Kind::Strong)
 }
 
 // Whether a blocker of this kind over `range` that enters now must wait for the one in this row.
@@ -34,7 +31,7 @@ fn is_noted(row: &BlockerRow, kind: Kind, range: Range) -> bool
 fn notes(all: &BlockerRows, kind: Kind, range: Range) -> [bool; SLOTS]
     ensures { result ≡ notes_of kind range (blockers_of all.now) }
 {
-    // by index: of `all.each_ref().map(..)` no proof was found
+    // by index: of `all.each_ref().map(..)` the check found no proof, nor did a search with the lemmas on chains
     let mut noted = [false; SLOTS];
     for (i, row) in all.iter().enumerate() {
         noted[i] = is_noted(row, kind, range);

@@ -84,7 +84,7 @@ fn find_free(states: &StateRows) -> Option<usize>
     states.iter().position(is_free_row)
 }
 
-// The lowest free slot; 8 where there is none.
+// The lowest free slot; 8 where there is none, as `decide` of dock takes it.
 pub(crate) fn first_free(states: &StateRows) -> usize
     ensures { result ≡ first_free (states_of states.now) }
 {
