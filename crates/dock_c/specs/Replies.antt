@@ -29,7 +29,7 @@ use Rattle.tables.specs.Words.{outcome_of as loaded_outcome, words_after}
 use Rattle.tables.specs.declared.table.Table.{Table}
 use Rattle.sheets.specs.Sheets.{Joins}
 use Rattle.sheets.specs.declared.joining.Size.{Size}
-use Rattle.dock_words.specs.View.{blockers_of}
+use Rattle.dock_words.specs.View.{Rows, blockers_of}
 use Rattle.vectors.specs.Words.{vector_words}
 use Rattle.dock_words.specs.CallWords.{same_unless}
 use Rattle.dock_c.specs.declared.replies.Reply.{Reply}
@@ -134,6 +134,6 @@ abbrev pub JoinsWith : Joins → Reply → List ℕ → List ℕ → Type 0
 JoinsWith j r output words = (r ≡ reply_of (joined_paper j.answer)) × (output ≡ j.output) × (words ≡ j.joined)
 
 -- and of one on the blockers, whose words a refusal leaves
-abbrev pub BlocksAs : Changed → ℕ → List ℕ → List ℕ → Type 0
+abbrev pub BlocksAs : Changed → ℕ → Rows → Rows → Type 0
 BlocksAs c r before after =
     (r ≡ outcome_number c.outcome) × (blockers_of after ≡ c.blockers) × same_unless (is_done c.outcome) before after

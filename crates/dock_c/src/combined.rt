@@ -14,17 +14,17 @@ ghost use Rattle.dock_shown.specs.Shown.{is_collected, show_of, ShowsAs, submit_
 use arithmetic::offsets::StoreOffset;
 use dock::begin::Asked;
 use dock_shown::shown::{complete, show, submit};
-use dock_words::arrays::vector_of;
+use dock_words::arrays::{BlockerRows, SettingRow, StateRows, VectorRow, VectorRows, vector_of};
 
 // Begin a read of the vector's length at `offset` into the data, and show it.
 #[unsafe(no_mangle)]
 pub extern "C" fn dock_words_submit_read(
-    settings: &[u64; 9],
-    blockers: &mut [u64; 88],
-    states: &mut [u64; 144],
-    vectors: &mut [u64; 272],
+    settings: &SettingRow,
+    blockers: &mut BlockerRows,
+    states: &mut StateRows,
+    vectors: &mut VectorRows,
     offset: u64,
-    vector: &[u64; 34],
+    vector: &VectorRow,
     data: &[u8],
     scratch: &mut [u8],
     reply: &mut [u64; 9],
@@ -51,12 +51,12 @@ pub extern "C" fn dock_words_submit_read(
 // Begin a write of the vector's bytes at `offset`, and show it.
 #[unsafe(no_mangle)]
 pub extern "C" fn dock_words_submit_write(
-    settings: &[u64; 9],
-    blockers: &mut [u64; 88],
-    states: &mut [u64; 144],
-    vectors: &mut [u64; 272],
+    settings: &SettingRow,
+    blockers: &mut BlockerRows,
+    states: &mut StateRows,
+    vectors: &mut VectorRows,
     offset: u64,
-    vector: &[u64; 34],
+    vector: &VectorRow,
     data: &[u8],
     scratch: &mut [u8],
     reply: &mut [u64; 9],
@@ -83,10 +83,10 @@ pub extern "C" fn dock_words_submit_write(
 // Begin zeroes, plain or allocating, and show them.
 #[unsafe(no_mangle)]
 pub extern "C" fn dock_words_submit_zeroes(
-    settings: &[u64; 9],
-    blockers: &mut [u64; 88],
-    states: &mut [u64; 144],
-    vectors: &mut [u64; 272],
+    settings: &SettingRow,
+    blockers: &mut BlockerRows,
+    states: &mut StateRows,
+    vectors: &mut VectorRows,
     allocate: u8,
     offset: u64,
     length: u64,
@@ -116,10 +116,10 @@ pub extern "C" fn dock_words_submit_zeroes(
 // Begin a discard, and show it.
 #[unsafe(no_mangle)]
 pub extern "C" fn dock_words_submit_discard(
-    settings: &[u64; 9],
-    blockers: &mut [u64; 88],
-    states: &mut [u64; 144],
-    vectors: &mut [u64; 272],
+    settings: &SettingRow,
+    blockers: &mut BlockerRows,
+    states: &mut StateRows,
+    vectors: &mut VectorRows,
     offset: u64,
     length: u64,
     data: &[u8],
@@ -148,10 +148,10 @@ pub extern "C" fn dock_words_submit_discard(
 // Hand in the code of the request that is out in `slot`, and show the slot.
 #[unsafe(no_mangle)]
 pub extern "C" fn dock_words_complete(
-    settings: &[u64; 9],
-    blockers: &mut [u64; 88],
-    states: &mut [u64; 144],
-    vectors: &mut [u64; 272],
+    settings: &SettingRow,
+    blockers: &mut BlockerRows,
+    states: &mut StateRows,
+    vectors: &mut VectorRows,
     slot: usize,
     code: u8,
     data: &mut [u8],
@@ -179,10 +179,10 @@ pub extern "C" fn dock_words_complete(
 // What the job in `slot` needs now, with its first piece; a final answer is collected.
 #[unsafe(no_mangle)]
 pub extern "C" fn dock_words_show(
-    settings: &[u64; 9],
-    blockers: &[u64; 88],
-    states: &mut [u64; 144],
-    vectors: &mut [u64; 272],
+    settings: &SettingRow,
+    blockers: &BlockerRows,
+    states: &mut StateRows,
+    vectors: &mut VectorRows,
     slot: usize,
     data_len: usize,
     scratch_len: usize,

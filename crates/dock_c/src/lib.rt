@@ -32,7 +32,8 @@ use arithmetic::planner::{count_chunks, plan_chunk};
 use arithmetic::settings::{Alignments, Buffers, Lent, Settings, drive_profile};
 use dock::begin::Asked;
 use dock_words::arrays::{
-    begin, collect, next, open, open_by, piece, settings_of, tell, vector_of,
+    BlockerRows, SettingRow, StateRows, VectorRow, VectorRows, begin, collect, next, open, open_by,
+    piece, settings_of, tell, vector_of,
 };
 use tables::words::row_of;
 
@@ -59,10 +60,10 @@ fn buffers_of(
 // Open with alignments.
 #[unsafe(no_mangle)]
 pub extern "C" fn dock_words_open(
-    settings: &mut [u64; 9],
-    blockers: &mut [u64; 88],
-    states: &mut [u64; 144],
-    vectors: &mut [u64; 272],
+    settings: &mut SettingRow,
+    blockers: &mut BlockerRows,
+    states: &mut StateRows,
+    vectors: &mut VectorRows,
     mem: u64,
     req: u64,
     zero: u64,
@@ -97,10 +98,10 @@ pub extern "C" fn dock_words_open(
 // Open by drive profile (document 01: a drive row).
 #[unsafe(no_mangle)]
 pub extern "C" fn dock_words_open_row(
-    settings: &mut [u64; 9],
-    blockers: &mut [u64; 88],
-    states: &mut [u64; 144],
-    vectors: &mut [u64; 272],
+    settings: &mut SettingRow,
+    blockers: &mut BlockerRows,
+    states: &mut StateRows,
+    vectors: &mut VectorRows,
     row: usize,
     share: u64,
     data_address: u64,
@@ -124,10 +125,10 @@ pub extern "C" fn dock_words_open_row(
 // Open by a row of a loaded drive table (document 02, N3), which stands in the place of the built-in rows.
 #[unsafe(no_mangle)]
 pub extern "C" fn dock_words_open_table(
-    settings: &mut [u64; 9],
-    blockers: &mut [u64; 88],
-    states: &mut [u64; 144],
-    vectors: &mut [u64; 272],
+    settings: &mut SettingRow,
+    blockers: &mut BlockerRows,
+    states: &mut StateRows,
+    vectors: &mut VectorRows,
     table: &[u64; 257],
     row: usize,
     share: u64,
@@ -152,12 +153,12 @@ pub extern "C" fn dock_words_open_table(
 // Begin a read of the vector's length at `offset` into the data.
 #[unsafe(no_mangle)]
 pub extern "C" fn dock_words_begin_read(
-    settings: &[u64; 9],
-    blockers: &mut [u64; 88],
-    states: &mut [u64; 144],
-    vectors: &mut [u64; 272],
+    settings: &SettingRow,
+    blockers: &mut BlockerRows,
+    states: &mut StateRows,
+    vectors: &mut VectorRows,
     offset: u64,
-    vector: &[u64; 34],
+    vector: &VectorRow,
     data: &[u8],
     scratch: &mut [u8],
 ) -> Reply
@@ -178,12 +179,12 @@ pub extern "C" fn dock_words_begin_read(
 // Begin a write of the vector's bytes at `offset`.
 #[unsafe(no_mangle)]
 pub extern "C" fn dock_words_begin_write(
-    settings: &[u64; 9],
-    blockers: &mut [u64; 88],
-    states: &mut [u64; 144],
-    vectors: &mut [u64; 272],
+    settings: &SettingRow,
+    blockers: &mut BlockerRows,
+    states: &mut StateRows,
+    vectors: &mut VectorRows,
     offset: u64,
-    vector: &[u64; 34],
+    vector: &VectorRow,
     data: &[u8],
     scratch: &mut [u8],
 ) -> Reply
@@ -204,10 +205,10 @@ pub extern "C" fn dock_words_begin_write(
 // Begin zeroes, plain or allocating.
 #[unsafe(no_mangle)]
 pub extern "C" fn dock_words_begin_zeroes(
-    settings: &[u64; 9],
-    blockers: &mut [u64; 88],
-    states: &mut [u64; 144],
-    vectors: &mut [u64; 272],
+    settings: &SettingRow,
+    blockers: &mut BlockerRows,
+    states: &mut StateRows,
+    vectors: &mut VectorRows,
     allocate: u8,
     offset: u64,
     length: u64,
@@ -231,10 +232,10 @@ pub extern "C" fn dock_words_begin_zeroes(
 // Begin a discard.
 #[unsafe(no_mangle)]
 pub extern "C" fn dock_words_begin_discard(
-    settings: &[u64; 9],
-    blockers: &mut [u64; 88],
-    states: &mut [u64; 144],
-    vectors: &mut [u64; 272],
+    settings: &SettingRow,
+    blockers: &mut BlockerRows,
+    states: &mut StateRows,
+    vectors: &mut VectorRows,
     offset: u64,
     length: u64,
     data: &[u8],
@@ -257,10 +258,10 @@ pub extern "C" fn dock_words_begin_discard(
 // What the job in `slot` needs now.
 #[unsafe(no_mangle)]
 pub extern "C" fn dock_words_next(
-    settings: &[u64; 9],
-    blockers: &[u64; 88],
-    states: &[u64; 144],
-    vectors: &[u64; 272],
+    settings: &SettingRow,
+    blockers: &BlockerRows,
+    states: &StateRows,
+    vectors: &VectorRows,
     slot: usize,
     data_len: usize,
     scratch_len: usize,
@@ -282,10 +283,10 @@ pub extern "C" fn dock_words_next(
 // Where piece i of the request that is out in `slot` lies.
 #[unsafe(no_mangle)]
 pub extern "C" fn dock_words_piece(
-    settings: &[u64; 9],
-    blockers: &[u64; 88],
-    states: &[u64; 144],
-    vectors: &[u64; 272],
+    settings: &SettingRow,
+    blockers: &BlockerRows,
+    states: &StateRows,
+    vectors: &VectorRows,
     slot: usize,
     i: usize,
     data_len: usize,
@@ -309,10 +310,10 @@ pub extern "C" fn dock_words_piece(
 // Hand in the code of the request that is out in `slot`.
 #[unsafe(no_mangle)]
 pub extern "C" fn dock_words_tell(
-    settings: &[u64; 9],
-    blockers: &mut [u64; 88],
-    states: &mut [u64; 144],
-    vectors: &[u64; 272],
+    settings: &SettingRow,
+    blockers: &mut BlockerRows,
+    states: &mut StateRows,
+    vectors: &VectorRows,
     slot: usize,
     code: u8,
     data: &mut [u8],
@@ -337,10 +338,10 @@ pub extern "C" fn dock_words_tell(
 // Take the final answer; the slot is free again.
 #[unsafe(no_mangle)]
 pub extern "C" fn dock_words_collect(
-    settings: &[u64; 9],
-    blockers: &[u64; 88],
-    states: &mut [u64; 144],
-    vectors: &mut [u64; 272],
+    settings: &SettingRow,
+    blockers: &BlockerRows,
+    states: &mut StateRows,
+    vectors: &mut VectorRows,
     slot: usize,
     data_len: usize,
     scratch_len: usize,
@@ -365,7 +366,7 @@ pub extern "C" fn dock_words_collect(
 
 // The planner: how many chunks.
 #[unsafe(no_mangle)]
-pub extern "C" fn dock_words_chunks(settings: &[u64; 9], offset: u64, length: u64) -> Reply
+pub extern "C" fn dock_words_chunks(settings: &SettingRow, offset: u64, length: u64) -> Reply
     ensures { result ≡ reply_of (count_paper (count_of (settings_of settings.now) (store_at offset) length)) }
 {
     let s = settings_of(settings);
@@ -374,7 +375,7 @@ pub extern "C" fn dock_words_chunks(settings: &[u64; 9], offset: u64, length: u6
 
 // And chunk i.
 #[unsafe(no_mangle)]
-pub extern "C" fn dock_words_chunk(settings: &[u64; 9], offset: u64, length: u64, i: u64) -> Reply
+pub extern "C" fn dock_words_chunk(settings: &SettingRow, offset: u64, length: u64, i: u64) -> Reply
     ensures { result ≡ reply_of (planned_paper (planned_of (settings_of settings.now) (store_at offset) length i)) }
 {
     let s = settings_of(settings);

@@ -14,11 +14,11 @@ use arithmetic::offsets::{Range, StoreOffset};
 use arithmetic::refusals::Refusal;
 use arithmetic::settings::{Alignments, Lent};
 use blockers::strength;
-use dock_words::arrays::{enter, leave, put_vector_of, vector_of, waits};
+use dock_words::arrays::{BlockerRows, VectorRow, enter, leave, put_vector_of, vector_of, waits};
 use vectors::vector::{IoVector, Segment};
 
 // What an edit made of the vector in the words goes back into them; where it is refused they stay.
-fn put_edited(vector: &mut [u64; 34], edited: Result<IoVector, Refusal>) -> u8
+fn put_edited(vector: &mut VectorRow, edited: Result<IoVector, Refusal>) -> u8
     ensures { EditsAs edited vector.old result vector.new }
 {
     match edited {
@@ -33,7 +33,7 @@ fn put_edited(vector: &mut [u64; 34], edited: Result<IoVector, Refusal>) -> u8
 // The vector with a segment at its end; one that starts where the last ends makes that longer.
 #[unsafe(no_mangle)]
 pub extern "C" fn dock_words_vector_push(
-    vector: &mut [u64; 34],
+    vector: &mut VectorRow,
     start: usize,
     length: usize,
     data_len: usize,
@@ -48,7 +48,7 @@ pub extern "C" fn dock_words_vector_push(
 // The vector with a segment before the one at `index`, joined to either neighbour that it touches.
 #[unsafe(no_mangle)]
 pub extern "C" fn dock_words_vector_insert(
-    vector: &mut [u64; 34],
+    vector: &mut VectorRow,
     index: usize,
     start: usize,
     length: usize,
@@ -64,7 +64,7 @@ pub extern "C" fn dock_words_vector_insert(
 // The bytes of the vector from `mid` on, and how many segments were looked at to find where.
 #[unsafe(no_mangle)]
 pub extern "C" fn dock_words_vector_split_tail_at(
-    vector: &mut [u64; 34],
+    vector: &mut VectorRow,
     mid: u64,
     data_len: usize,
 ) -> Reply
@@ -84,8 +84,8 @@ pub extern "C" fn dock_words_vector_split_tail_at(
 // The vector with the segments of `other` at its end, the first of them as in a push.
 #[unsafe(no_mangle)]
 pub extern "C" fn dock_words_vector_append(
-    vector: &mut [u64; 34],
-    other: &[u64; 34],
+    vector: &mut VectorRow,
+    other: &VectorRow,
     data_len: usize,
 ) -> u8
     ensures { EditsAs (append_of data_len (vector_from vector.old) (vector_from other.now))
@@ -99,8 +99,8 @@ pub extern "C" fn dock_words_vector_append(
 // The first `mid` bytes of the vector, and the rest in `tail`; where it is refused both stay; and how many segments were looked at.
 #[unsafe(no_mangle)]
 pub extern "C" fn dock_words_vector_split_at(
-    vector: &mut [u64; 34],
-    tail: &mut [u64; 34],
+    vector: &mut VectorRow,
+    tail: &mut VectorRow,
     mid: u64,
     data_len: usize,
 ) -> Reply
@@ -121,7 +121,7 @@ pub extern "C" fn dock_words_vector_split_at(
 // `slice` becomes the vector's bytes.
 #[unsafe(no_mangle)]
 pub extern "C" fn dock_words_vector_copy_into_slice(
-    vector: &[u64; 34],
+    vector: &VectorRow,
     data: &[u8],
     slice: &mut [u8],
 ) -> u8
@@ -137,7 +137,7 @@ pub extern "C" fn dock_words_vector_copy_into_slice(
 // The bytes of `slice` go into the vector's segments.
 #[unsafe(no_mangle)]
 pub extern "C" fn dock_words_vector_copy_from_slice(
-    vector: &[u64; 34],
+    vector: &VectorRow,
     data: &mut [u8],
     slice: &[u8],
 ) -> u8
@@ -152,7 +152,7 @@ pub extern "C" fn dock_words_vector_copy_from_slice(
 
 // Every byte of the vector's segments becomes `value`.
 #[unsafe(no_mangle)]
-pub extern "C" fn dock_words_vector_fill(vector: &[u64; 34], data: &mut [u8], value: u8) -> u8
+pub extern "C" fn dock_words_vector_fill(vector: &VectorRow, data: &mut [u8], value: u8) -> u8
     ensures { MovesAs (is_valid (length «data».old) (vector_from vector.now))
         (fill_of «data».old (segments_of (vector_from vector.now)) value)
         «data».old result «data».new }
@@ -165,7 +165,7 @@ pub extern "C" fn dock_words_vector_fill(vector: &[u64; 34], data: &mut [u8], va
 // Whether direct requests can use the vector's segments, over data at that address.
 #[unsafe(no_mangle)]
 pub extern "C" fn dock_words_vector_is_aligned(
-    vector: &[u64; 34],
+    vector: &VectorRow,
     mem: u64,
     req: u64,
     zero: u64,
@@ -189,7 +189,7 @@ pub extern "C" fn dock_words_vector_is_aligned(
 // Enter a blocker over the store's bytes from `start` up to `end`, strong or weak.
 #[unsafe(no_mangle)]
 pub extern "C" fn dock_words_blockers_enter(
-    blockers: &mut [u64; 88],
+    blockers: &mut BlockerRows,
     strong: u8,
     slot: usize,
     start: u64,
@@ -209,7 +209,7 @@ pub extern "C" fn dock_words_blockers_enter(
 
 // The slot's blocker leaves.
 #[unsafe(no_mangle)]
-pub extern "C" fn dock_words_blockers_leave(blockers: &mut [u64; 88], slot: usize) -> u8
+pub extern "C" fn dock_words_blockers_leave(blockers: &mut BlockerRows, slot: usize) -> u8
     ensures { BlocksAs (left_of slot (blockers_of blockers.old))
         result blockers.old blockers.new }
 {
@@ -219,7 +219,7 @@ pub extern "C" fn dock_words_blockers_leave(blockers: &mut [u64; 88], slot: usiz
 
 // 1 where the slot's blocker waits, 0 where not.
 #[unsafe(no_mangle)]
-pub extern "C" fn dock_words_blockers_wait(blockers: &[u64; 88], slot: usize) -> u8
+pub extern "C" fn dock_words_blockers_wait(blockers: &BlockerRows, slot: usize) -> u8
     ensures { result ≡ flag_word (waits_of slot (blockers_of blockers.now)) }
 {
     if waits(blockers, slot) { 1 } else { 0 }

@@ -16,6 +16,7 @@ use Rattle.dock.specs.declared.begin.Begun.{Begun}
 use Rattle.dock.specs.declared.next.Due.{Due}
 use Rattle.dock.specs.declared.next.Due.TheVariants.{Make, Answer}
 use Rattle.dock.specs.declared.next.Piece.{Piece}
+use Rattle.dock_words.specs.View.{Rows}
 use Rattle.dock_words.specs.CallWords.{is_admitted, same_unless, same_two, same_three}
 use Rattle.dock_words.specs.CallWordsLaws.{same_words, done_words}
 use Rattle.dock_shown.specs.Shown.{NotShown, Asks, short_words, shown_words, is_collected, Shows, show_by, show_of, ShowsAs, shown_begun}
@@ -30,7 +31,7 @@ module _ (d : Dock) (p m n : ℕ) where
 
   -- what leaves the dock leaves every word
   pub shown_kept : (z : Due) → next_of d p m n ≡ z → (show_by z d p m n).dock ≡ d → (words : List ℕ)
-      → words ≡ shown_words (show_by z d p m n).answer → (x v : List ℕ)
+      → words ≡ shown_words (show_by z d p m n).answer → (x v : Rows)
       → ShowsAs (show_of d p m n) words d × same_two (is_collected (show_of d p m n).answer) x v x v
   shown_kept z e k words w x v =
       let q = shown_as z e in
@@ -38,13 +39,13 @@ module _ (d : Dock) (p m n : ℕ) where
 
   -- a request, with its first piece
   pub shown_asked : (q : Request) → next_of d p m n ≡ Make q → (c : Piece) → c ≡ piece_of d p 0 m n → (words : List ℕ)
-      → words ≡ shown_words (Asks p q c) → (x v : List ℕ)
+      → words ≡ shown_words (Asks p q c) → (x v : Rows)
       → ShowsAs (show_of d p m n) words d × same_two (is_collected (show_of d p m n).answer) x v x v
   shown_asked q e c k words w x v = shown_kept (Make q) e refl words (w ∙ ap (λ (z : Piece). shown_words (Asks p q z)) k) x v
 
   -- a final answer is collected
   pub shown_taken : (a : ℕ) → next_of d p m n ≡ Answer a → (words : List ℕ) → words ≡ short_words 1 a → (d' : Dock)
-      → d' ≡ (collect_of d p m n).dock → (x v x' v' : List ℕ)
+      → d' ≡ (collect_of d p m n).dock → (x v x' v' : Rows)
       → ShowsAs (show_of d p m n) words d' × same_two (is_collected (show_of d p m n).answer) x v x' v'
   shown_taken a e words w d' k x v x' v' =
       let q = shown_as (Answer a) e in
@@ -57,7 +58,7 @@ module _
     (begun z : Begun) (e : begun ≡ z) (d : Dock) (m n : ℕ) (words : List ℕ)
     (w : words ≡ shown_words (shown_begun z d m n).answer) where
   -- one that took no slot leaves every word
-  pub begun_kept : (shown_begun z d m n).dock ≡ d → (x v : List ℕ)
+  pub begun_kept : (shown_begun z d m n).dock ≡ d → (x v : Rows)
       → ShowsAs (shown_begun begun d m n) words d × same_two (is_admitted begun) x v x v
   begun_kept k x v = (
     (
@@ -67,7 +68,7 @@ module _
     (same_words _ _, same_words _ _),
   )
 
-  pub begun_shown : is_admitted z ≡ true → (d' : Dock) → d' ≡ (shown_begun z d m n).dock → (x v x' v' : List ℕ)
+  pub begun_shown : is_admitted z ≡ true → (d' : Dock) → d' ≡ (shown_begun z d m n).dock → (x v x' v' : Rows)
       → ShowsAs (shown_begun begun d m n) words d' × same_two (is_admitted begun) x v x' v'
   begun_shown t d' k x v x' v' =
       let u = ap is_admitted e ∙ t in (
@@ -81,7 +82,7 @@ module _
 -- ---- submit
 
 -- words that two calls left, one after the other
-same_then : (t : Bool) (a b c : List ℕ) → same_unless t a b → same_unless t b c → same_unless t a c
+same_then : (t : Bool) (a b c : Rows) → same_unless t a b → same_unless t b c → same_unless t a c
 unfolding same_unless
 same_then true a b c f g = tt
 same_then false a b c f g = g ∙ f
@@ -94,7 +95,7 @@ module _ (d : Dock) (q : Asked) (memory scratch : List ℕ) (g : Begins) (e : g 
       let k = ap (λ (z : Begins). shown_begun z.answer z.dock (length memory) (length scratch)) e in
       (s.0 ∙ ap (λ (z : Shows). shown_words z.answer) k, s.1 ∙ ap (λ (z : Shows). z.dock) k)
 
-  pub submit_words : (b x v b' x₁ v₁ x' v' : List ℕ) → same_three (is_admitted g.answer) b x v b' x₁ v₁
+  pub submit_words : (b x v b' x₁ v₁ x' v' : Rows) → same_three (is_admitted g.answer) b x v b' x₁ v₁
       → same_two (is_admitted g.answer) x₁ v₁ x' v'
       → same_three (is_admitted (begin_of d q memory scratch).answer) b x v b' x' v'
   submit_words b x v b' x₁ v₁ x' v' f h =
@@ -125,11 +126,11 @@ module _ (d : Dock) (p code : ℕ) (memory scratch : List ℕ) (t : Told) (e : t
       (s.0 ∙ ap (λ (z : Shows). shown_words z.answer) j, s.1 ∙ ap (λ (z : Shows). z.dock) j)
 
   -- a refusal leaves every word
-  pub complete_words : (b x v b' x' : List ℕ) → same_two (is_done t.outcome) b x b' x'
+  pub complete_words : (b x v b' x' : Rows) → same_two (is_done t.outcome) b x b' x'
       → same_three (is_done (tell_of d p code memory scratch).outcome) b x v b' x' v
   complete_words b x v b' x' f = rw (← ap (λ (z : Told). is_done z.outcome) e) (f.0, f.1, same_words _ _)
 
-  pub complete_done : t.outcome ≡ Done → (b x v b' x' v' : List ℕ)
+  pub complete_done : t.outcome ≡ Done → (b x v b' x' v' : Rows)
       → same_three (is_done (tell_of d p code memory scratch).outcome) b x v b' x' v'
   complete_done o b x v b' x' v' =
       let u = ap (λ (z : Told). is_done z.outcome) (sym e) ∙ ap is_done o in

@@ -13,7 +13,9 @@ ghost use Rattle.dock_shown.specs.Shown.{complete_of, LeavesBytes};
 use arithmetic::refusals::{Outcome, Refusal};
 use dock::begin::{Asked, Begun};
 use dock::next::{Due, Piece};
-use dock_words::arrays::{begin, collect, next, piece, tell};
+use dock_words::arrays::{
+    BlockerRows, SettingRow, StateRows, VectorRows, begin, collect, next, piece, tell,
+};
 use stages::state::{Kind, Request};
 
 fn byte_word(x: u8) -> u64
@@ -98,10 +100,10 @@ fn put_request(reply: &mut [u64; 9], slot: usize, q: Request, p: Piece)
 
 // What the job in `slot` needs now, with the first piece of its request; its final answer is collected, and the slot is free again.
 pub fn show(
-    settings: &[u64; 9],
-    blockers: &[u64; 88],
-    states: &mut [u64; 144],
-    vectors: &mut [u64; 272],
+    settings: &SettingRow,
+    blockers: &BlockerRows,
+    states: &mut StateRows,
+    vectors: &mut VectorRows,
     slot: usize,
     data_len: usize,
     scratch_len: usize,
@@ -158,10 +160,10 @@ pub fn show(
 
 // What comes of a begin: the slot of the job is shown; where there is nothing to do, the final answer is 0.
 fn show_begun(
-    settings: &[u64; 9],
-    blockers: &[u64; 88],
-    states: &mut [u64; 144],
-    vectors: &mut [u64; 272],
+    settings: &SettingRow,
+    blockers: &BlockerRows,
+    states: &mut StateRows,
+    vectors: &mut VectorRows,
     begun: Begun,
     data_len: usize,
     scratch_len: usize,
@@ -192,10 +194,10 @@ fn show_begun(
 
 // Begin what is asked, and show the slot that it gets.
 pub fn submit(
-    settings: &[u64; 9],
-    blockers: &mut [u64; 88],
-    states: &mut [u64; 144],
-    vectors: &mut [u64; 272],
+    settings: &SettingRow,
+    blockers: &mut BlockerRows,
+    states: &mut StateRows,
+    vectors: &mut VectorRows,
     asked: Asked,
     data: &[u8],
     scratch: &mut [u8],
@@ -231,10 +233,10 @@ pub fn submit(
 
 // Hand in the code of the request that is out in `slot`, and show the slot where the code was accepted.
 pub fn complete(
-    settings: &[u64; 9],
-    blockers: &mut [u64; 88],
-    states: &mut [u64; 144],
-    vectors: &mut [u64; 272],
+    settings: &SettingRow,
+    blockers: &mut BlockerRows,
+    states: &mut StateRows,
+    vectors: &mut VectorRows,
     slot: usize,
     code: u8,
     data: &mut [u8],

@@ -25,7 +25,7 @@ use Rattle.dock.specs.SlotLaws.{begin_whole}
 use Rattle.dock.specs.declared.begin.Asked.{Asked}
 use Rattle.dock.specs.declared.begin.Begun.{Begun}
 use Rattle.dock.specs.declared.begin.Begun.TheVariants.{Admitted, Refused as BeginRefused}
-use Rattle.dock_words.specs.View.{blockers_of, states_of, vectors_of, settings_of, buffers_of, dock_of}
+use Rattle.dock_words.specs.View.{Rows, blockers_of, states_of, vectors_of, settings_of, buffers_of, dock_of}
 use Rattle.dock_words.specs.CallWords.{BegunWords, begins_words, stored_job}
 use Rattle.dock_words.specs.CallWordsLaws.{enters_not, begin_stored}
 
@@ -36,7 +36,7 @@ sound_slot p x s b n e = ltb-true p 8 (and_left (ltb p 8) (is_sound_in x s b) (a
 
 -- ---- the job w with the vector u comes to slot p
 
-module _ (b x v : List ℕ) (p share : ℕ) (w : State) (u : IoVector) (memory scratch : List ℕ) where
+module _ (b x v : Rows) (p share : ℕ) (w : State) (u : IoVector) (memory scratch : List ℕ) where
   abbrev There : Entering
   There = enter_at (blockers_of b) p share w u memory scratch
 
@@ -57,17 +57,17 @@ module _ (b x v : List ℕ) (p share : ℕ) (w : State) (u : IoVector) (memory s
     pub admit_refused : (r : Refusal) → o ≡ Refused r → begins_words (BeginRefused r) b x v s ≡ admitted There.outcome There
     admit_refused r q = sym (ap (λ (z : Entering). admitted z.outcome z) there ∙ ap (λ (z : Outcome). admitted z (record { blockers = (blockers_with (blockers_of b) p w).blockers; outcome = o; scratch = s })) q)
 
-    pub admit_done : o ≡ Done → (b' x' v' : List ℕ) → blockers_of b' ≡ (blockers_with (blockers_of b) p w).blockers → states_of x' ≡ set (states_of x) p w → vectors_of v' ≡ set (vectors_of v) p u
+    pub admit_done : o ≡ Done → (b' x' v' : Rows) → blockers_of b' ≡ (blockers_with (blockers_of b) p w).blockers → states_of x' ≡ set (states_of x) p w → vectors_of v' ≡ set (vectors_of v) p u
         → begins_words (Admitted p) b' x' v' s ≡ admitted There.outcome There
     admit_done q b' x' v' g h k =
         rw (g, h, k) (sym (ap (λ (z : Entering). admitted z.outcome z) there ∙ ap (λ (z : Outcome). admitted z (record { blockers = (blockers_with (blockers_of b) p w).blockers; outcome = o; scratch = s })) q))
 
 -- ---- begin
 
-pub begin_there : (s b x v : List ℕ) (q : Asked) (memory scratch : List ℕ) (c : Settings) → c ≡ settings_of s → (g : Buffers) → g ≡ buffers_of s → (w : IoVector) → w ≡ selected_of q.job q.vector
+pub begin_there : (s : List ℕ) (b x v : Rows) (q : Asked) (memory scratch : List ℕ) (c : Settings) → c ≡ settings_of s → (g : Buffers) → g ≡ buffers_of s → (w : IoVector) → w ≡ selected_of q.job q.vector
     → (met : Bool) → met ≡ overlaps_of (states_of x) (vectors_of v) q.job w → (l : Outcome) → l ≡ lent_of c g (length memory) (length scratch) → (f : ℕ) → f ≡ first_free (states_of x)
     → (plan : Plan) → plan ≡ plan_of q.job c g q.offset q.length q.vector → (t : Bool) → t ≡ is_valid (length memory) w → (r : Plan) → r ≡ decided_of l t plan met f
-    → (o : Begun) (b' x' v' n : List ℕ) → begins_words o b' x' v' n ≡ stored_job (blockers_of b) (states_of x) (vectors_of v) w (admit_at (blockers_of b) f c.bounce w memory scratch r)
+    → (o : Begun) (b' x' v' : Rows) (n : List ℕ) → begins_words o b' x' v' n ≡ stored_job (blockers_of b) (states_of x) (vectors_of v) w (admit_at (blockers_of b) f c.bounce w memory scratch r)
     → begins (record { answer = o; dock = dock_of s b' x' v' }) n ≡ begin_of (dock_of s b x v) q memory scratch
 begin_there s b x v q memory scratch c ce g ge w we met me l le f fe plan pe t te r re o b' x' v' n k =
     begin_stored s b x v o b' x' v' n w (admit_at (blockers_of b) f (settings_of s).bounce w memory scratch r) (k ∙ rw ce)

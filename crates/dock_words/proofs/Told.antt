@@ -21,13 +21,13 @@ use Rattle.dock.specs.Next.{is_sound_in}
 use Rattle.dock.specs.Tell.{Handed, hands, handed, blockers_without, tells, tell_of, Stepped, stays_at, ends_at, enters_at, stepped_at, answered_of, answered_by, told_at}
 use Rattle.dock.specs.declared.tell.Answered.{Answered}
 use Rattle.dock.specs.declared.tell.Answered.TheVariants.{Leads, Refused as NoLead}
-use Rattle.dock_words.specs.View.{blockers_of, states_of, settings_of, buffers_of, dock_of}
+use Rattle.dock_words.specs.View.{Rows, blockers_of, states_of, settings_of, buffers_of, dock_of}
 use Rattle.dock_words.specs.CallWords.{changes, ToldWords, tells_words, stored_words}
 use Rattle.dock_words.specs.CallWordsLaws.{tell_stored, stored_done, stored_refused, ends_left, ends_stuck, enters_changed, enters_stuck}
 
 -- ---- a step
 
-module _ (b x : List ℕ) (p share : ℕ) (y : State) (v : IoVector) (memory scratch s : List ℕ) (o : Outcome) (f : fills o s ≡ filled share y v memory scratch) where
+module _ (b x : Rows) (p share : ℕ) (y : State) (v : IoVector) (memory scratch s : List ℕ) (o : Outcome) (f : fills o s ≡ filled share y v memory scratch) where
   abbrev Stay : Stepped
   Stay = stays_at (blockers_of b) share y v memory scratch
 
@@ -36,10 +36,10 @@ module _ (b x : List ℕ) (p share : ℕ) (y : State) (v : IoVector) (memory scr
       ap (λ (z : Outcome). tells_words z b x memory s) e
       ∙ stored_refused (blockers_of b) (states_of x) p Stay b x memory s r (sym (ap (λ (z : Filled). z.outcome) f) ∙ e) refl refl refl (ap (λ (z : Filled). z.scratch) f)
 
-  pub stays_done : o ≡ Done → (x' : List ℕ) → states_of x' ≡ set (states_of x) p y → tells_words Done b x' memory s ≡ stored_words (blockers_of b) (states_of x) p Stay
+  pub stays_done : o ≡ Done → (x' : Rows) → states_of x' ≡ set (states_of x) p y → tells_words Done b x' memory s ≡ stored_words (blockers_of b) (states_of x) p Stay
   stays_done e x' g = stored_done (blockers_of b) (states_of x) p Stay b x' memory s (sym (ap (λ (z : Filled). z.outcome) f) ∙ e) refl g refl (ap (λ (z : Filled). z.scratch) f)
 
-module _ (b x : List ℕ) (p share : ℕ) (w : State) (code : ℕ) (y : State) (v : IoVector) (memory scratch : List ℕ) where
+module _ (b x : Rows) (p share : ℕ) (w : State) (code : ℕ) (y : State) (v : IoVector) (memory scratch : List ℕ) where
   abbrev End : Stepped
   End = ends_at (blockers_of b) p share w code y v memory scratch
 
@@ -57,14 +57,14 @@ module _ (b x : List ℕ) (p share : ℕ) (w : State) (code : ℕ) (y : State) (
         ap (λ (z : Outcome). tells_words z b x m scratch) q
         ∙ stored_refused (blockers_of b) (states_of x) p End b x m scratch r (ap (λ (z : Stepped). z.outcome) left ∙ q) refl refl (sym (ap (λ (z : Stepped). z.memory) left)) (sym (ap (λ (z : Stepped). z.scratch) left))
 
-    pub ends_done : o ≡ Done → (u : Outcome) → u ≡ (blockers_without (blockers_of b) p w).outcome → (b' x' : List ℕ) → blockers_of b' ≡ (blockers_without (blockers_of b) p w).blockers → states_of x' ≡ set (states_of x) p y
+    pub ends_done : o ≡ Done → (u : Outcome) → u ≡ (blockers_without (blockers_of b) p w).outcome → (b' x' : Rows) → blockers_of b' ≡ (blockers_without (blockers_of b) p w).blockers → states_of x' ≡ set (states_of x) p y
         → tells_words u b' x' m scratch ≡ stored_words (blockers_of b) (states_of x) p End
     ends_done q u h b' x' g k =
         ap (λ (z : Outcome). tells_words z b' x' m scratch) (h ∙ is_done_lem (blockers_without (blockers_of b) p w).outcome e)
         ∙ stored_done (blockers_of b) (states_of x) p End b' x' m scratch (ap (λ (z : Stepped). z.outcome) left ∙ q) (g ∙ sym (ap (λ (z : Stepped). z.blockers) left))
         (k ∙ sym (ap (λ (z : Stepped). set (states_of x) p z.state) left)) (sym (ap (λ (z : Stepped). z.memory) left)) (sym (ap (λ (z : Stepped). z.scratch) left))
 
-module _ (b x : List ℕ) (p share : ℕ) (w y : State) (v : IoVector) (memory scratch : List ℕ) where
+module _ (b x : Rows) (p share : ℕ) (w y : State) (v : IoVector) (memory scratch : List ℕ) where
   abbrev Enter : Stepped
   Enter = enters_at (blockers_of b) p share w y v memory scratch
 
@@ -84,7 +84,7 @@ module _ (b x : List ℕ) (p share : ℕ) (w y : State) (v : IoVector) (memory s
         ap (λ (z : Outcome). tells_words z b x memory s) q
         ∙ stored_refused (blockers_of b) (states_of x) p Enter b x memory s r (ap (λ (z : Stepped). z.outcome) changed ∙ q) refl refl (sym (ap (λ (z : Stepped). z.memory) changed)) (sym (ap (λ (z : Stepped). z.scratch) changed))
 
-    pub enters_done : o ≡ Done → (b' x' : List ℕ) → blockers_of b' ≡ (blockers_with (blockers_without (blockers_of b) p w).blockers p y).blockers → states_of x' ≡ set (states_of x) p y
+    pub enters_done : o ≡ Done → (b' x' : Rows) → blockers_of b' ≡ (blockers_with (blockers_without (blockers_of b) p w).blockers p y).blockers → states_of x' ≡ set (states_of x) p y
         → tells_words Done b' x' memory s ≡ stored_words (blockers_of b) (states_of x) p Enter
     enters_done q b' x' g k =
         stored_done (blockers_of b) (states_of x) p Enter b' x' memory s (ap (λ (z : Stepped). z.outcome) changed ∙ q) (g ∙ sym (ap (λ (z : Stepped). z.blockers) changed))
@@ -92,7 +92,7 @@ module _ (b x : List ℕ) (p share : ℕ) (w y : State) (v : IoVector) (memory s
 
 -- ---- a code is told
 
-module _ (b x : List ℕ) (p : ℕ) (s : Settings) (l : Buffers) (w : State) (v : IoVector) (code : ℕ) (memory scratch : List ℕ) where
+module _ (b x : Rows) (p : ℕ) (s : Settings) (l : Buffers) (w : State) (v : IoVector) (code : ℕ) (memory scratch : List ℕ) where
   abbrev Tell : Stepped
   Tell = told_at (blockers_of b) p s l w v code memory scratch
 
@@ -118,7 +118,7 @@ module _ (b x : List ℕ) (p : ℕ) (s : Settings) (l : Buffers) (w : State) (v 
 
 -- ---- tell
 
-module _ (s b x v : List ℕ) (p code : ℕ) (memory scratch : List ℕ) where
+module _ (s : List ℕ) (b x v : Rows) (p code : ℕ) (memory scratch : List ℕ) where
   pub tell_not_lent : lent_fits (buffers_of s) (length memory) (length scratch) ≡ false → tells (record { outcome = Refused Buffer; dock = dock_of s b x v }) memory scratch ≡ tell_of (dock_of s b x v) p code memory scratch
   unfolding tell_of
   tell_not_lent l = simp l
@@ -128,7 +128,7 @@ module _ (s b x v : List ℕ) (p code : ℕ) (memory scratch : List ℕ) where
     unfolding tell_of
     tell_no_slot h = simp (l, le-ltb p 8 h)
 
-    pub tell_there : p < 8 → (w : State) → w ≡ state_at (dock_of s b x v) p → (c : Settings) → c ≡ settings_of s → (d : Buffers) → d ≡ buffers_of s → (o : Outcome) (b' x' m n : List ℕ)
+    pub tell_there : p < 8 → (w : State) → w ≡ state_at (dock_of s b x v) p → (c : Settings) → c ≡ settings_of s → (d : Buffers) → d ≡ buffers_of s → (o : Outcome) (b' x' : Rows) (m n : List ℕ)
         → tells_words o b' x' m n ≡ stored_words (blockers_of b) (states_of x) p (told_at (blockers_of b) p c d w (vector_at (dock_of s b x v) p) code memory scratch)
         → tells (record { outcome = o; dock = dock_of s b' x' v }) m n ≡ tell_of (dock_of s b x v) p code memory scratch
     unfolding tell_of

@@ -16,7 +16,7 @@ use Rattle.dock.specs.declared.begin.Begun.{Begun}
 use Rattle.dock.specs.declared.begin.Begun.TheVariants.{Done as NoRequest, Admitted, Refused as BeginRefused}
 use Rattle.dock.specs.declared.tell.Collected.{Collected}
 use Rattle.dock.specs.declared.tell.Collected.TheVariants.{Final, Refused as NotCollected}
-use Rattle.dock_words.specs.View.{blockers_of, states_of, vectors_of, dock_of}
+use Rattle.dock_words.specs.View.{Rows, blockers_of, states_of, vectors_of, dock_of}
 
 abbrev pub is_admitted : Begun → Bool
 is_admitted NoRequest = false
@@ -28,7 +28,7 @@ is_final (Final code) = true
 is_final (NotCollected r) = false
 
 -- "Each, as a refusal, leaves dock [..] unchanged": where a call is not carried out, every word after it is the one before it
-unfoldable pub same_unless : Bool → List ℕ → List ℕ → Type 0
+unfoldable pub same_unless : {A : Type 0} → Bool → List A → List A → Type 0
 same_unless true before after = Unit {0}
 same_unless false before after = after ≡ before
 
@@ -37,19 +37,19 @@ unfoldable pub opens_as : Bool → Dock → Dock → Type 0
 opens_as true d made = d ≡ made
 opens_as false d made = Unit {0}
 
--- the same of two arrays, and of three
-abbrev pub same_two : Bool → List ℕ → List ℕ → List ℕ → List ℕ → Type 0
+-- the same of two arrays of rows, and of three
+abbrev pub same_two : Bool → Rows → Rows → Rows → Rows → Type 0
 same_two t a b a' b' = same_unless t a a' × same_unless t b b'
 
-abbrev pub same_three : Bool → List ℕ → List ℕ → List ℕ → List ℕ → List ℕ → List ℕ → Type 0
+abbrev pub same_three : Bool → Rows → Rows → Rows → Rows → Rows → Rows → Type 0
 same_three t a b c a' b' c' = same_unless t a a' × same_unless t b b' × same_unless t c c'
 
 -- a call on the words of the blockers answers and leaves what c says, and where it is refused, every word
-abbrev pub ChangesBlockers : Changed → Outcome → List ℕ → List ℕ → Type 0
+abbrev pub ChangesBlockers : Changed → Outcome → Rows → Rows → Type 0
 ChangesBlockers c r before after = (r ≡ c.outcome) × (blockers_of after ≡ c.blockers) × same_unless (is_done r) before after
 
 -- an opening over words of settings, blockers, states and vectors: the dock that it makes, or every word as it was
-abbrev pub opens_over : Opened → List ℕ → List ℕ → List ℕ → List ℕ → List ℕ → List ℕ → List ℕ → List ℕ → Type 0
+abbrev pub opens_over : Opened → List ℕ → Rows → Rows → Rows → List ℕ → Rows → Rows → Rows → Type 0
 opens_over o s b x v s' b' x' v' =
     opens_as (is_done o.outcome) (dock_of s' b' x' v') o.dock
     × same_unless (is_done o.outcome) s s' × same_three (is_done o.outcome) b x v b' x' v'
@@ -68,7 +68,7 @@ pub record ToldWords : Type 0 where
   pub scratch : List ℕ
 
 -- what a call left, by its words
-abbrev pub tells_words : Outcome → List ℕ → List ℕ → List ℕ → List ℕ → ToldWords
+abbrev pub tells_words : Outcome → Rows → Rows → List ℕ → List ℕ → ToldWords
 tells_words o b x memory scratch =
     record { outcome = o; blockers = blockers_of b; states = states_of x; memory = memory; scratch = scratch }
 
@@ -87,7 +87,7 @@ abbrev pub stored_words : Blockers → List State → ℕ → Stepped → ToldWo
 stored_words b xs p t = stored_words_by t.outcome b xs p t
 
 -- over words b of blockers and x of states a call answers o, and leaves b', x', this data and this scratch: the step t of slot p, stored
-abbrev pub StoresStep : Stepped → ℕ → List ℕ → List ℕ → Outcome → List ℕ → List ℕ → List ℕ → List ℕ → Type 0
+abbrev pub StoresStep : Stepped → ℕ → Rows → Rows → Outcome → Rows → Rows → List ℕ → List ℕ → Type 0
 StoresStep t p b x o b' x' memory scratch = tells_words o b' x' memory scratch ≡ stored_words (blockers_of b) (states_of x) p t
 
 -- ---- begin
@@ -99,7 +99,7 @@ pub record BegunWords : Type 0 where
   pub vectors : List IoVector
   pub scratch : List ℕ
 
-abbrev pub begins_words : Begun → List ℕ → List ℕ → List ℕ → List ℕ → BegunWords
+abbrev pub begins_words : Begun → Rows → Rows → Rows → List ℕ → BegunWords
 begins_words a b x v scratch =
     record { answer = a; blockers = blockers_of b; states = states_of x; vectors = vectors_of v; scratch = scratch }
 
@@ -121,14 +121,14 @@ stored_job b xs vs v a = stored_job_by a.answer b xs vs v a
 
 -- over words b, x and v of blockers, states and vectors a call answers r, and leaves b', x', v' and this scratch: the job of a, stored with
 -- its vector w
-abbrev pub StoresJob : Admits → IoVector → List ℕ → List ℕ → List ℕ → Begun → List ℕ → List ℕ → List ℕ → List ℕ → Type 0
+abbrev pub StoresJob : Admits → IoVector → Rows → Rows → Rows → Begun → Rows → Rows → Rows → List ℕ → Type 0
 StoresJob a w b x v r b' x' v' scratch =
     begins_words r b' x' v' scratch ≡ stored_job (blockers_of b) (states_of x) (vectors_of v) w a
 
 -- ---- a call on all words of a dock: what it answers, and the dock that it leaves
 
-abbrev pub begins_in : Begun → List ℕ → List ℕ → List ℕ → List ℕ → List ℕ → Begins
+abbrev pub begins_in : Begun → List ℕ → Rows → Rows → Rows → List ℕ → Begins
 begins_in r s b x v scratch = begins (record { answer = r; dock = dock_of s b x v }) scratch
 
-abbrev pub tells_in : Outcome → List ℕ → List ℕ → List ℕ → List ℕ → List ℕ → List ℕ → Told
+abbrev pub tells_in : Outcome → List ℕ → Rows → Rows → Rows → List ℕ → List ℕ → Told
 tells_in o s b x v memory scratch = tells (record { outcome = o; dock = dock_of s b x v }) memory scratch

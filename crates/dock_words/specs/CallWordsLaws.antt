@@ -29,20 +29,20 @@ use Rattle.dock.specs.declared.dock.Dock.{Dock}
 use Rattle.dock.specs.declared.open.Opened.{Opened}
 use Rattle.dock.specs.declared.begin.Begun.{Begun}
 use Rattle.dock.specs.declared.begin.Begun.TheVariants.{Done as NoRequest, Admitted, Refused as BeginRefused}
-use Rattle.dock_words.specs.View.{blockers_of, states_of, vectors_of, settings_of, buffers_of, dock_of}
+use Rattle.dock_words.specs.View.{Rows, blockers_of, states_of, vectors_of, settings_of, buffers_of, dock_of}
 use Rattle.dock_words.specs.CallWords.{same_unless, opens_as, opens_over, changes, ToldWords, tells_words, stored_words_by, stored_words}
 use Rattle.dock_words.specs.CallWords.{BegunWords, begins_words, stored_job_by, stored_job}
 
 -- ---- what a call leaves in every word
 
 -- words that nothing was written to
-pub same_words : (t : Bool) (w : List ℕ) → same_unless t w w
+pub same_words : {A : Type 0} (t : Bool) (w : List A) → same_unless t w w
 unfolding same_unless
 same_words true w = tt
 same_words false w = refl
 
 -- of a call that is carried out nothing is said
-pub done_words : (t : Bool) (w w' : List ℕ) → t ≡ true → same_unless t w w'
+pub done_words : {A : Type 0} (t : Bool) (w w' : List A) → t ≡ true → same_unless t w w'
 unfolding same_unless
 done_words true w w' e = tt
 done_words false w w' e = let z : ◌≡◌ {A = Bool} false true = e in let y : ◌≡◌ {A = ℕ} 0 1 = cc in absurd (omega arith)
@@ -58,11 +58,11 @@ not_opened true d made e = let z : ◌≡◌ {A = Bool} true false = e in let y 
 not_opened false d made e = tt
 
 -- an opening that is refused, over words that stay, and one that is carried out
-module _ (made : Opened) (o : Outcome) (e : o ≡ made.outcome) (s b x v : List ℕ) where
+module _ (made : Opened) (o : Outcome) (e : o ≡ made.outcome) (s : List ℕ) (b x v : Rows) where
   pub refused_opening : (r : Refusal) → o ≡ Refused r → (o ≡ made.outcome) × opens_over made s b x v s b x v
   refused_opening r f = (e, (not_opened _ _ _ (ap is_done (sym e ∙ f)), same_words _ _, (same_words _ _, same_words _ _, same_words _ _)))
 
-  pub done_opening : o ≡ Done → (s' b' x' v' : List ℕ) → dock_of s' b' x' v' ≡ made.dock
+  pub done_opening : o ≡ Done → (s' : List ℕ) (b' x' v' : Rows) → dock_of s' b' x' v' ≡ made.dock
       → (Done ≡ made.outcome) × opens_over made s b x v s' b' x' v'
   done_opening f s' b' x' v' d =
       let k = ap is_done (sym e ∙ f) in
@@ -70,8 +70,8 @@ module _ (made : Opened) (o : Outcome) (e : o ≡ made.outcome) (s b x v : List 
 
 -- ---- what a call left, held beside the dock
 
-module _ (s b x v : List ℕ) where
-  pub tell_stored : (p : ℕ) (o : Outcome) (b' x' memory scratch : List ℕ) (t : Stepped)
+module _ (s : List ℕ) (b x v : Rows) where
+  pub tell_stored : (p : ℕ) (o : Outcome) (b' x' : Rows) (memory scratch : List ℕ) (t : Stepped)
       → tells_words o b' x' memory scratch ≡ stored_words (blockers_of b) (states_of x) p t
       → tells (record { outcome = o; dock = dock_of s b' x' v }) memory scratch ≡ stored (dock_of s b x v) p t
   tell_stored p o b' x' memory scratch t e = ap by e ∙ go t.outcome
@@ -92,7 +92,7 @@ module _ (s b x v : List ℕ) where
       go Done = refl
       go (Refused r) = refl
 
-  pub begin_stored : (r : Begun) (b' x' v' scratch : List ℕ) (w : IoVector) (a : Admits)
+  pub begin_stored : (r : Begun) (b' x' v' : Rows) (scratch : List ℕ) (w : IoVector) (a : Admits)
       → begins_words r b' x' v' scratch ≡ stored_job (blockers_of b) (states_of x) (vectors_of v) w a
       → begins (record { answer = r; dock = dock_of s b' x' v' }) scratch ≡ stored_with (dock_of s b x v) w a
   begin_stored r b' x' v' scratch w a e = ap by e ∙ go a.answer
@@ -115,7 +115,7 @@ module _ (s b x v : List ℕ) where
       go (BeginRefused y) = refl
 
 -- a step that is done is stored; one that is refused leaves blockers and states
-module _ (B : Blockers) (xs : List State) (p : ℕ) (t : Stepped) (b x memory scratch : List ℕ) where
+module _ (B : Blockers) (xs : List State) (p : ℕ) (t : Stepped) (b x : Rows) (memory scratch : List ℕ) where
   pub stored_done : t.outcome ≡ Done → blockers_of b ≡ t.blockers → states_of x ≡ set xs p t.state → memory ≡ t.memory
       → scratch ≡ t.scratch → tells_words Done b x memory scratch ≡ stored_words B xs p t
   stored_done o e f m n = rw (e, f, m, n) (sym (ap (λ (z : Outcome). stored_words_by z B xs p t) o))

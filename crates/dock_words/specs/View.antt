@@ -1,6 +1,6 @@
 -- What lent words mean: the dock by value. Any words are a dock: a tag that is none is the first variant, an answer counts modulo 256,
--- a flag is true at any word but 0. `..Of` and `..From` read a row, `..Words` write it.
-use Rattle.std.specs.Prelude.{◌≡◌, Bool, true, false, not, List, [], ◌∷◌, ◌++◌, map, ℕ, ◌+◌, ◌%◌, ◌<◌, eqb, length, get_or, drop}
+-- a flag is true at any word but 0. `.._of` and `.._from` read a row, `.._words` write it.
+use Rattle.std.specs.Prelude.{Bool, true, false, not, List, [], ◌∷◌, ◌++◌, map, ℕ, ◌+◌, ◌%◌, eqb, get_or, drop}
 use Rattle.arithmetic.specs.Rounding.{pick}
 use Rattle.arithmetic.specs.Offsets.{buffer_at, range_of}
 use Rattle.arithmetic.specs.declared.offsets.Range.{Range}
@@ -22,7 +22,6 @@ use Rattle.stages.specs.declared.state.Course.TheVariants.{Last, Middle, Head, C
 use Rattle.stages.specs.declared.state.Stage.{Stage}
 use Rattle.stages.specs.declared.state.State.{State}
 use Rattle.dock.specs.declared.dock.Dock.{Dock}
-use Rattle.arithmetic.specs.Rows.{rows}
 
 -- ---- one word
 
@@ -152,31 +151,21 @@ blocker_of w = record { kind = kind_of (get_or w 0 0); range = range_at w 1; not
 abbrev pub blocker_words : Blocker → List ℕ
 blocker_words b = kind_tag b.kind ∷ range_words b.range ++ map flag_word b.noted
 
--- ---- the dock: 9 words of settings; for the 8 slots 88 of blockers, 144 of states, 272 of vectors
+-- ---- the dock: 9 words of settings; for each of the 8 slots a row of 11 words of its blocker, 18 of its state, 34 of its vector
 
-abbrev pub blockers_of : List ℕ → Blockers
-blockers_of w = record { slots = rows blocker_of 11 8 w }
+-- the rows of the eight slots
+abbrev pub Rows : Type 0
+Rows = List (List ℕ)
 
-abbrev pub states_of : List ℕ → List State
-states_of w = rows state_from 18 8 w
+abbrev pub blockers_of : Rows → Blockers
+blockers_of w = record { slots = map blocker_of w }
 
-abbrev pub vectors_of : List ℕ → List IoVector
-vectors_of w = rows vector_from 34 8 w
+abbrev pub states_of : Rows → List State
+states_of w = map state_from w
 
--- the four arrays have the words of a dock: settings, blockers, states, vectors
-abbrev pub DockWords : List ℕ → List ℕ → List ℕ → List ℕ → Type 0
-DockWords s b x v = (length s ≡ 9) × (length b ≡ 88) × (length x ≡ 144) × (length v ≡ 272)
+abbrev pub vectors_of : Rows → List IoVector
+vectors_of w = map vector_from w
 
--- those of blockers, states and vectors, and what more a call on them asks; of one of the eight slots; of its state and vector alone
-abbrev pub SlotsWords : List ℕ → List ℕ → List ℕ → Type 0 → Type 0
-SlotsWords b x v P = (length b ≡ 88) × (length x ≡ 144) × (length v ≡ 272) × P
-
-abbrev pub SlotWords : List ℕ → List ℕ → List ℕ → ℕ → Type 0 → Type 0
-SlotWords b x v p P = (length b ≡ 88) × (length x ≡ 144) × (length v ≡ 272) × (p < 8) × P
-
-abbrev pub RowWords : List ℕ → List ℕ → ℕ → Type 0 → Type 0
-RowWords x v p P = (length x ≡ 144) × (length v ≡ 272) × (p < 8) × P
-
-abbrev pub dock_of : List ℕ → List ℕ → List ℕ → List ℕ → Dock
+abbrev pub dock_of : List ℕ → Rows → Rows → Rows → Dock
 dock_of s b x v =
     record { settings = settings_of s; buffers = buffers_of s; blockers = blockers_of b; states = states_of x; vectors = vectors_of v }

@@ -1,46 +1,56 @@
-// The calls on a dock in words, which a host holds as four arrays. For any words.
+// The calls on a dock in words, which a host holds as four arrays. For any words. The four are parameters of their own, and no struct of
+// references: each call lends others of them to be written, and C hands over four pointers.
 ghost use Rattle.std.specs.Prelude.{◌≡◌};
-ghost use Rattle.blockers.specs.Blockers.{entered_of, left_of, waits_of};
-ghost use Rattle.dock.specs.Dock.{open_of, open_by};
+ghost use Rattle.dock.specs.Dock.{fresh, open_of, open_by};
 ghost use Rattle.dock.specs.Begin.{begin_of};
 ghost use Rattle.dock.specs.Next.{next_of, piece_of};
 ghost use Rattle.dock.specs.Tell.{tell_of, collect_of, CollectGives};
-ghost use Rattle.dock_words.specs.View.{settings_of, blockers_of, dock_of};
-ghost use Rattle.vectors.specs.Words.{vector_from, vector_words};
+ghost use Rattle.dock_words.specs.View.{dock_of};
 ghost use Rattle.arithmetic.specs.Refusals.{is_done};
-ghost use Rattle.dock_words.specs.CallWords.{is_admitted, is_final, same_two, same_three, opens_over, begins_in, tells_in, ChangesBlockers};
+ghost use Rattle.dock_words.specs.CallWords.{is_admitted, is_final, same_two, same_three, opens_over, begins_in, tells_in};
 
-use crate::setting_words::get_settings;
-use crate::vector_words::{get_vector, put_vector};
-use arithmetic::offsets::Range;
-use arithmetic::refusals::Outcome;
-use arithmetic::settings::{Buffers, Profile, Settings};
-use blockers::Kind;
-use dock::begin::{Asked, Begun};
-use dock::next::{Due, Piece};
+use crate::begun_words::{admit, overlaps};
+pub use crate::blocker_words::{enter, leave, waits};
+pub use crate::rows::{BlockerRows, SettingRow, StateRows, VectorRow, VectorRows};
+pub use crate::setting_words::settings_of;
+use crate::setting_words::{Place, buffers_of, put_settings};
+use crate::state_words::{first_free, get_state, put_state};
+use crate::told_words::{is_out, tell_slot};
+use arithmetic::refusals::{Outcome, Refusal};
+use arithmetic::settings::{Buffers, Profile, Settings, check_opening};
+use dock::begin::{Asked, Begun, decide, plan_asked, select_vector};
+use dock::dock::{SLOTS, check_lent, lent_fits};
+use dock::next::{Due, Piece, due_now, piece_in};
+use dock::open::make_vacant;
 use dock::tell::Collected;
+use stages::state::has_ended;
 use vectors::vector::IoVector;
+pub use vectors::words::{get_vector as vector_of, put_vector as put_vector_of};
+use vectors::words::{buffer_count, get_vector, put_vector};
 
-// The settings that the dock was opened with.
-pub fn settings_of(settings: &[u64; 9]) -> Settings
-    ensures { result ≡ settings_of settings.now }
+// The words of a dock with eight free slots.
+fn set_fresh(
+    settings: &mut SettingRow,
+    blockers: &mut BlockerRows,
+    states: &mut StateRows,
+    vectors: &mut VectorRows,
+    s: Settings,
+    b: Buffers,
+)
+    ensures { dock_of settings.new blockers.new states.new vectors.new ≡ fresh s b }
 {
-    get_settings(settings)
+    put_settings(settings, s, b);
+    *blockers = [[0; 11]; SLOTS];
+    *states = [[0; 18]; SLOTS];
+    *vectors = [[0; 34]; SLOTS];
 }
 
-// The vector in 34 words. A begin refuses what is none over its data.
-pub fn vector_of(vector: &[u64; 34]) -> IoVector
-    ensures { result ≡ vector_from vector.now }
-{
-    get_vector(vector)
-}
-
-// Open with alignments: refused with 201, then 205.
+// Open with alignments: refused with 201, then 205, before a word is written.
 pub fn open(
-    settings: &mut [u64; 9],
-    blockers: &mut [u64; 88],
-    states: &mut [u64; 144],
-    vectors: &mut [u64; 272],
+    settings: &mut SettingRow,
+    blockers: &mut BlockerRows,
+    states: &mut StateRows,
+    vectors: &mut VectorRows,
     s: Settings,
     b: Buffers,
 ) -> Outcome
@@ -48,15 +58,20 @@ pub fn open(
         settings.old blockers.old states.old vectors.old
         settings.new blockers.new states.new vectors.new }
 {
-    crate::calls::open(settings, blockers, states, vectors, s, b)
+    let outcome = check_opening(s, b);
+    let Outcome::Done = outcome else {
+        return outcome;
+    };
+    set_fresh(settings, blockers, states, vectors, s, b);
+    Outcome::Done
 }
 
 // Open by drive profile (document 01: a drive row), a built-in one or one of a loaded table: refused with 201, then 205.
 pub fn open_by(
-    settings: &mut [u64; 9],
-    blockers: &mut [u64; 88],
-    states: &mut [u64; 144],
-    vectors: &mut [u64; 272],
+    settings: &mut SettingRow,
+    blockers: &mut BlockerRows,
+    states: &mut StateRows,
+    vectors: &mut VectorRows,
     profile: Profile,
     bounce: u64,
     b: Buffers,
@@ -65,15 +80,21 @@ pub fn open_by(
         settings.old blockers.old states.old vectors.old
         settings.new blockers.new states.new vectors.new }
 {
-    crate::calls::open_by(settings, blockers, states, vectors, profile, bounce, b)
+    match profile {
+        Profile::Of(align) => {
+            let s = Settings { align, bounce };
+            open(settings, blockers, states, vectors, s, b)
+        }
+        Profile::Refused(r) => Outcome::Refused(r),
+    }
 }
 
 // Begin what is asked, in the lowest free slot.
 pub fn begin(
-    settings: &[u64; 9],
-    blockers: &mut [u64; 88],
-    states: &mut [u64; 144],
-    vectors: &mut [u64; 272],
+    settings: &SettingRow,
+    blockers: &mut BlockerRows,
+    states: &mut StateRows,
+    vectors: &mut VectorRows,
     asked: Asked,
     data: &[u8],
     scratch: &mut [u8],
@@ -85,15 +106,29 @@ pub fn begin(
     ensures words { same_three (is_admitted result) blockers.old states.old vectors.old
         blockers.new states.new vectors.new }
 {
-    crate::calls::begin(settings, blockers, states, vectors, asked, data, scratch)
+    let s = settings_of(settings);
+    let b = buffers_of(settings);
+    let job = asked.job;
+    let v = select_vector(job, asked.vector);
+    let met = overlaps(states, vectors, job, v);
+    let lent = check_lent(s, b, data.len(), scratch.len());
+    let free = first_free(states);
+    let first = plan_asked(asked, s, b);
+    let plan = decide(lent, v.is_valid(data.len()), first, met, free);
+    let place = Place {
+        slot: free,
+        settings: s,
+        buffers: b,
+    };
+    admit(blockers, states, vectors, place, plan, v, data, scratch)
 }
 
 // What the job in `slot` needs now. Changes nothing.
 pub fn next(
-    settings: &[u64; 9],
-    blockers: &[u64; 88],
-    states: &[u64; 144],
-    vectors: &[u64; 272],
+    settings: &SettingRow,
+    blockers: &BlockerRows,
+    states: &StateRows,
+    vectors: &VectorRows,
     slot: usize,
     data_len: usize,
     scratch_len: usize,
@@ -101,23 +136,27 @@ pub fn next(
     ensures { result ≡ next_of (dock_of settings.now blockers.now states.now vectors.now) slot
         data_len scratch_len }
 {
-    crate::calls::next(
-        settings,
-        blockers,
-        states,
-        vectors,
-        slot,
-        data_len,
-        scratch_len,
+    let lent = buffers_of(settings);
+    if !lent_fits(lent, data_len, scratch_len) {
+        return Due::Refused(Refusal::Buffer);
+    }
+    if SLOTS <= slot {
+        return Due::Refused(Refusal::Slot);
+    }
+    let waiting = waits(blockers, slot);
+    due_now(
+        get_state(&states[slot]),
+        waiting,
+        buffer_count(&vectors[slot]),
     )
 }
 
 // Where piece i of the request that is out in `slot` lies.
 pub fn piece(
-    settings: &[u64; 9],
-    blockers: &[u64; 88],
-    states: &[u64; 144],
-    vectors: &[u64; 272],
+    settings: &SettingRow,
+    blockers: &BlockerRows,
+    states: &StateRows,
+    vectors: &VectorRows,
     slot: usize,
     i: usize,
     data_len: usize,
@@ -126,24 +165,28 @@ pub fn piece(
     ensures { result ≡ piece_of (dock_of settings.now blockers.now states.now vectors.now) slot
         i data_len scratch_len }
 {
-    crate::calls::piece(
-        settings,
-        blockers,
-        states,
-        vectors,
-        slot,
-        i,
-        data_len,
-        scratch_len,
-    )
+    let lent = buffers_of(settings);
+    if !lent_fits(lent, data_len, scratch_len) {
+        return Piece::Refused(Refusal::Buffer);
+    }
+    if SLOTS <= slot {
+        return Piece::Refused(Refusal::Slot);
+    }
+    let x = get_state(&states[slot]);
+    if !is_out(blockers, x, slot) {
+        return Piece::Refused(Refusal::Slot);
+    }
+    let s = settings_of(settings);
+    let v = get_vector(&vectors[slot]);
+    piece_in(slot, s, lent, x, v, i, data_len)
 }
 
 // Hand in the code of the request that is out in `slot`.
 pub fn tell(
-    settings: &[u64; 9],
-    blockers: &mut [u64; 88],
-    states: &mut [u64; 144],
-    vectors: &[u64; 272],
+    settings: &SettingRow,
+    blockers: &mut BlockerRows,
+    states: &mut StateRows,
+    vectors: &VectorRows,
     slot: usize,
     code: u8,
     data: &mut [u8],
@@ -155,17 +198,37 @@ pub fn tell(
         slot code «data».old scratch.old }
     ensures words { same_two (is_done result) blockers.old states.old blockers.new states.new }
 {
-    crate::calls::tell(
-        settings, blockers, states, vectors, slot, code, data, scratch,
+    let b = buffers_of(settings);
+    if !lent_fits(b, data.len(), scratch.len()) {
+        return Outcome::Refused(Refusal::Buffer);
+    }
+    if SLOTS <= slot {
+        return Outcome::Refused(Refusal::Slot);
+    }
+    let place = Place {
+        slot,
+        settings: settings_of(settings),
+        buffers: b,
+    };
+    let x = get_state(&states[slot]);
+    tell_slot(
+        blockers,
+        states,
+        &vectors[slot],
+        place,
+        x,
+        code,
+        data,
+        scratch,
     )
 }
 
 // Take the final answer; the slot is free again.
 pub fn collect(
-    settings: &[u64; 9],
-    blockers: &[u64; 88],
-    states: &mut [u64; 144],
-    vectors: &mut [u64; 272],
+    settings: &SettingRow,
+    blockers: &BlockerRows,
+    states: &mut StateRows,
+    vectors: &mut VectorRows,
     slot: usize,
     data_len: usize,
     scratch_len: usize,
@@ -175,43 +238,18 @@ pub fn collect(
         result (dock_of settings.now blockers.now states.new vectors.new) }
     ensures words { same_two (is_final result) states.old vectors.old states.new vectors.new }
 {
-    crate::calls::collect(
-        settings,
-        blockers,
-        states,
-        vectors,
-        slot,
-        data_len,
-        scratch_len,
-    )
-}
-
-// Write a vector over 34 words.
-pub fn put_vector_of(vector: &mut [u64; 34], v: IoVector)
-    ensures { vector.new ≡ vector_words v }
-{
-    put_vector(vector, v);
-}
-
-// Enter a blocker of this kind. Refused (208) past slot 7 and where one is entered.
-pub fn enter(blockers: &mut [u64; 88], kind: Kind, slot: usize, range: Range) -> Outcome
-    ensures { ChangesBlockers (entered_of kind slot range (blockers_of blockers.old)) result
-        blockers.old blockers.new }
-{
-    crate::blocker_words::enter(blockers, kind, slot, range)
-}
-
-// The slot's blocker is gone, and nobody notes it any more. Refused (208) past slot 7 and where none is entered.
-pub fn leave(blockers: &mut [u64; 88], slot: usize) -> Outcome
-    ensures { ChangesBlockers (left_of slot (blockers_of blockers.old)) result
-        blockers.old blockers.new }
-{
-    crate::blocker_words::leave(blockers, slot)
-}
-
-// Whether the slot's blocker waits: one that it noted is still there. Past slot 7 none waits.
-pub fn waits(blockers: &[u64; 88], slot: usize) -> bool
-    ensures { result ≡ waits_of slot (blockers_of blockers.now) }
-{
-    crate::blocker_words::waits(blockers, slot)
+    let lent = buffers_of(settings);
+    if !lent_fits(lent, data_len, scratch_len) {
+        return Collected::Refused(Refusal::Buffer);
+    }
+    if SLOTS <= slot {
+        return Collected::Refused(Refusal::Slot);
+    }
+    let x = get_state(&states[slot]);
+    if !has_ended(x.phase) {
+        return Collected::Refused(Refusal::Slot);
+    }
+    put_state(&mut states[slot], make_vacant());
+    put_vector(&mut vectors[slot], IoVector::new());
+    Collected::Final(x.answer)
 }

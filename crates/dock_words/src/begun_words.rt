@@ -1,104 +1,108 @@
 // What a begin does to the words: whether its vector meets another, and the job that comes to its slot.
-ghost use Rattle.std.specs.Prelude.{◌≡◌, true, ◌<◌, length};
+ghost use Rattle.std.specs.Prelude.{◌≡◌, true, ◌<◌, length, zip};
+ghost use Rattle.std.specs.List.{list_any};
 ghost use Rattle.stages.specs.declared.plan.Plan.TheVariants.{Started};
-ghost use Rattle.dock.specs.Dock.{meets_at, overlaps_of};
+ghost use Rattle.dock.specs.Dock.{meets_of, overlaps_of};
 ghost use Rattle.dock.specs.Next.{is_sound_at};
 ghost use Rattle.dock.specs.Slots.{PlanSound};
 ghost use Rattle.dock.specs.Begin.{admit_at};
-ghost use Rattle.dock_words.specs.View.{blockers_of, states_of, vectors_of, SlotsWords, SlotWords};
+ghost use Rattle.dock_words.specs.View.{blockers_of, states_of, vectors_of, state_from};
+ghost use Rattle.vectors.specs.Words.{vector_from};
 ghost use Rattle.dock_words.specs.CallWords.{is_admitted, same_three, StoresJob};
 
 use crate::blocker_steps::{enter_blocker, may_enter};
-use crate::state_words::{phase_at, put_state_at, state_at};
-use crate::vector_words::{put_vector_at, vector_at};
+use crate::rows::{BlockerRows, StateRow, StateRows, VectorRow, VectorRows};
+use crate::setting_words::Place;
+use crate::state_words::{get_state, is_free_row, put_state};
 use arithmetic::refusals::{Outcome, Refusal};
-use arithmetic::settings::{Buffers, Settings};
 use dock::begin::Begun;
 use dock::bytes::fill_share;
 use dock::dock::{SLOTS, meets, meets_itself};
 use stages::plan::Plan;
-use stages::state::{Job, State, is_free};
+use stages::state::{Job, State};
 use vectors::vector::IoVector;
+use vectors::words::{get_vector, put_vector};
 
-// Whether a job's vector meets that of slot i, of which one reads. A free slot's words are not read.
-fn meets_at(states: &[u64], vectors: &[u64], i: usize, job: Job, v: IoVector) -> bool
-    requires { (length states.now ≡ 144) × (length vectors.now ≡ 272) × (i < 8) }
-    ensures { result ≡ meets_at (states_of states.now) (vectors_of vectors.now) job v i }
+// Whether a job's vector meets that of a slot, of which one reads. The vector of a free slot is not read.
+#[tactic(auto, unfolding(dock::specs::Dock::meets_of))]
+fn meets_row(state: &StateRow, vector: &VectorRow, job: Job, v: IoVector) -> bool
+    ensures { result ≡ meets_of (state_from state.now) (vector_from vector.now) job v }
 {
-    let phase = phase_at(states, i);
-    if is_free(phase) {
+    if is_free_row(state) {
         return false;
     }
-    let x = state_at(states, i);
-    let w = vector_at(vectors, i);
-    meets(x, w, job, v)
+    meets(get_state(state), get_vector(vector), job, v)
+}
+
+// Whether it meets that of one of the slots.
+fn meets_any(states: &StateRows, vectors: &VectorRows, job: Job, v: IoVector) -> bool
+    ensures { result ≡ list_any (λ r. meets_of (state_from r.0) (vector_from r.1) job v) (zip states.now vectors.now) }
+{
+    states
+        .iter()
+        .zip(vectors)
+        .any(|(state, vector)| meets_row(state, vector, job, v))
 }
 
 // Whether the vector meets itself or another where one reads.
-pub(crate) fn overlaps(states: &[u64], vectors: &[u64], job: Job, v: IoVector) -> bool
-    requires { (length states.now ≡ 144) × (length vectors.now ≡ 272) }
+pub(crate) fn overlaps(states: &StateRows, vectors: &VectorRows, job: Job, v: IoVector) -> bool
     ensures { result ≡ overlaps_of (states_of states.now) (vectors_of vectors.now) job v }
 {
-    let mut met = meets_itself(job, v);
-    let mut i: usize = 0;
-    while i < SLOTS {
-        met = met | meets_at(states, vectors, i, job, v);
-        i += 1;
-    }
-    met
+    meets_itself(job, v) || meets_any(states, vectors, job, v)
 }
 
-// The job x comes to `slot`: its bytes are filled, its blocker enters, and it is stored with its vector.
+// The job x comes to its slot: its bytes are filled, its blocker enters, and it is stored with its vector.
 fn admit_started(
-    blockers: &mut [u64],
-    states: &mut [u64],
-    vectors: &mut [u64],
-    slot: usize,
-    settings: Settings,
-    buffers: Buffers,
+    blockers: &mut BlockerRows,
+    states: &mut StateRows,
+    vectors: &mut VectorRows,
+    place: Place,
     x: State,
     v: IoVector,
     data: &[u8],
     scratch: &mut [u8],
 ) -> Begun
-    requires { SlotWords blockers.old states.old vectors.old slot
-        (is_sound_at slot x settings buffers (length scratch.old) ≡ true) }
-    ensures dock { StoresJob (admit_at (blockers_of blockers.old) slot settings.bounce v
+    requires { (place.slot < 8) × (is_sound_at place.slot x place.settings place.buffers (length scratch.old) ≡ true) }
+    ensures dock { StoresJob (admit_at (blockers_of blockers.old) place.slot place.settings.bounce v
         «data».now scratch.old (Started x)) v
         blockers.old states.old vectors.old
         result blockers.new states.new vectors.new scratch.new }
     ensures words { same_three (is_admitted result) blockers.old states.old vectors.old
         blockers.new states.new vectors.new }
 {
-    if !may_enter(blockers, slot, x) {
+    if !may_enter(blockers, place.slot, x) {
         return Begun::Refused(Refusal::Slot);
     }
-    let filled = fill_share(slot, settings, buffers, x, v, data, scratch);
-    if let Outcome::Refused(r) = filled {
+    if let Outcome::Refused(r) = fill_share(
+        place.slot,
+        place.settings,
+        place.buffers,
+        x,
+        v,
+        data,
+        scratch,
+    ) {
         return Begun::Refused(r);
     }
-    let entered = enter_blocker(blockers, slot, x);
-    put_state_at(states, slot, x);
-    put_vector_at(vectors, slot, v);
-    Begun::Admitted(slot)
+    enter_blocker(blockers, place.slot, x);
+    put_state(&mut states[place.slot], x);
+    put_vector(&mut vectors[place.slot], v);
+    Begun::Admitted(place.slot)
 }
 
 // A decided job comes to its slot.
 pub(crate) fn admit(
-    blockers: &mut [u64],
-    states: &mut [u64],
-    vectors: &mut [u64],
-    slot: usize,
-    settings: Settings,
-    buffers: Buffers,
+    blockers: &mut BlockerRows,
+    states: &mut StateRows,
+    vectors: &mut VectorRows,
+    place: Place,
     plan: Plan,
     v: IoVector,
     data: &[u8],
     scratch: &mut [u8],
 ) -> Begun
-    requires { SlotsWords blockers.old states.old vectors.old
-        (PlanSound slot settings buffers (length scratch.old) plan) }
-    ensures dock { StoresJob (admit_at (blockers_of blockers.old) slot settings.bounce v
+    requires { PlanSound place.slot place.settings place.buffers (length scratch.old) plan }
+    ensures dock { StoresJob (admit_at (blockers_of blockers.old) place.slot place.settings.bounce v
         «data».now scratch.old plan) v
         blockers.old states.old vectors.old
         result blockers.new states.new vectors.new scratch.new }
@@ -108,8 +112,6 @@ pub(crate) fn admit(
     match plan {
         Plan::Done => Begun::Done,
         Plan::Refused(r) => Begun::Refused(r),
-        Plan::Started(x) => admit_started(
-            blockers, states, vectors, slot, settings, buffers, x, v, data, scratch,
-        ),
+        Plan::Started(x) => admit_started(blockers, states, vectors, place, x, v, data, scratch),
     }
 }

@@ -1,57 +1,62 @@
-// Settings and the buffers of opening, in one array of 9 words.
-ghost use Rattle.std.specs.Prelude.{◌≡◌, length};
+// Settings and the buffers of opening, in one row of 9 words.
+ghost use Rattle.std.specs.Prelude.{◌≡◌};
 ghost use Rattle.dock_words.specs.View.{settings_of, buffers_of, settings_words};
 
+use crate::rows::SettingRow;
 use arithmetic::settings::{Alignments, Buffers, Lent, Settings};
 
-// The settings in the first 5 words.
-pub(crate) fn get_settings(words: &[u64]) -> Settings
-    requires { length words.now ≡ 9 }
-    ensures { result ≡ settings_of words.now }
+// A slot of the dock, with what its job needs of the rest: the settings and the buffers.
+#[derive(Clone, Copy)]
+pub(crate) struct Place {
+    pub slot: usize,
+    pub settings: Settings,
+    pub buffers: Buffers,
+}
+
+// The settings in the first 5 words: those that the dock was opened with.
+pub fn settings_of(settings: &SettingRow) -> Settings
+    ensures { result ≡ settings_of settings.now }
 {
     Settings {
         align: Alignments {
-            mem: words[0],
-            req: words[1],
-            zero: words[2],
-            discard: words[3],
+            mem: settings[0],
+            req: settings[1],
+            zero: settings[2],
+            discard: settings[3],
         },
-        bounce: words[4],
+        bounce: settings[4],
     }
 }
 
 // The buffers of opening in the other 4.
-pub(crate) fn get_buffers(words: &[u64]) -> Buffers
-    requires { length words.now ≡ 9 }
-    ensures { result ≡ buffers_of words.now }
+pub(crate) fn buffers_of(settings: &SettingRow) -> Buffers
+    ensures { result ≡ buffers_of settings.now }
 {
     Buffers {
         data: Lent {
-            address: words[5],
-            length: words[6],
+            address: settings[5],
+            length: settings[6],
         },
         scratch: Lent {
-            address: words[7],
-            length: words[8],
+            address: settings[7],
+            length: settings[8],
         },
     }
 }
 
-// Write both, over the whole array.
-pub(crate) fn put_settings(words: &mut [u64], s: Settings, b: Buffers)
-    requires { length words.old ≡ 9 }
-    ensures { words.new ≡ settings_words s b }
+// Write both, over the whole row.
+pub(crate) fn put_settings(settings: &mut SettingRow, s: Settings, b: Buffers)
+    ensures { settings.new ≡ settings_words s b }
 {
-    let align = s.align;
-    let data = b.data;
-    let scratch = b.scratch;
-    words[0] = align.mem;
-    words[1] = align.req;
-    words[2] = align.zero;
-    words[3] = align.discard;
-    words[4] = s.bounce;
-    words[5] = data.address;
-    words[6] = data.length;
-    words[7] = scratch.address;
-    words[8] = scratch.length;
+    *settings = [
+        s.align.mem,
+        s.align.req,
+        s.align.zero,
+        s.align.discard,
+        s.bounce,
+        b.data.address,
+        b.data.length,
+        b.scratch.address,
+        b.scratch.length,
+    ];
 }

@@ -9,5 +9,5 @@ use Rattle.dock_c.specs.Replies.{reply_of}
 use Rattle.dock_c.proofs.dock_words_begin_write.Goals as goal
 
 pub returns : goal.returns
-returns c = let a = c.args in let w = c.begin.ensures.words in let e = c.begin.ensures.dock ∙ ap (λ (q : Asked). begin_of (dock_of a.settings.now a.blockers.now a.states.now a.vectors.now) q a.«data».now a.scratch.now) (c.write-asked.ensures ∙ ap (write_of (store_at a.offset)) c.vector_of.ensures) in let o = ap (λ (z : Begins). z.answer) e in
+returns c = let a = c.args in let w = c.begin.ensures.words in let e = c.begin.ensures.dock ∙ ap (λ (q : Asked). begin_of (dock_of a.settings.now a.blockers.now a.states.now a.vectors.now) q a.«data».now a.scratch.now) (c.write-asked.ensures ∙ ap (write_of (store_at a.offset)) c.get_vector.ensures) in let o = ap (λ (z : Begins). z.answer) e in
     record { dock = (c.begun_reply.ensures ∙ ap (λ (z : Begins). reply_of (begun_paper z.answer)) e, ap (λ (z : Begins). z.dock) e, ap (λ (z : Begins). z.scratch) e); words = (rw (← o) w.0, rw (← o) w.1, rw (← o) w.2) }

@@ -4,7 +4,7 @@ use Rattle.dock_c.proofs.combined.dock_words_submit_write.Goals as goal
 pub returns : goal.returns
 returns c =
     record {
-      dock = rw (c.write-asked.ensures, c.vector_of.ensures) at c.submit.ensures.dock;
-      bytes = rw (c.write-asked.ensures, c.vector_of.ensures) at c.submit.ensures.bytes;
-      words = rw (c.write-asked.ensures, c.vector_of.ensures) at c.submit.ensures.words;
+      dock = rw (c.write-asked.ensures, c.get_vector.ensures) at c.submit.ensures.dock;
+      bytes = rw (c.write-asked.ensures, c.get_vector.ensures) at c.submit.ensures.bytes;
+      words = rw (c.write-asked.ensures, c.get_vector.ensures) at c.submit.ensures.words;
     }

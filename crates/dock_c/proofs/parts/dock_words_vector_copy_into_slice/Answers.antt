@@ -4,4 +4,4 @@ use Rattle.arithmetic.specs.Refusals.{outcome_number}
 use Rattle.dock_c.proofs.parts.dock_words_vector_copy_into_slice.Goals as goal
 
 pub returns : goal.returns
-returns c = rw (← c.vector_of-v.ensures) (c.number.ensures ∙ ap outcome_number c.copy_into_slice-outcome.ensures.outcome, c.copy_into_slice-outcome.ensures.bytes)
+returns c = rw (← c.get_vector-v.ensures) (c.number.ensures ∙ ap outcome_number c.copy_into_slice-outcome.ensures.outcome, c.copy_into_slice-outcome.ensures.bytes)

@@ -2,15 +2,18 @@
 use mathlib.Core.Path.{refl, sym, ◌∙◌}
 use Prim.Native.Nat.{◌*◌}
 use Rattle.dock.specs.SlotLaws.{filled_share_lem}
+use Rattle.std.proofs.Common.{rules}
+use Rattle.arithmetic.specs.Loops.{array_long}
+use Rattle.dock_words.specs.Laws.{state_put, vector_put}
 use Rattle.dock_words.proofs.Begun.{admit_not, admit_refused, admit_done}
 use Rattle.dock_words.specs.CallWordsLaws.{same_words, done_words}
 use Rattle.dock_words.proofs.begun_words.admit_started.Goals as goal
 
 pub returns-then-not-may_enter : goal.returns-then-not-may_enter
-returns-then-not-may_enter c = record { dock = (let a = c.args in admit_not a.blockers.now a.states.now a.vectors.now a.slot (a.slot * a.settings.bounce) a.x a.v a.«data».now a.scratch.now (sym c.may_enter.ensures ∙ c.if-not-may_enter.true)); words = (same_words _ _, same_words _ _, same_words _ _) }
+returns-then-not-may_enter c = record { dock = (let a = c.args in admit_not a.blockers.now a.states.now a.vectors.now a.place.slot (a.place.slot * a.place.settings.bounce) a.x a.v a.«data».now a.scratch.now (sym c.may_enter.ensures ∙ c.if-not-may_enter.true)); words = (same_words _ _, same_words _ _, same_words _ _) }
 
 pub returns-in-Refused : goal.returns-in-Refused
-returns-in-Refused c = record { dock = (let a = c.args in admit_refused a.blockers.now a.states.now a.vectors.now a.slot (a.slot * a.settings.bounce) a.x a.v a.«data».now a.scratch.now (sym c.may_enter.ensures ∙ c.if-not-may_enter.false) _ _ (c.fill_share-filled.ensures ∙ filled_share_lem a.slot a.settings a.buffers a.x a.v a.«data».now a.scratch.now c.requires.4) _ c.in-Refused.is); words = (same_words _ _, same_words _ _, same_words _ _) }
+returns-in-Refused c = record { dock = (let a = c.args in admit_refused a.blockers.now a.states.now a.vectors.now a.place.slot (a.place.slot * a.place.settings.bounce) a.x a.v a.«data».now a.scratch.now (sym c.may_enter.ensures ∙ c.if-not-may_enter.false) _ _ (c.fill_share.ensures ∙ filled_share_lem a.place.slot a.place.settings a.place.buffers a.x a.v a.«data».now a.scratch.now c.requires.1) _ c.in-Refused.is); words = (same_words _ _, same_words _ _, same_words _ _) }
 
 pub returns : goal.returns
-returns c = record { dock = (let a = c.args in admit_done a.blockers.now a.states.now a.vectors.now a.slot (a.slot * a.settings.bounce) a.x a.v a.«data».now a.scratch.now (sym c.may_enter.ensures ∙ c.if-not-may_enter.false) _ _ (c.fill_share-filled.ensures ∙ filled_share_lem a.slot a.settings a.buffers a.x a.v a.«data».now a.scratch.now c.requires.4) c.in_default.is _ _ _ c.enter_blocker-entered.ensures.1 c.put_state_at.ensures c.put_vector_at.ensures); words = (done_words _ _ _ refl, done_words _ _ _ refl, done_words _ _ _ refl) }
+returns c = record { dock = (let a = c.args in admit_done a.blockers.now a.states.now a.vectors.now a.place.slot (a.place.slot * a.place.settings.bounce) a.x a.v a.«data».now a.scratch.now (sym c.may_enter.ensures ∙ c.if-not-may_enter.false) _ _ (c.fill_share.ensures ∙ filled_share_lem a.place.slot a.place.settings a.place.buffers a.x a.v a.«data».now a.scratch.now c.requires.1) c.in_default.is _ _ _ c.enter_blocker.ensures.1 (state_put a.states.now a.place.slot a.x _ c.put_state.ensures (search rules)) (vector_put a.vectors.now a.place.slot a.v _ c.put_vector.ensures (search (rules, array_long)))); words = (done_words _ _ _ refl, done_words _ _ _ refl, done_words _ _ _ refl) }

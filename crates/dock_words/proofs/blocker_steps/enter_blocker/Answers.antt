@@ -10,4 +10,4 @@ returns-then-not-is_blocking c = simp (sym c.is_blocking.ensures ∙ c.if-not-is
 
 pub returns : goal.returns
 unfolding blockers_with
-returns c = simp (sym c.is_blocking.ensures ∙ c.if-not-is_blocking.false) (rw c.strength-kind.ensures at c.enter.ensures.0, rw c.strength-kind.ensures at c.enter.ensures.1, c.enter.ensures.2)
+returns c = simp (sym c.is_blocking.ensures ∙ c.if-not-is_blocking.false) (rw c.strength.ensures at c.enter.ensures.0, rw c.strength.ensures at c.enter.ensures.1, c.enter.ensures.2)

@@ -7,5 +7,5 @@ use Rattle.dock_words.proofs.blocker_steps.may_change.Goals as goal
 pub returns-then-is_blocking : goal.returns-then-is_blocking
 returns-then-is_blocking c = let a = c.args in c.may_leave.ensures ∙ changes_blocking (blockers_of a.blockers.now) a.slot a.x a.y (sym c.is_blocking.ensures ∙ c.if-is_blocking.true)
 
-pub returns : goal.returns
-returns c = let a = c.args in c.may_enter.ensures ∙ changes_plain (blockers_of a.blockers.now) a.slot a.x a.y (sym c.is_blocking.ensures ∙ c.if-is_blocking.false)
+pub returns-else-is_blocking : goal.returns-else-is_blocking
+returns-else-is_blocking c = let a = c.args in c.may_enter.ensures ∙ changes_plain (blockers_of a.blockers.now) a.slot a.x a.y (sym c.is_blocking.ensures ∙ c.if-is_blocking.false)

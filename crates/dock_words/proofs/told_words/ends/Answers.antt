@@ -1,20 +1,20 @@
 -- `dock_words::told_words::ends` meets its contract: 208 where the blocker cannot leave; copied out, and where that was done it leaves and the state is stored. Assumes nothing.
 use mathlib.Core.Path.{sym, ap, ◌∙◌}
 use Prim.Native.Nat.{◌*◌}
-use lib.ListN.{get_or}
-use Rattle.dock.specs.Dock.{no_vector}
-use Rattle.dock_words.specs.View.{vectors_of}
 use Rattle.dock.specs.SlotLaws.{handed_share_lem}
+use Rattle.vectors.specs.Words.{vector_from}
+use Rattle.std.proofs.Common.{rules}
+use Rattle.dock_words.specs.Laws.{state_put}
 use Rattle.dock_words.proofs.Told.{ends_not, ends_refused, ends_done}
 use Rattle.dock_words.specs.CallWordsLaws.{same_words, done_words}
 use Rattle.arithmetic.specs.Refusals.{is_done}
 use Rattle.dock_words.proofs.told_words.ends.Goals as goal
 
 pub returns-then-not-may_leave : goal.returns-then-not-may_leave
-returns-then-not-may_leave c = record { dock = (let a = c.args in ends_not a.blockers.now a.states.now a.slot (a.slot * a.settings.bounce) a.x a.code a.y (get_or (vectors_of a.vectors.now) a.slot no_vector) a.«data».now a.scratch.now (sym c.may_leave.ensures ∙ c.if-not-may_leave.true)); words = (same_words _ _, same_words _ _) }
+returns-then-not-may_leave c = record { dock = (let a = c.args in ends_not a.blockers.now a.states.now a.place.slot (a.place.slot * a.place.settings.bounce) a.x a.code a.y (vector_from a.vector.now) a.«data».now a.scratch.now (sym c.may_leave.ensures ∙ c.if-not-may_leave.true)); words = (same_words _ _, same_words _ _) }
 
 pub returns-in_default : goal.returns-in_default
-returns-in_default c = record { dock = (let a = c.args in ends_refused a.blockers.now a.states.now a.slot (a.slot * a.settings.bounce) a.x a.code a.y (get_or (vectors_of a.vectors.now) a.slot no_vector) a.«data».now a.scratch.now (sym c.may_leave.ensures ∙ c.if-not-may_leave.false) _ _ (c.hand_out-outcome.ensures ∙ handed_share_lem a.slot a.settings a.buffers a.x a.code (get_or (vectors_of a.vectors.now) a.slot no_vector) a.«data».now a.scratch.now c.requires.4) _ c.in_default.is); words = (same_words _ _, same_words _ _) }
+returns-in_default c = record { dock = (let a = c.args in ends_refused a.blockers.now a.states.now a.place.slot (a.place.slot * a.place.settings.bounce) a.x a.code a.y (vector_from a.vector.now) a.«data».now a.scratch.now (sym c.may_leave.ensures ∙ c.if-not-may_leave.false) _ _ (c.hand_out-outcome.ensures ∙ handed_share_lem a.place.slot a.place.settings a.place.buffers a.x a.code (vector_from a.vector.now) a.«data».now a.scratch.now c.requires.1) _ c.in_default.is); words = (same_words _ _, same_words _ _) }
 
 pub returns : goal.returns
-returns c = record { dock = (let a = c.args in ends_done a.blockers.now a.states.now a.slot (a.slot * a.settings.bounce) a.x a.code a.y (get_or (vectors_of a.vectors.now) a.slot no_vector) a.«data».now a.scratch.now (sym c.may_leave.ensures ∙ c.if-not-may_leave.false) _ _ (c.hand_out-outcome.ensures ∙ handed_share_lem a.slot a.settings a.buffers a.x a.code (get_or (vectors_of a.vectors.now) a.slot no_vector) a.«data».now a.scratch.now c.requires.4) c.in-Done.is _ c.leave_blocker-left.ensures.0 _ _ c.leave_blocker-left.ensures.1 c.put_state_at.ensures); words = let e = ap is_done c.leave_blocker-left.ensures.0 ∙ sym c.may_leave.ensures ∙ c.if-not-may_leave.false in (done_words _ _ _ e, done_words _ _ _ e) }
+returns c = record { dock = (let a = c.args in ends_done a.blockers.now a.states.now a.place.slot (a.place.slot * a.place.settings.bounce) a.x a.code a.y (vector_from a.vector.now) a.«data».now a.scratch.now (sym c.may_leave.ensures ∙ c.if-not-may_leave.false) _ _ (c.hand_out-outcome.ensures ∙ handed_share_lem a.place.slot a.place.settings a.place.buffers a.x a.code (vector_from a.vector.now) a.«data».now a.scratch.now c.requires.1) c.in-Done.is _ c.leave_blocker-left.ensures.0 _ _ c.leave_blocker-left.ensures.1 (state_put a.states.now a.place.slot a.y _ c.put_state.ensures (search rules))); words = let e = ap is_done c.leave_blocker-left.ensures.0 ∙ sym c.may_leave.ensures ∙ c.if-not-may_leave.false in (done_words _ _ _ e, done_words _ _ _ e) }

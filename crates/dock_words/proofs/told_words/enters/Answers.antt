@@ -1,19 +1,19 @@
 -- `dock_words::told_words::enters` meets its contract: 208 where the blocker cannot change; filled, and where that was done it changes and the state is stored. Assumes nothing.
 use mathlib.Core.Path.{refl, sym, ◌∙◌}
 use Prim.Native.Nat.{◌*◌}
-use lib.ListN.{get_or}
-use Rattle.dock.specs.Dock.{no_vector}
-use Rattle.dock_words.specs.View.{vectors_of}
 use Rattle.dock.specs.SlotLaws.{filled_share_lem}
+use Rattle.vectors.specs.Words.{vector_from}
+use Rattle.std.proofs.Common.{rules}
+use Rattle.dock_words.specs.Laws.{state_put}
 use Rattle.dock_words.proofs.Told.{enters_not, enters_refused, enters_done}
 use Rattle.dock_words.specs.CallWordsLaws.{same_words, done_words}
 use Rattle.dock_words.proofs.told_words.enters.Goals as goal
 
 pub returns-then-not-may_change : goal.returns-then-not-may_change
-returns-then-not-may_change c = record { dock = (let a = c.args in enters_not a.blockers.now a.states.now a.slot (a.slot * a.settings.bounce) a.x a.y (get_or (vectors_of a.vectors.now) a.slot no_vector) a.«data».now a.scratch.now (sym c.may_change.ensures ∙ c.if-not-may_change.true)); words = (same_words _ _, same_words _ _) }
+returns-then-not-may_change c = record { dock = (let a = c.args in enters_not a.blockers.now a.states.now a.place.slot (a.place.slot * a.place.settings.bounce) a.x a.y (vector_from a.vector.now) a.«data».now a.scratch.now (sym c.may_change.ensures ∙ c.if-not-may_change.true)); words = (same_words _ _, same_words _ _) }
 
 pub returns-in_default : goal.returns-in_default
-returns-in_default c = record { dock = (let a = c.args in enters_refused a.blockers.now a.states.now a.slot (a.slot * a.settings.bounce) a.x a.y (get_or (vectors_of a.vectors.now) a.slot no_vector) a.«data».now a.scratch.now (sym c.may_change.ensures ∙ c.if-not-may_change.false) _ _ (c.fill-outcome.ensures ∙ filled_share_lem a.slot a.settings a.buffers a.y (get_or (vectors_of a.vectors.now) a.slot no_vector) a.«data».now a.scratch.now c.requires.4) _ c.in_default.is); words = (same_words _ _, same_words _ _) }
+returns-in_default c = record { dock = (let a = c.args in enters_refused a.blockers.now a.states.now a.place.slot (a.place.slot * a.place.settings.bounce) a.x a.y (vector_from a.vector.now) a.«data».now a.scratch.now (sym c.may_change.ensures ∙ c.if-not-may_change.false) _ _ (c.fill-outcome.ensures ∙ filled_share_lem a.place.slot a.place.settings a.place.buffers a.y (vector_from a.vector.now) a.«data».now a.scratch.now c.requires.1) _ c.in_default.is); words = (same_words _ _, same_words _ _) }
 
 pub returns : goal.returns
-returns c = record { dock = (let a = c.args in enters_done a.blockers.now a.states.now a.slot (a.slot * a.settings.bounce) a.x a.y (get_or (vectors_of a.vectors.now) a.slot no_vector) a.«data».now a.scratch.now (sym c.may_change.ensures ∙ c.if-not-may_change.false) _ _ (c.fill-outcome.ensures ∙ filled_share_lem a.slot a.settings a.buffers a.y (get_or (vectors_of a.vectors.now) a.slot no_vector) a.«data».now a.scratch.now c.requires.4) c.in-Done.is _ _ c.change_blocker.ensures c.put_state_at.ensures); words = (done_words _ _ _ refl, done_words _ _ _ refl) }
+returns c = record { dock = (let a = c.args in enters_done a.blockers.now a.states.now a.place.slot (a.place.slot * a.place.settings.bounce) a.x a.y (vector_from a.vector.now) a.«data».now a.scratch.now (sym c.may_change.ensures ∙ c.if-not-may_change.false) _ _ (c.fill-outcome.ensures ∙ filled_share_lem a.place.slot a.place.settings a.place.buffers a.y (vector_from a.vector.now) a.«data».now a.scratch.now c.requires.1) c.in-Done.is _ _ c.change_blocker.ensures (state_put a.states.now a.place.slot a.y _ c.put_state.ensures (search rules))); words = (done_words _ _ _ refl, done_words _ _ _ refl) }

@@ -6,6 +6,3 @@ use Rattle.dock_words.proofs.told_words.fill.Goals as goal
 pub returns-then-not-is_bounced_write : goal.returns-then-not-is_bounced_write
 unfolding filled_share
 returns-then-not-is_bounced_write c = simp (sym c.is_bounced_write.ensures ∙ c.if-not-is_bounced_write.true)
-
-pub returns : goal.returns
-returns c = c.fill_share.ensures ∙ rw c.vector_at-v.ensures

@@ -6,6 +6,3 @@ use Rattle.dock_words.proofs.told_words.hand_out.Goals as goal
 pub returns-then-not-is_bounced_read : goal.returns-then-not-is_bounced_read
 unfolding handed_share
 returns-then-not-is_bounced_read c = simp (sym c.is_bounced_read.ensures ∙ c.if-not-is_bounced_read.true)
-
-pub returns : goal.returns
-returns c = c.hand_out_share.ensures ∙ rw c.vector_at-v.ensures

@@ -1,16 +1,16 @@
 -- `dock_words::told_words::stays` meets its contract: filled, then stored where that was done. Assumes nothing.
 use mathlib.Core.Path.{refl, ◌∙◌}
 use Prim.Native.Nat.{◌*◌}
-use lib.ListN.{get_or}
-use Rattle.dock.specs.Dock.{no_vector}
-use Rattle.dock_words.specs.View.{vectors_of}
 use Rattle.dock.specs.SlotLaws.{filled_share_lem}
+use Rattle.vectors.specs.Words.{vector_from}
+use Rattle.std.proofs.Common.{rules}
+use Rattle.dock_words.specs.Laws.{state_put}
 use Rattle.dock_words.proofs.Told.{stays_refused, stays_done}
 use Rattle.dock_words.specs.CallWordsLaws.{same_words, done_words}
 use Rattle.dock_words.proofs.told_words.stays.Goals as goal
 
 pub returns-in_default : goal.returns-in_default
-returns-in_default c = record { dock = (let a = c.args in stays_refused a.blockers.now a.states.now a.slot (a.slot * a.settings.bounce) a.y (get_or (vectors_of a.vectors.now) a.slot no_vector) a.«data».now a.scratch.now _ _ (c.fill-outcome.ensures ∙ filled_share_lem a.slot a.settings a.buffers a.y (get_or (vectors_of a.vectors.now) a.slot no_vector) a.«data».now a.scratch.now c.requires.3) _ c.in_default.is); words = same_words _ _ }
+returns-in_default c = record { dock = (let a = c.args in stays_refused a.blockers.now a.states.now a.place.slot (a.place.slot * a.place.settings.bounce) a.y (vector_from a.vector.now) a.«data».now a.scratch.now _ _ (c.fill-outcome.ensures ∙ filled_share_lem a.place.slot a.place.settings a.place.buffers a.y (vector_from a.vector.now) a.«data».now a.scratch.now c.requires.1) _ c.in_default.is); words = same_words _ _ }
 
 pub returns : goal.returns
-returns c = record { dock = (let a = c.args in stays_done a.blockers.now a.states.now a.slot (a.slot * a.settings.bounce) a.y (get_or (vectors_of a.vectors.now) a.slot no_vector) a.«data».now a.scratch.now _ _ (c.fill-outcome.ensures ∙ filled_share_lem a.slot a.settings a.buffers a.y (get_or (vectors_of a.vectors.now) a.slot no_vector) a.«data».now a.scratch.now c.requires.3) c.in-Done.is _ c.put_state_at.ensures); words = done_words _ _ _ refl }
+returns c = record { dock = (let a = c.args in stays_done a.blockers.now a.states.now a.place.slot (a.place.slot * a.place.settings.bounce) a.y (vector_from a.vector.now) a.«data».now a.scratch.now _ _ (c.fill-outcome.ensures ∙ filled_share_lem a.place.slot a.place.settings a.place.buffers a.y (vector_from a.vector.now) a.«data».now a.scratch.now c.requires.1) c.in-Done.is _ (state_put a.states.now a.place.slot a.y _ c.put_state.ensures (search rules))); words = done_words _ _ _ refl }

@@ -1,24 +1,23 @@
 -- `dock_words::told_words::tell_slot` meets its contract: 208, 209, then the step that the code leads to, whose job is sound there. Assumes nothing.
 use mathlib.Core.Path.{sym, ◌∙◌}
-use lib.ListN.{length, get_or}
-use Rattle.dock.specs.Dock.{no_vector}
+use lib.ListN.{length}
 use Rattle.dock.specs.SlotLaws.{leads_sound}
-use Rattle.dock_words.specs.View.{vectors_of}
+use Rattle.vectors.specs.Words.{vector_from}
 use Rattle.dock_words.proofs.Told.{told_not_out, told_not_sound, told_no_answer, told_leads}
 use Rattle.dock_words.specs.CallWordsLaws.{same_words}
 use Rattle.dock_words.proofs.told_words.tell_slot.Goals as goal
 
 pub returns-then-not-is_out : goal.returns-then-not-is_out
-returns-then-not-is_out c = record { dock = (let a = c.args in told_not_out a.b.now a.xs.now a.slot a.s a.l a.x (get_or (vectors_of a.vs.now) a.slot no_vector) a.code a.«data».now a.scratch.now (sym c.is_out.ensures ∙ c.if-not-is_out.true)); words = (same_words _ _, same_words _ _) }
+returns-then-not-is_out c = record { dock = (let a = c.args in told_not_out a.blockers.now a.states.now a.place.slot a.place.settings a.place.buffers a.x (vector_from a.vector.now) a.code a.«data».now a.scratch.now (sym c.is_out.ensures ∙ c.if-not-is_out.true)); words = (same_words _ _, same_words _ _) }
 
 pub returns-then-not-is_sound_in : goal.returns-then-not-is_sound_in
-returns-then-not-is_sound_in c = record { dock = (let a = c.args in told_not_sound a.b.now a.xs.now a.slot a.s a.l a.x (get_or (vectors_of a.vs.now) a.slot no_vector) a.code a.«data».now a.scratch.now (sym c.is_out.ensures ∙ c.if-not-is_out.false) (sym c.is_sound_in.ensures ∙ c.if-not-is_sound_in.true)); words = (same_words _ _, same_words _ _) }
+returns-then-not-is_sound_in c = record { dock = (let a = c.args in told_not_sound a.blockers.now a.states.now a.place.slot a.place.settings a.place.buffers a.x (vector_from a.vector.now) a.code a.«data».now a.scratch.now (sym c.is_out.ensures ∙ c.if-not-is_out.false) (sym c.is_sound_in.ensures ∙ c.if-not-is_sound_in.true)); words = (same_words _ _, same_words _ _) }
 
 pub take_step-requires : goal.take_step-requires
-take_step-requires c = let a = c.args in (c.requires.0, c.requires.1, c.requires.2, c.requires.3, leads_sound a.slot a.s a.l a.x a.code (length a.«data».now) (length a.scratch.now) c.requires.3 c.requires.4 (sym c.is_sound_in.ensures ∙ c.if-not-is_sound_in.false) _ (sym c.interpret_code-answer.ensures ∙ c.in-Leads.is))
+take_step-requires c = let a = c.args in (c.requires.0, leads_sound a.place.slot a.place.settings a.place.buffers a.x a.code (length a.«data».now) (length a.scratch.now) c.requires.0 c.requires.1 (sym c.is_sound_in.ensures ∙ c.if-not-is_sound_in.false) _ (sym c.interpret_code.ensures ∙ c.in-Leads.is))
 
 pub returns-in-Refused : goal.returns-in-Refused
-returns-in-Refused c = record { dock = (let a = c.args in told_no_answer a.b.now a.xs.now a.slot a.s a.l a.x (get_or (vectors_of a.vs.now) a.slot no_vector) a.code a.«data».now a.scratch.now (sym c.is_out.ensures ∙ c.if-not-is_out.false) (sym c.is_sound_in.ensures ∙ c.if-not-is_sound_in.false) _ c.interpret_code-answer.ensures _ c.in-Refused.is); words = (same_words _ _, same_words _ _) }
+returns-in-Refused c = record { dock = (let a = c.args in told_no_answer a.blockers.now a.states.now a.place.slot a.place.settings a.place.buffers a.x (vector_from a.vector.now) a.code a.«data».now a.scratch.now (sym c.is_out.ensures ∙ c.if-not-is_out.false) (sym c.is_sound_in.ensures ∙ c.if-not-is_sound_in.false) _ c.interpret_code.ensures _ c.in-Refused.is); words = (same_words _ _, same_words _ _) }
 
 pub returns-in-Leads : goal.returns-in-Leads
-returns-in-Leads c = record { dock = (let a = c.args in told_leads a.b.now a.xs.now a.slot a.s a.l a.x (get_or (vectors_of a.vs.now) a.slot no_vector) a.code a.«data».now a.scratch.now (sym c.is_out.ensures ∙ c.if-not-is_out.false) (sym c.is_sound_in.ensures ∙ c.if-not-is_sound_in.false) _ c.interpret_code-answer.ensures _ c.in-Leads.is _ c.take_step.ensures.dock); words = c.take_step.ensures.words }
+returns-in-Leads c = record { dock = (let a = c.args in told_leads a.blockers.now a.states.now a.place.slot a.place.settings a.place.buffers a.x (vector_from a.vector.now) a.code a.«data».now a.scratch.now (sym c.is_out.ensures ∙ c.if-not-is_out.false) (sym c.is_sound_in.ensures ∙ c.if-not-is_sound_in.false) _ c.interpret_code.ensures _ c.in-Leads.is _ c.take_step.ensures.dock); words = c.take_step.ensures.words }
