@@ -6,7 +6,8 @@ use Rattle.arithmetic.specs.SettingsLaws.{and_right}
 use Rattle.arithmetic.specs.declared.refusals.Refusal.{Refusal}
 use Rattle.vectors.specs.declared.vector.Segment.{Segment}
 use Rattle.vectors.specs.declared.vector.IoVector.{IoVector}
-use Rattle.vectors.specs.Vectors.{segments_of, lies_in, segments_fit, vector_of, is_valid, glued, refused_vector, changed_to, push_of, inserted_at}
+use Rattle.vectors.specs.Vectors.{segments_of, lies_in, segments_fit, vector_of, is_valid, glued, refused_vector}
+use Rattle.vectors.specs.Vectors.{changed_to, push_of, inserted_at}
 use Rattle.vectors.specs.Vectors.{insert_of, append_of, head_of, tail_of, halves_of, split_of, split_tail_of}
 use Rattle.vectors.specs.SegmentLaws.{fit_true, valid, segments_of_lem, vector_valid}
 use Rattle.vectors.specs.SplitLaws.{head_fits, tail_fits}
