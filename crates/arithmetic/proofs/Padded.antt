@@ -1,4 +1,5 @@
 -- What each step of `padding::pad_to` shows of the definition: a sum that does not fit is its 207, and sums that fit are its numbers. Assumes nothing.
+use Rattle.std.specs.Prelude.{Ok, Err, Some, None}
 use mathlib.Core.Path.{◌≡◌, ap, ◌∙◌}
 use mathlib.Core.Bool.{true, false}
 use Prim.Native.Nat.{ℕ, ◌+◌, ◌-◌}
@@ -8,19 +9,17 @@ use Rattle.arithmetic.specs.Offsets.{store_at, buffer_at}
 use Rattle.arithmetic.specs.Padding.{padded_start, rounded_end, padded_length, padded_end, padding_fits, span_of, padded_of}
 use Rattle.arithmetic.specs.declared.refusals.Refusal.TheVariants.{Overflow}
 use Rattle.arithmetic.specs.declared.offsets.BufferOffset.{BufferOffset}
-use Rattle.arithmetic.specs.declared.offsets.Sum.TheVariants.{Fits, Over}
-use Rattle.arithmetic.specs.declared.padding.Padding.TheVariants.{Padded, Refused}
 
 module _ (r l o n : ℕ) where
-  pub over_end : sum_of o n ≡ Over → Refused Overflow ≡ padded_of r l o n
+  pub over_end : sum_of o n ≡ None → Err Overflow ≡ padded_of r l o n
   unfolding padded_of padding_fits
   over_end e = simp (sum_over o n e)
 
-module _ (r l o n end : ℕ) (e : sum_of o n ≡ Fits end) where
+module _ (r l o n end : ℕ) (e : sum_of o n ≡ Some end) where
   pub end_is : end ≡ o + n
   end_is = (sum_fits o n end e).is
 
-  pub over_rounded : up_of end r ≡ Over → Refused Overflow ≡ padded_of r l o n
+  pub over_rounded : up_of end r ≡ None → Err Overflow ≡ padded_of r l o n
   unfolding padded_of padding_fits
   over_rounded f =
       let g : fits (o + n + (r - 1)) ≡ false = rw end_is at (up_over end r f) in
@@ -33,7 +32,7 @@ record Rounded (r o n rounded start : ℕ) : Type 0 where
   rounded_is : rounded ≡ rounded_end r o n
   start_is : start ≡ padded_start r o
 
-rounded : (r l o n end rnd start : ℕ) → sum_of o n ≡ Fits end → up_of end r ≡ Fits rnd → start ≡ round_down o r → Rounded r o n rnd start
+rounded : (r l o n end rnd start : ℕ) → sum_of o n ≡ Some end → up_of end r ≡ Some rnd → start ≡ round_down o r → Rounded r o n rnd start
 unfolding rounded_end padded_start
 rounded r l o n end rnd start e f d =
     let u = up_fits end r rnd f in
@@ -45,21 +44,21 @@ rounded r l o n end rnd start e f d =
       start_is = d;
     }
 
-module _ (r l o n end rnd start : ℕ) (e : sum_of o n ≡ Fits end) (f : up_of end r ≡ Fits rnd) (d : start ≡ round_down o r) where
+module _ (r l o n end rnd start : ℕ) (e : sum_of o n ≡ Some end) (f : up_of end r ≡ Some rnd) (d : start ≡ round_down o r) where
   k : Rounded r o n rnd start
   k = rounded r l o n end rnd start e f d
 
   pub rounded_is : rnd ≡ rounded_end r o n
   rounded_is = k.rounded_is
 
-  pub over_length : up_of (rnd - start) l ≡ Over → Refused Overflow ≡ padded_of r l o n
+  pub over_length : up_of (rnd - start) l ≡ None → Err Overflow ≡ padded_of r l o n
   unfolding padded_of padding_fits
   over_length g =
       let h : fits (rounded_end r o n - padded_start r o + (l - 1)) ≡ false = rw (k.rounded_is, k.start_is) at (up_over (rnd - start) l g) in
       simp (k.end_ok, k.rounded_ok, h)
 
-module _ (r l o n end rnd start len : ℕ) (e : sum_of o n ≡ Fits end) (f : up_of end r ≡ Fits rnd) (d : start ≡ round_down o r)
-    (g : up_of (rnd - start) l ≡ Fits len) where
+module _ (r l o n end rnd start len : ℕ) (e : sum_of o n ≡ Some end) (f : up_of end r ≡ Some rnd) (d : start ≡ round_down o r)
+    (g : up_of (rnd - start) l ≡ Some len) where
   m : Rounded r o n rnd start
   m = rounded r l o n end rnd start e f d
 
@@ -70,17 +69,17 @@ module _ (r l o n end rnd start len : ℕ) (e : sum_of o n ≡ Fits end) (f : up
   unfolding padded_length
   length_is = rw (m.rounded_is, m.start_is) at (up_fits (rnd - start) l len g).is
 
-  pub over_padded : sum_of start len ≡ Over → Refused Overflow ≡ padded_of r l o n
+  pub over_padded : sum_of start len ≡ None → Err Overflow ≡ padded_of r l o n
   unfolding padded_of padding_fits
   over_padded h =
       let x : fits (padded_end r l o n) ≡ false = rw (m.start_is, length_is) at (sum_over start len h) in
       simp (m.end_ok, m.rounded_ok, length_ok, x)
 
-  pub padded_end_is : (pend : ℕ) → sum_of start len ≡ Fits pend → pend ≡ padded_end r l o n
+  pub padded_end_is : (pend : ℕ) → sum_of start len ≡ Some pend → pend ≡ padded_end r l o n
   padded_end_is pend h = rw (m.start_is, length_is) at (sum_fits start len pend h).is
 
-  pub padded_all : (pend pre suf : ℕ) (head : BufferOffset) → sum_of start len ≡ Fits pend → head ≡ buffer_at (o - start) → pre ≡ round_up (o - start) l → suf ≡ round_up (pend - end) l
-      → Padded (record { start = store_at start; end = store_at pend; head = head; length = len; prefix = pre; suffix = suf }) ≡ padded_of r l o n
+  pub padded_all : (pend pre suf : ℕ) (head : BufferOffset) → sum_of start len ≡ Some pend → head ≡ buffer_at (o - start) → pre ≡ round_up (o - start) l → suf ≡ round_up (pend - end) l
+      → Ok (record { start = store_at start; end = store_at pend; head = head; length = len; prefix = pre; suffix = suf }) ≡ padded_of r l o n
   unfolding padded_of padding_fits span_of
   padded_all pend pre suf head h b p q =
       let x : fits (padded_end r l o n) ≡ true = rw (m.start_is, length_is) at (sum_fits start len pend h).ok in

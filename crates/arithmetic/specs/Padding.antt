@@ -1,5 +1,5 @@
 -- Document 01, "Direct or padded" and "Requests of a padded write".
-use Rattle.std.specs.Prelude.{Bool, false, ◌&&◌, ◌||◌, ℕ, ◌+◌, ◌-◌, eqb, ltb, leb}
+use Rattle.std.specs.Prelude.{Bool, false, ◌&&◌, ◌||◌, ℕ, ◌+◌, ◌-◌, eqb, ltb, leb, Result, Ok, Err}
 use Rattle.arithmetic.specs.Rounding.{pick, fits, is_multiple, round_down, round_up}
 use Rattle.arithmetic.specs.Offsets.{store_at, buffer_at, range_of}
 use Rattle.arithmetic.specs.Settings.{alignments_fit, length_align}
@@ -8,10 +8,8 @@ use Rattle.arithmetic.specs.declared.refusals.Refusal.TheVariants.{Unfit, Overfl
 use Rattle.arithmetic.specs.declared.offsets.StoreOffset.{StoreOffset}
 use Rattle.arithmetic.specs.declared.settings.Alignments.{Alignments}
 use Rattle.arithmetic.specs.declared.padding.Span.{Span}
-use Rattle.arithmetic.specs.declared.padding.Padding.{Padding}
-use Rattle.arithmetic.specs.declared.padding.Padding.TheVariants.{Padded, Refused}
 use Rattle.arithmetic.specs.declared.padding.Transfer.{Transfer}
-use Rattle.arithmetic.specs.declared.padding.Transfer.TheVariants.{Direct, Bounced, Refused as NoTransfer}
+use Rattle.arithmetic.specs.declared.padding.Transfer.TheVariants.{Direct, Bounced}
 use Rattle.arithmetic.specs.declared.padding.Reads.{Reads}
 use Rattle.arithmetic.specs.declared.padding.Reads.TheVariants.{Nothing, Whole, Head, Tail, HeadThenTail}
 
@@ -58,36 +56,30 @@ span_of r l o n = record {
   suffix = round_up (tail_of r l o n) l;
 }
 
-unfoldable pub padded_of : ℕ → ℕ → ℕ → ℕ → Padding
-padded_of r l o n = pick (padding_fits r l o n) (Padded (span_of r l o n)) (Refused Overflow)
+unfoldable pub padded_of : ℕ → ℕ → ℕ → ℕ → Result Span Refusal
+padded_of r l o n = pick (padding_fits r l o n) (Ok (span_of r l o n)) (Err Overflow)
 
 -- 201, then 207
-unfoldable pub padding_of : Alignments → StoreOffset → ℕ → Padding
-padding_of a o n = pick (alignments_fit a) (padded_of a.req (length_align a) o.0 n) (Refused Unfit)
+unfoldable pub padding_of : Alignments → StoreOffset → ℕ → Result Span Refusal
+padding_of a o n = pick (alignments_fit a) (padded_of a.req (length_align a) o.0 n) (Err Unfit)
 
 -- "Direct if offset and total are multiples of R and the vector is aligned."
 unfoldable pub is_direct : ℕ → ℕ → ℕ → Bool → Bool
 is_direct r o n vectorAligned = vectorAligned && is_multiple o r && is_multiple n r
 
-abbrev pub bounced : Padding → Transfer
-bounced (Padded s) = Bounced s
-bounced (Refused r) = NoTransfer r
+abbrev pub bounced : Result Span Refusal → Result Transfer Refusal
+bounced (Ok s) = Ok (Bounced s)
+bounced (Err r) = Err r
 
 -- direct or padded: 201, then 207 for offset + length, then the padding's
-unfoldable pub transfer_of : Alignments → StoreOffset → ℕ → Bool → Transfer
+unfoldable pub transfer_of : Alignments → StoreOffset → ℕ → Bool → Result Transfer Refusal
 transfer_of a o n vectorAligned =
     pick (alignments_fit a)
     (pick (fits (o.0 + n))
-    (pick (is_direct a.req o.0 n vectorAligned) (Direct (range_of o.0 (o.0 + n)))
+    (pick (is_direct a.req o.0 n vectorAligned) (Ok (Direct (range_of o.0 (o.0 + n))))
     (bounced (padded_of a.req (length_align a) o.0 n)))
-    (NoTransfer Overflow))
-    (NoTransfer Unfit)
-
--- why it is refused; of one that is not, 207
-abbrev pub transfer_refusal : Transfer → Refusal
-transfer_refusal (Direct r) = Overflow
-transfer_refusal (Bounced s) = Overflow
-transfer_refusal (NoTransfer r) = r
+    (Err Overflow))
+    (Err Unfit)
 
 -- why a transfer is refused
 abbrev pub padding_refusal : Alignments → Refusal

@@ -1,6 +1,6 @@
 -- Laws of padding: the padded range holds the asked one, its length is the least multiple of L that holds h + length, H and T are 0 or L,
 -- and the reads cover what is not asked; a transfer is refused for its alignments or for a sum. Assumes nothing.
-use Rattle.std.specs.Prelude.{◌≡◌, refl, Bool, true, false, ◌&&◌, ◌||◌, ◌⊎◌, ℕ, ◌+◌, ◌-◌, ◌%◌, ◌^◌, ◌<◌, ◌≤◌, eqb}
+use Rattle.std.specs.Prelude.{◌≡◌, refl, Bool, true, false, ◌&&◌, ◌||◌, ◌⊎◌, ℕ, ◌+◌, ◌-◌, ◌%◌, ◌^◌, ◌<◌, ◌≤◌, eqb, Result, Ok, Err}
 use Rattle.std.proofs.Math.Path.{ap}
 use Rattle.std.proofs.Common.{◌∙◌, inl, inr, ⊎_elim, mod-eq_of_lt, le-leb, lt-ltb, eq-eqb, ne_eqb, eqb-true, arith}
 use Rattle.std.proofs.Math.Bool.{or-true}
@@ -21,10 +21,8 @@ use Rattle.arithmetic.specs.declared.offsets.StoreOffset.{StoreOffset}
 use Rattle.arithmetic.specs.declared.settings.Alignments.{Alignments}
 use Rattle.arithmetic.specs.declared.padding.Span.{Span}
 use Rattle.arithmetic.specs.declared.offsets.Range.{Range}
-use Rattle.arithmetic.specs.declared.padding.Padding.{Padding}
-use Rattle.arithmetic.specs.declared.padding.Padding.TheVariants.{Padded, Refused}
 use Rattle.arithmetic.specs.declared.padding.Transfer.{Transfer}
-use Rattle.arithmetic.specs.declared.padding.Transfer.TheVariants.{Direct, Bounced, Refused as NoTransfer}
+use Rattle.arithmetic.specs.declared.padding.Transfer.TheVariants.{Direct, Bounced}
 
 -- x rounded up to r and then to l, a multiple of r, is x rounded up to l
 pub up_twice : (x r l : ℕ) → 0 < r → 0 < l → l % r ≡ 0 → round_up (round_up x r) l ≡ round_up x l
@@ -216,22 +214,22 @@ spans_of a o n k e =
           (omega (arith, end_ge r l o n p q m, start_le r l o n p q m));
     }
 
-padded_spans : (a : Alignments) (o n : ℕ) (s : Span) → Aligned a → padded_of a.req (length_align a) o n ≡ Padded s → Spans a o n s
+padded_spans : (a : Alignments) (o n : ℕ) (s : Span) → Aligned a → padded_of a.req (length_align a) o n ≡ Ok s → Spans a o n s
 unfolding padded_of
 padded_spans a o n s k e = go (padding_fits a.req (length_align a) o n) refl e
   where
     go : (y : Bool) → padding_fits a.req (length_align a) o n ≡ y →
-        pick y (Padded (span_of a.req (length_align a) o n)) (Refused Overflow) ≡ Padded s → Spans a o n s
+        pick y (Ok (span_of a.req (length_align a) o n)) (Err Overflow) ≡ Ok s → Spans a o n s
     go true q e =
         let i : span_of a.req (length_align a) o n ≡ s = cc in
         rw i at (spans_of a o n k q)
     go false q e = let z : ◌≡◌ {A = ℕ} 0 1 = cc in absurd (omega arith)
 
-pub spans : (a : Alignments) (o : StoreOffset) (n : ℕ) (s : Span) → padding_of a o n ≡ Padded s → Spans a o.0 n s
+pub spans : (a : Alignments) (o : StoreOffset) (n : ℕ) (s : Span) → padding_of a o n ≡ Ok s → Spans a o.0 n s
 unfolding padding_of
 spans a o n s e = go (alignments_fit a) refl e
   where
-    go : (x : Bool) → alignments_fit a ≡ x → pick x (padded_of a.req (length_align a) o.0 n) (Refused Unfit) ≡ Padded s →
+    go : (x : Bool) → alignments_fit a ≡ x → pick x (padded_of a.req (length_align a) o.0 n) (Err Unfit) ≡ Ok s →
         Spans a o.0 n s
     go true p e = padded_spans a o.0 n s (aligned a p) e
     go false p e = let z : ◌≡◌ {A = ℕ} 0 1 = cc in absurd (omega arith)
@@ -246,24 +244,24 @@ pub record Directs (a : Alignments) (o n : ℕ) (x : Range) : Type 0 where
   pub whole : n % a.req ≡ 0
 
 -- what a transfer that is not refused says
-unfoldable pub Transfers : Alignments → ℕ → ℕ → Transfer → Type 0
-Transfers a o n (Direct x) = Directs a o n x
-Transfers a o n (Bounced s) = Spans a o n s
-Transfers a o n (NoTransfer r) = Unit {0}
+unfoldable pub Transfers : Alignments → ℕ → ℕ → Result Transfer Refusal → Type 0
+Transfers a o n (Ok (Direct x)) = Directs a o n x
+Transfers a o n (Ok (Bounced s)) = Spans a o n s
+Transfers a o n (Err r) = Unit {0}
 
-transfers_by : (a : Alignments) (o n : ℕ) → Aligned a → (p : Padding) → padded_of a.req (length_align a) o n ≡ p →
+transfers_by : (a : Alignments) (o n : ℕ) → Aligned a → (p : Result Span Refusal) → padded_of a.req (length_align a) o n ≡ p →
     Transfers a o n (bounced p)
 unfolding Transfers
-transfers_by a o n k (Padded s) e = padded_spans a o n s k e
-transfers_by a o n k (Refused r) e = tt
+transfers_by a o n k (Ok s) e = padded_spans a o n s k e
+transfers_by a o n k (Err r) e = tt
 
 pub transfers : (a : Alignments) (o : StoreOffset) (n : ℕ) (t : Bool) → Transfers a o.0 n (transfer_of a o n t)
 unfolding transfer_of is_direct Transfers is_multiple
 transfers a o n t = go (alignments_fit a) (fits (o.0 + n)) (t && eqb (o.0 % a.req) 0 && eqb (n % a.req) 0) refl refl refl
   where
     go : (x y z : Bool) → alignments_fit a ≡ x → fits (o.0 + n) ≡ y → (t && eqb (o.0 % a.req) 0 && eqb (n % a.req) 0) ≡ z
-        → Transfers a o.0 n (pick x (pick y (pick z (Direct (range_of o.0 (o.0 + n)))
-        (bounced (padded_of a.req (length_align a) o.0 n))) (NoTransfer Overflow)) (NoTransfer Unfit))
+        → Transfers a o.0 n (pick x (pick y (pick z (Ok (Direct (range_of o.0 (o.0 + n))))
+        (bounced (padded_of a.req (length_align a) o.0 n))) (Err Overflow)) (Err Unfit))
     go true true true p q d = record {
       is = refl;
       fits = true_fits (o.0 + n) q;
@@ -274,23 +272,23 @@ transfers a o n t = go (alignments_fit a) (fits (o.0 + n)) (t && eqb (o.0 % a.re
     go true false z p q d = tt
     go false y z p q d = tt
 
-refused_by : (r l o n : ℕ) (x : Refusal) → bounced (padded_of r l o n) ≡ NoTransfer x → x ≡ Overflow
+refused_by : (r l o n : ℕ) (x : Refusal) → bounced (padded_of r l o n) ≡ Err x → x ≡ Overflow
 unfolding padded_of
 refused_by r l o n x e = go (padding_fits r l o n) e
   where
-    go : (y : Bool) → bounced (pick y (Padded (span_of r l o n)) (Refused Overflow)) ≡ NoTransfer x → x ≡ Overflow
+    go : (y : Bool) → bounced (pick y (Ok (span_of r l o n)) (Err Overflow)) ≡ Err x → x ≡ Overflow
     go true e = let z : ◌≡◌ {A = ℕ} 0 1 = cc in absurd (omega arith)
     go false e = cc
 
 -- refused: 201 for its alignments, else 207 for a sum
-pub transfer_refused : (a : Alignments) (o : StoreOffset) (n : ℕ) (t : Bool) (x : Refusal) → transfer_of a o n t ≡ NoTransfer x
+pub transfer_refused : (a : Alignments) (o : StoreOffset) (n : ℕ) (t : Bool) (x : Refusal) → transfer_of a o n t ≡ Err x
     → x ≡ padding_refusal a
 unfolding transfer_of
 transfer_refused a o n t x e = go (alignments_fit a) (fits (o.0 + n)) (is_direct a.req o.0 n t) e
   where
     go : (u v w : Bool)
-        → pick u (pick v (pick w (Direct (range_of o.0 (o.0 + n))) (bounced (padded_of a.req (length_align a) o.0 n)))
-        (NoTransfer Overflow)) (NoTransfer Unfit) ≡ NoTransfer x
+        → pick u (pick v (pick w (Ok (Direct (range_of o.0 (o.0 + n)))) (bounced (padded_of a.req (length_align a) o.0 n)))
+        (Err Overflow)) (Err Unfit) ≡ Err x
         → x ≡ pick u Overflow Unfit
     go true true true e = let z : ◌≡◌ {A = ℕ} 0 1 = cc in absurd (omega arith)
     go true true false e = refused_by a.req (length_align a) o.0 n x e

@@ -1,6 +1,6 @@
 -- Laws of the planner: chunks are adjacent, at most the share, each of the share but the last, and together the range; past the count they
 -- are empty, at the end. Assumes nothing.
-use Rattle.std.specs.Prelude.{◌≡◌, Bool, true, false, ◌&&◌, ℕ, suc, ◌+◌, ◌-◌, ◌*◌, ◌/◌, ◌%◌, ◌<◌, ◌≤◌, min}
+use Rattle.std.specs.Prelude.{◌≡◌, Bool, true, false, ◌&&◌, ℕ, suc, ◌+◌, ◌-◌, ◌*◌, ◌/◌, ◌%◌, ◌<◌, ◌≤◌, min, Ok, Err}
 use Rattle.std.proofs.Math.Path.{refl, sym}
 use Rattle.std.proofs.Math.Nat.{div-eq_of_lt-le, div-add-mod', mod-lt}
 use Rattle.std.proofs.Common.{mul-le-mul_right, le-div_iff_mul-le, div-lt_iff_lt-mul}
@@ -9,7 +9,6 @@ use Rattle.arithmetic.specs.Rounding.{pick, fits, is_multiple}
 use Rattle.arithmetic.specs.Settings.{settings_fit}
 use Rattle.arithmetic.specs.Planner.{plan_outcome, chunk_count, planned_chunk}
 use Rattle.arithmetic.specs.declared.refusals.Refusal.TheVariants.{Unfit, Overflow, Unaligned}
-use Rattle.arithmetic.specs.declared.refusals.Outcome.TheVariants.{Done, Refused}
 use Rattle.arithmetic.specs.declared.offsets.StoreOffset.{StoreOffset}
 use Rattle.arithmetic.specs.declared.settings.Settings.{Settings}
 
@@ -19,13 +18,13 @@ pub record Plannable (s : Settings) (o : StoreOffset) (n : ℕ) : Type 0 where
   pub multiples : (is_multiple o.0 s.align.req && is_multiple n s.align.req) ≡ true
   pub end : fits (o.0 + n) ≡ true
 
-pub plan_done : (s : Settings) (o : StoreOffset) (n : ℕ) → plan_outcome s o n ≡ Done → Plannable s o n
+pub plan_done : (s : Settings) (o : StoreOffset) (n : ℕ) → plan_outcome s o n ≡ (Ok tt) → Plannable s o n
 unfolding plan_outcome
 plan_done s o n e = go (settings_fit s) (is_multiple o.0 s.align.req && is_multiple n s.align.req)
     (fits (o.0 + n)) refl refl refl e
   where
     go : (a b c : Bool) → settings_fit s ≡ a → (is_multiple o.0 s.align.req && is_multiple n s.align.req) ≡ b → fits (o.0 + n) ≡ c
-        → pick a (pick b (pick c Done (Refused Overflow)) (Refused Unaligned)) (Refused Unfit) ≡ Done → Plannable s o n
+        → pick a (pick b (pick c (Ok (tt {0})) (Err Overflow)) (Err Unaligned)) (Err Unfit) ≡ Ok (tt {0}) → Plannable s o n
     go true true true p q r e = record { settings = p; multiples = q; end = r }
     go true true false p q r e = let z : ◌≡◌ {A = ℕ} 0 1 = cc in absurd (omega arith)
     go true false c p q r e = let z : ◌≡◌ {A = ℕ} 0 1 = cc in absurd (omega arith)

@@ -1,13 +1,11 @@
 -- Document 01, "What a call gives back", and document 02: the number that each refusal returns.
-use Rattle.std.specs.Prelude.{◌≡◌, refl, Bool, true, false, ℕ, ◌<◌}
+use Rattle.std.specs.Prelude.{◌≡◌, refl, Bool, true, false, ℕ, ◌<◌, Result, Ok, Err}
 use Rattle.std.proofs.Common.{arith}
 use Rattle.arithmetic.specs.declared.refusals.Refusal.{Refusal}
 use Rattle.arithmetic.specs.declared.refusals.Refusal.TheVariants.{Unfit, Segment, Overlap, Full, Buffer, TooLong, Overflow, Slot}
 use Rattle.arithmetic.specs.declared.refusals.Refusal.TheVariants.{NoAnswer, Unaligned, Table, Row, Saved, Undo, Reservation, Map}
 use Rattle.arithmetic.specs.declared.refusals.Refusal.TheVariants.{Window}
 use Rattle.arithmetic.specs.declared.refusals.Refusal.TheVariants.{Script, Output, Sheet}
-use Rattle.arithmetic.specs.declared.refusals.Outcome.{Outcome}
-use Rattle.arithmetic.specs.declared.refusals.Outcome.TheVariants.{Done, Refused}
 
 unfoldable pub number_of : Refusal → ℕ
 number_of Unfit = 201
@@ -56,18 +54,18 @@ refusal_some Output = omega arith
 refusal_some Sheet = omega arith
 
 -- 0 for a call that was carried out
-abbrev pub outcome_number : Outcome → ℕ
-outcome_number Done = 0
-outcome_number (Refused r) = number_of r
+abbrev pub outcome_number : Result (Unit {0}) Refusal → ℕ
+outcome_number (Ok tt) = 0
+outcome_number (Err r) = number_of r
 
 -- go on where a step was carried out; a refusal gives what it gives
-abbrev pub when_done : {A : Type 0} → Outcome → A → (Refusal → A) → A
-when_done Done k z = k
-when_done (Refused r) k z = z r
+abbrev pub when_done : {A : Type 0} → Result (Unit {0}) Refusal → A → (Refusal → A) → A
+when_done (Ok tt) k z = k
+when_done (Err r) k z = z r
 
-abbrev pub is_done : Outcome → Bool
+abbrev pub is_done : Result (Unit {0}) Refusal → Bool
 is_done o = when_done o true (λ r. false)
 
-pub is_done_lem : (o : Outcome) → is_done o ≡ true → o ≡ Done
-is_done_lem Done e = refl
-is_done_lem (Refused r) e = let z : ◌≡◌ {A = ℕ} 0 1 = cc in absurd (omega arith)
+pub is_done_lem : (o : Result (Unit {0}) Refusal) → is_done o ≡ true → o ≡ Ok tt
+is_done_lem (Ok tt) e = refl
+is_done_lem (Err r) e = let z : ◌≡◌ {A = ℕ} 0 1 = cc in absurd (omega arith)

@@ -1,7 +1,5 @@
 -- Sums that fit 64 bits, and rounding to a multiple.
-use Rattle.std.specs.Prelude.{Bool, true, false, ℕ, ◌+◌, ◌-◌, ◌%◌, ◌^◌, ltb, eqb}
-use Rattle.arithmetic.specs.declared.offsets.Sum.{Sum}
-use Rattle.arithmetic.specs.declared.offsets.Sum.TheVariants.{Fits, Over}
+use Rattle.std.specs.Prelude.{Bool, true, false, ℕ, ◌+◌, ◌-◌, ◌%◌, ◌^◌, ltb, eqb, Option, Some, None}
 
 -- the first where the test holds, otherwise the second
 abbrev pub pick : {A : Type 0} → Bool → A → A → A
@@ -25,9 +23,9 @@ unfoldable pub round_up : ℕ → ℕ → ℕ
 round_up x r = round_down (x + (r - 1)) r
 
 -- a + b, where that fits
-unfoldable pub sum_of : ℕ → ℕ → Sum
-sum_of a b = pick (fits (a + b)) (Fits (a + b)) Over
+unfoldable pub sum_of : ℕ → ℕ → Option ℕ
+sum_of a b = pick (fits (a + b)) (Some (a + b)) None
 
 -- x rounded up to r, where the sum x + (r - 1) fits
-unfoldable pub up_of : ℕ → ℕ → Sum
-up_of x r = pick (fits (x + (r - 1))) (Fits (round_up x r)) Over
+unfoldable pub up_of : ℕ → ℕ → Option ℕ
+up_of x r = pick (fits (x + (r - 1))) (Some (round_up x r)) None

@@ -1,12 +1,12 @@
 -- Laws of sums that fit, of multiples and of rounding, for any multiple. Assumes nothing.
-use Rattle.std.specs.Prelude.{◌≡◌, refl, Bool, true, false, ℕ, ◌+◌, ◌-◌, ◌*◌, ◌/◌, ◌%◌, ◌^◌, ◌<◌, ◌≤◌, leb, eqb}
+use Rattle.std.specs.Prelude.{◌≡◌, refl, Bool, true, false, ℕ, ◌+◌, ◌-◌, ◌*◌, ◌/◌}
+use Rattle.std.specs.Prelude.{◌%◌, ◌^◌, ◌<◌, ◌≤◌, leb, eqb, Option, Some, None, SomeIff}
 use Rattle.std.proofs.Common.{sym, ◌∙◌, mod-lt, div-add-mod', le-div_iff_mul-le, div-lt_iff_lt-mul, mul-le-mul_right, arith, ltb-true}
 use Rattle.std.proofs.Common.{lt-ltb, le-ltb, le-leb, eq-eqb, ne_eqb}
 use Rattle.std.proofs.Math.Nat.{mod-zero, mul-mod_left, dvd_of_mod-eq-zero, mod-eq-zero_of_dvd, dvd_trans, dvd-add, dvd-sub, le_of_dvd}
 use Rattle.std.proofs.Math.Decide.{dec_lt, ℕ_discrete}
 use Rattle.std.proofs.lemmas.Bool.{lt-leb}
 use Rattle.arithmetic.specs.Rounding.{pick, fits, round_down, round_up, sum_of, up_of}
-use Rattle.arithmetic.specs.declared.offsets.Sum.TheVariants.{Fits, Over}
 
 -- ---- what fits
 
@@ -41,32 +41,55 @@ pub record Passed (t : Bool) (u y : ℕ) : Type 0 where
   pub ok : t ≡ true
   pub is : y ≡ u
 
-picked_fits : (t : Bool) (u y : ℕ) → pick t (Fits u) Over ≡ Fits y → Passed t u y
+picked_fits : (t : Bool) (u y : ℕ) → pick t (Some u) None ≡ Some y → Passed t u y
 picked_fits true u y e = record { ok = refl; is = cc }
 picked_fits false u y e = let z : ◌≡◌ {A = ℕ} 0 1 = cc in absurd (omega arith)
 
-picked_over : (t : Bool) (u : ℕ) → pick t (Fits u) Over ≡ Over → t ≡ false
+picked_over : (t : Bool) (u : ℕ) → pick t (Some u) None ≡ None → t ≡ false
 picked_over true u e = cc
 picked_over false u e = refl
 
-pub sum_fits : (a b y : ℕ) → sum_of a b ≡ Fits y → Passed (fits (a + b)) (a + b) y
+pub sum_fits : (a b y : ℕ) → sum_of a b ≡ Some y → Passed (fits (a + b)) (a + b) y
 unfolding sum_of
 sum_fits a b y e = picked_fits (fits (a + b)) (a + b) y e
 
-pub sum_over : (a b : ℕ) → sum_of a b ≡ Over → fits (a + b) ≡ false
+pub sum_over : (a b : ℕ) → sum_of a b ≡ None → fits (a + b) ≡ false
 unfolding sum_of
 sum_over a b e = picked_over (fits (a + b)) (a + b) e
 
-pub up_fits : (x r y : ℕ) → up_of x r ≡ Fits y → Passed (fits (x + (r - 1))) (round_up x r) y
+pub up_fits : (x r y : ℕ) → up_of x r ≡ Some y → Passed (fits (x + (r - 1))) (round_up x r) y
 unfolding up_of
 up_fits x r y e = picked_fits (fits (x + (r - 1))) (round_up x r) y e
 
-pub up_over : (x r : ℕ) → up_of x r ≡ Over → fits (x + (r - 1)) ≡ false
+pub up_over : (x r : ℕ) → up_of x r ≡ None → fits (x + (r - 1)) ≡ false
 unfolding up_of
 up_over x r e = picked_over (fits (x + (r - 1))) (round_up x r) e
 
+-- `checked_add` answers the sum, where it fits
+pub checked_sum : (a b : ℕ) (o : Option ℕ) → SomeIff o (a + b < 2 ^ 64) (a + b) → o ≡ sum_of a b
+unfolding sum_of
+checked_sum a b None h = simp (fits_false (a + b) (omega arith))
+checked_sum a b (Some y) h = simp (fits_true (a + b) h.0, h.1)
+
+-- the same of what a call answered
+pub sum_had : (a b y : ℕ) (o : Option ℕ) → SomeIff o (a + b < 2 ^ 64) (a + b) → o ≡ Some y → sum_of a b ≡ Some y
+sum_had a b y o h e = sym (checked_sum a b o h) ∙ e
+
+pub sum_lacked : (a b : ℕ) (o : Option ℕ) → SomeIff o (a + b < 2 ^ 64) (a + b) → ((y : ℕ) → o ≡ Some y → ⊥) → sum_of a b ≡ None
+sum_lacked a b None h n = sym (checked_sum a b None h)
+sum_lacked a b (Some y) h n = absurd (n y refl)
+
+-- `checked_sub` answers the difference, where there is one
+pub difference_had : (a b y : ℕ) (o : Option ℕ) → SomeIff o (b ≤ a) (a - b) → o ≡ Some y → Passed (leb b a) (a - b) y
+difference_had a b y None h e = let z : ◌≡◌ {A = ℕ} 0 1 = cc in absurd (omega arith)
+difference_had a b y (Some x) h e = record { ok = le-leb b a h.0; is = let q : x ≡ y = cc in sym q ∙ h.1 }
+
+pub difference_lacked : (a b : ℕ) (o : Option ℕ) → SomeIff o (b ≤ a) (a - b) → ((y : ℕ) → o ≡ Some y → ⊥) → leb b a ≡ false
+difference_lacked a b None h n = lt-leb b a (omega arith)
+difference_lacked a b (Some y) h n = absurd (n y refl)
+
 -- nothing but 0 is a multiple of 0
-pub up_zero : (x : ℕ) → x < 2 ^ 64 → up_of x 0 ≡ Fits 0
+pub up_zero : (x : ℕ) → x < 2 ^ 64 → up_of x 0 ≡ Some 0
 unfolding up_of round_up round_down
 up_zero x h =
     let z : x + 0 - (x + 0) % 0 ≡ 0 = rw mod-zero (omega arith) in

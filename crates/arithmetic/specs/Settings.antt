@@ -1,15 +1,12 @@
 -- Document 01, "Settings": what opening accepts, and the drive rows.
-use Rattle.std.specs.Prelude.{Bool, ◌&&◌, List, [], ◌∷◌, ℕ, ◌+◌, ◌*◌, max, ltb, leb, length, get_or}
+use Rattle.std.specs.Prelude.{Bool, ◌&&◌, List, [], ◌∷◌, ℕ, ◌+◌, ◌*◌, max, ltb, leb, length, get_or, Result, Ok, Err}
 use Rattle.arithmetic.specs.Powers.{is_power_to}
 use Rattle.arithmetic.specs.Rounding.{pick, fits, is_multiple}
 use Rattle.arithmetic.specs.declared.refusals.Refusal.TheVariants.{Unfit, Buffer}
-use Rattle.arithmetic.specs.declared.refusals.Outcome.{Outcome}
-use Rattle.arithmetic.specs.declared.refusals.Outcome.TheVariants.{Done, Refused}
 use Rattle.arithmetic.specs.declared.settings.Alignments.{Alignments}
 use Rattle.arithmetic.specs.declared.settings.Settings.{Settings}
 use Rattle.arithmetic.specs.declared.settings.Buffers.{Buffers}
-use Rattle.arithmetic.specs.declared.settings.Profile.{Profile}
-use Rattle.arithmetic.specs.declared.settings.Profile.TheVariants.{Of, Refused as NoProfile}
+use Rattle.arithmetic.specs.declared.refusals.Refusal.{Refusal}
 
 -- "Alignments mem (M), req (R), zero (Z), discard (D): powers of two, 1 to 65,536."
 unfoldable pub is_alignment : ℕ → Bool
@@ -39,8 +36,8 @@ buffers_fit s b =
     && is_multiple b.scratch.address s.align.mem
 
 -- what opening answers: 201, then 205
-unfoldable pub opening_of : Settings → Buffers → Outcome
-opening_of s b = pick (settings_fit s) (pick (buffers_fit s b) Done (Refused Buffer)) (Refused Unfit)
+unfoldable pub opening_of : Settings → Buffers → Result (Unit {0}) Refusal
+opening_of s b = pick (settings_fit s) (pick (buffers_fit s b) (Ok tt) (Err Buffer)) (Err Unfit)
 
 abbrev pub alignments : ℕ → ℕ → ℕ → ℕ → Alignments
 alignments m r z d = record { mem = m; req = r; zero = z; discard = d }
@@ -56,6 +53,6 @@ profiles =
     ∷ alignments 4096 512 4096 65536
     ∷ []
 
-unfoldable pub profile_of : ℕ → Profile
+unfoldable pub profile_of : ℕ → Result Alignments Refusal
 unfolding profiles
-profile_of i = pick (ltb i (length profiles)) (Of (get_or profiles i (alignments 0 0 0 0))) (NoProfile Unfit)
+profile_of i = pick (ltb i (length profiles)) (Ok (get_or profiles i (alignments 0 0 0 0))) (Err Unfit)

@@ -1,13 +1,12 @@
 -- What accepted settings give: alignments that are positive and at most 65,536, L a multiple of M and R, a bounce buffer that holds 2Z + 2L
 -- bytes; and what an opening that is not refused gives. Assumes nothing.
-use Rattle.std.specs.Prelude.{◌≡◌, refl, Bool, true, false, ◌&&◌, ℕ, ◌+◌, ◌*◌, ◌%◌, ◌^◌, ◌<◌, ◌≤◌, eqb, leb}
+use Rattle.std.specs.Prelude.{◌≡◌, refl, Bool, true, false, ◌&&◌, ℕ, ◌+◌, ◌*◌, ◌%◌, ◌^◌, ◌<◌, ◌≤◌, eqb, leb, Ok, Err}
 use Rattle.std.proofs.Common.{arith, pow_mono, pow_pos, eqb-true, leb-true}
 use Rattle.arithmetic.specs.Powers.{is_power_to}
 use Rattle.arithmetic.specs.PowerLaws.{exponent, greater}
 use Rattle.arithmetic.specs.Rounding.{pick, fits, is_multiple}
 use Rattle.arithmetic.specs.Settings.{is_alignment, alignments_fit, length_align, bounce_fits, settings_fit, buffers_fit, opening_of}
 use Rattle.arithmetic.specs.declared.refusals.Refusal.TheVariants.{Unfit, Buffer}
-use Rattle.arithmetic.specs.declared.refusals.Outcome.TheVariants.{Done, Refused}
 use Rattle.arithmetic.specs.declared.settings.Alignments.{Alignments}
 use Rattle.arithmetic.specs.declared.settings.Settings.{Settings}
 use Rattle.arithmetic.specs.declared.settings.Buffers.{Buffers}
@@ -105,11 +104,11 @@ pub record Openable (s : Settings) (b : Buffers) : Type 0 where
   pub fit : settings_fit s ≡ true
   pub room : 8 * s.bounce ≤ b.scratch.length
 
-pub opened : (s : Settings) (b : Buffers) → opening_of s b ≡ Done → Openable s b
+pub opened : (s : Settings) (b : Buffers) → opening_of s b ≡ Ok (tt {0}) → Openable s b
 unfolding opening_of buffers_fit
 opened s b e = go (settings_fit s) (buffers_fit s b) refl refl e
   where
-    go : (x y : Bool) → settings_fit s ≡ x → buffers_fit s b ≡ y → pick x (pick y Done (Refused Buffer)) (Refused Unfit) ≡ Done
+    go : (x y : Bool) → settings_fit s ≡ x → buffers_fit s b ≡ y → pick x (pick y (Ok (tt {0})) (Err Buffer)) (Err Unfit) ≡ Ok (tt {0})
         → Openable s b
     go true true f q e =
         let t1 = fits (b.«data».address + b.«data».length) in

@@ -1,5 +1,5 @@
 -- Document 01, "Zeroes" and "Discard": how a range is cut, and the chunks of `write_full_zeroes`.
-use Rattle.std.specs.Prelude.{Bool, ◌&&◌, ℕ, ◌+◌, ◌-◌, ◌%◌, min, ltb, eqb}
+use Rattle.std.specs.Prelude.{Bool, ◌&&◌, ℕ, ◌+◌, ◌-◌, ◌%◌, min, ltb, eqb, Result, Ok, Err, Option, Some, None}
 use Rattle.arithmetic.specs.Rounding.{pick, fits, is_multiple, round_down, round_up}
 use Rattle.arithmetic.specs.Offsets.{range_of}
 use Rattle.arithmetic.specs.Settings.{alignments_fit, settings_fit}
@@ -10,11 +10,8 @@ use Rattle.arithmetic.specs.declared.settings.Alignments.{Alignments}
 use Rattle.arithmetic.specs.declared.settings.Settings.{Settings}
 use Rattle.arithmetic.specs.declared.zeroes.Cut.{Cut}
 use Rattle.arithmetic.specs.declared.zeroes.ZeroCut.{ZeroCut}
-use Rattle.arithmetic.specs.declared.zeroes.ZeroCut.TheVariants.{Nothing, Whole, Split, Refused}
-use Rattle.arithmetic.specs.declared.zeroes.DiscardCut.{DiscardCut}
-use Rattle.arithmetic.specs.declared.zeroes.DiscardCut.TheVariants.{Nothing as NoDiscard, Middle, Refused as DiscardRefused}
-use Rattle.arithmetic.specs.declared.zeroes.Chunk.{Chunk}
-use Rattle.arithmetic.specs.declared.zeroes.Chunk.TheVariants.{Nothing as NoChunk, Next, Refused as ChunkRefused}
+use Rattle.arithmetic.specs.declared.zeroes.ZeroCut.TheVariants.{Nothing, Whole, Split}
+use Rattle.arithmetic.specs.declared.refusals.Refusal.{Refusal}
 
 -- For n bytes at o and the alignment z of the zero (or discard) requests:
 
@@ -42,23 +39,23 @@ cut_of z o n = record {
 }
 
 -- 201; "Length 0: done"; 207; "Otherwise one write of zeroes over the whole."
-unfoldable pub zero_cut_of : Alignments → StoreOffset → ℕ → ZeroCut
+unfoldable pub zero_cut_of : Alignments → StoreOffset → ℕ → Result ZeroCut Refusal
 zero_cut_of a o n =
     pick (alignments_fit a)
-    (pick (eqb n 0) Nothing
+    (pick (eqb n 0) (Ok Nothing)
     (pick (cut_fits a.zero o.0 n)
-    (pick (has_middle a.zero o.0 n) (Split (cut_of a.zero o.0 n)) (Whole (range_of o.0 (o.0 + n))))
-    (Refused Overflow)))
-    (Refused Unfit)
+    (pick (has_middle a.zero o.0 n) (Ok (Split (cut_of a.zero o.0 n))) (Ok (Whole (range_of o.0 (o.0 + n)))))
+    (Err Overflow)))
+    (Err Unfit)
 
 -- "Offset + length and offset + D - 1 must fit. Start up to D, end down to D; if end > start, one request"
-unfoldable pub discard_cut_of : Alignments → StoreOffset → ℕ → DiscardCut
+unfoldable pub discard_cut_of : Alignments → StoreOffset → ℕ → Result (Option Range) Refusal
 discard_cut_of a o n =
     pick (alignments_fit a)
     (pick (cut_fits a.discard o.0 n)
-    (pick (has_middle a.discard o.0 n) (Middle (cut_of a.discard o.0 n).middle) NoDiscard)
-    (DiscardRefused Overflow))
-    (DiscardRefused Unfit)
+    (pick (has_middle a.discard o.0 n) (Ok (Some (cut_of a.discard o.0 n).middle)) (Ok None))
+    (Err Overflow))
+    (Err Unfit)
 
 -- "chunks of at most the share, a chunk at an offset off R ending at the next multiple of R or the range's end":
 -- the length of the first chunk of n bytes at o
@@ -66,10 +63,10 @@ unfoldable pub chunk_length : ℕ → ℕ → ℕ → ℕ → ℕ
 chunk_length r share o n = min n (pick (is_multiple o r) share (r - o % r))
 
 -- 201; the first chunk of a range, none of an empty one
-unfoldable pub chunk_of : Settings → Range → Chunk
+unfoldable pub chunk_of : Settings → Range → Result (Option Range) Refusal
 chunk_of s x =
     pick (settings_fit s)
     (pick (ltb x.start.0 x.end.0)
-    (Next (range_of x.start.0 (x.start.0 + chunk_length s.align.req s.bounce x.start.0 (x.end.0 - x.start.0))))
-    NoChunk)
-    (ChunkRefused Unfit)
+    (Ok (Some (range_of x.start.0 (x.start.0 + chunk_length s.align.req s.bounce x.start.0 (x.end.0 - x.start.0)))))
+    (Ok None))
+    (Err Unfit)

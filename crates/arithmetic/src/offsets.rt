@@ -20,62 +20,31 @@ pub struct Range {
     pub end: StoreOffset,
 }
 
-// Where a byte of the store lies in a bounce buffer that holds the store from some offset on.
-#[derive(Clone, Copy)]
-pub enum InBuffer {
-    At(BufferOffset),
-    Refused(Refusal),
-}
-
-// Where a byte of a bounce buffer lies on the store.
-#[derive(Clone, Copy)]
-pub enum OnStore {
-    At(StoreOffset),
-    Refused(Refusal),
-}
-
-// A sum, where it fits 64 bits.
-#[derive(Clone, Copy)]
-pub enum Sum {
-    Fits(u64),
-    Over,
-}
-
 pub const LARGEST: u64 = 0xffff_ffff_ffff_ffff;
 
 impl StoreOffset {
     // The place of this byte in a buffer that holds the store from `start` on.
-    pub fn in_buffer(self, start: StoreOffset) -> InBuffer
+    #[tactic(auto, unfolding(crate::specs::Offsets::in_buffer_of))]
+    pub fn in_buffer(self, start: StoreOffset) -> Result<BufferOffset, Refusal>
         ensures { result ≡ in_buffer_of self start }
     {
-        let at = self.0;
-        let from = start.0;
-        if at < from {
-            return InBuffer::Refused(Refusal::Overflow);
-        }
-        InBuffer::At(BufferOffset((at - from) as usize))
+        let Some(inside) = self.0.checked_sub(start.0) else {
+            return Err(Refusal::Overflow);
+        };
+        Ok(BufferOffset(inside as usize))
     }
 }
 
 impl BufferOffset {
     // The byte of the store at this place of a buffer that holds the store from `start` on.
-    pub fn on_store(self, start: StoreOffset) -> OnStore
+    pub fn on_store(self, start: StoreOffset) -> Result<StoreOffset, Refusal>
         ensures { result ≡ on_store_of self start }
     {
-        let Sum::Fits(at) = add(start.0, self.0 as u64) else {
-            return OnStore::Refused(Refusal::Overflow);
+        let Some(at) = start.0.checked_add(self.0 as u64) else {
+            return Err(Refusal::Overflow);
         };
-        OnStore::At(StoreOffset(at))
+        Ok(StoreOffset(at))
     }
-}
-
-pub fn add(a: u64, b: u64) -> Sum
-    ensures { result ≡ sum_of a b }
-{
-    if LARGEST - a < b {
-        return Sum::Over;
-    }
-    Sum::Fits(a + b)
 }
 
 // x modulo r, by a mask where r is a power of two, as every alignment is. Modulo 0 it is x.
@@ -93,6 +62,7 @@ pub fn remainder(x: u64, r: u64) -> u64
 }
 
 // The greatest multiple of r that is at most x.
+#[tactic(auto, unfolding(crate::specs::Rounding::round_down))]
 pub fn round_down(x: u64, r: u64) -> u64
     ensures { result ≡ round_down x r }
 {
@@ -100,24 +70,19 @@ pub fn round_down(x: u64, r: u64) -> u64
 }
 
 // The least multiple of r that is at least x.
-pub fn round_up(x: u64, r: u64) -> Sum
+pub fn round_up(x: u64, r: u64) -> Option<u64>
     ensures { result ≡ up_of x r }
 {
     if r == 0 {
-        return Sum::Fits(0);
+        return Some(0);
     }
-    if LARGEST - x < r - 1 {
-        return Sum::Over;
-    }
-    Sum::Fits(round_down(x + (r - 1), r))
+    let Some(last) = x.checked_add(r - 1) else {
+        return None;
+    };
+    Some(round_down(last, r))
 }
 
-pub fn lesser(a: u64, b: u64) -> u64
-    ensures { result ≡ min a b }
-{
-    if a < b { a } else { b }
-}
-
+#[tactic(auto, unfolding(crate::specs::Rounding::is_multiple))]
 pub fn is_multiple(x: u64, r: u64) -> bool
     ensures { result ≡ is_multiple x r }
 {

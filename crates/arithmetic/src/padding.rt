@@ -1,11 +1,9 @@
 // Direct or padded; the padded range of a request; the reads of a padded write (imago: readv and writev of storage/ext.rs).
 ghost use Rattle.std.specs.Prelude.{◌≡◌, ◌+◌, ◌%◌, ◌<◌, ◌≤◌, eqb};
 ghost use Rattle.arithmetic.specs.Rounding.{round_up};
-ghost use Rattle.arithmetic.specs.Padding.{padded_of, padding_of, is_direct, transfer_of, transfer_refusal, reads_of};
+ghost use Rattle.arithmetic.specs.Padding.{padded_of, padding_of, is_direct, transfer_of, reads_of};
 
-use crate::offsets::{
-    BufferOffset, InBuffer, Range, StoreOffset, Sum, add, is_multiple, round_down, round_up,
-};
+use crate::offsets::{BufferOffset, Range, StoreOffset, is_multiple, round_down, round_up};
 use crate::refusals::Refusal;
 use crate::settings::Alignments;
 
@@ -20,18 +18,11 @@ pub struct Span {
     pub suffix: u64, // bytes to read for the tail (T)
 }
 
-#[derive(Clone, Copy)]
-pub enum Padding {
-    Padded(Span),
-    Refused(Refusal),
-}
-
 // How a request goes to the store: as it is, or through a bounce buffer.
 #[derive(Clone, Copy)]
 pub enum Transfer {
     Direct(Range),
     Bounced(Span),
-    Refused(Refusal),
 }
 
 // What a padded write reads before it writes, as lengths: of the first bytes, of the last.
@@ -53,27 +44,27 @@ fn round_edge(x: u64, l: u64) -> u64
 }
 
 // The padded range of n bytes at `at`, for a request alignment r and a length alignment l.
-fn pad_to(at: u64, n: u64, r: u64, l: u64) -> Padding
+fn pad_to(at: u64, n: u64, r: u64, l: u64) -> Result<Span, Refusal>
     requires { (0 < r) × (0 < l) × (r ≤ l) × (l % r ≡ 0) }
     ensures { result ≡ padded_of r l at n }
 {
-    let Sum::Fits(end) = add(at, n) else {
-        return Padding::Refused(Refusal::Overflow);
+    let Some(end) = at.checked_add(n) else {
+        return Err(Refusal::Overflow);
     };
-    let Sum::Fits(rounded) = round_up(end, r) else {
-        return Padding::Refused(Refusal::Overflow);
+    let Some(rounded) = round_up(end, r) else {
+        return Err(Refusal::Overflow);
     };
     let start = round_down(at, r);
-    let Sum::Fits(length) = round_up(rounded - start, l) else {
-        return Padding::Refused(Refusal::Overflow);
+    let Some(length) = round_up(rounded - start, l) else {
+        return Err(Refusal::Overflow);
     };
-    let Sum::Fits(padded_end) = add(start, length) else {
-        return Padding::Refused(Refusal::Overflow);
+    let Some(padded_end) = start.checked_add(length) else {
+        return Err(Refusal::Overflow);
     };
-    let InBuffer::At(head) = StoreOffset(at).in_buffer(StoreOffset(start)) else {
-        return Padding::Refused(Refusal::Overflow);
+    let Ok(head) = StoreOffset(at).in_buffer(StoreOffset(start)) else {
+        return Err(Refusal::Overflow);
     };
-    Padding::Padded(Span {
+    Ok(Span {
         start: StoreOffset(start),
         end: StoreOffset(padded_end),
         head,
@@ -84,16 +75,19 @@ fn pad_to(at: u64, n: u64, r: u64, l: u64) -> Padding
 }
 
 // The padded range of `length` bytes at `offset`: start down to R, end up to R, the length between up to L.
-pub fn pad(offset: StoreOffset, length: u64, align: Alignments) -> Padding
+#[tactic(auto, unfolding(crate::specs::Padding::padding_of))]
+pub fn pad(offset: StoreOffset, length: u64, align: Alignments) -> Result<Span, Refusal>
     ensures { result ≡ padding_of align offset length }
 {
     if !align.is_fit() {
-        return Padding::Refused(Refusal::Unfit);
+        return Err(Refusal::Unfit);
     }
     pad_to(offset.0, length, align.req, align.length_align())
 }
 
-// Whether offset and length are multiples of R, for a vector that is aligned.
+// Whether offset and length are multiples of R, for a vector that is aligned. R is no `NonZero`: each caller has tested the alignments
+// by then, and would only make one of it to ask for the number again.
+#[tactic(auto, unfolding(crate::specs::Padding::is_direct))]
 fn is_direct(at: u64, length: u64, r: u64, aligned: bool) -> bool
     requires { 0 < r }
     ensures { result ≡ is_direct r at length aligned }
@@ -104,40 +98,31 @@ fn is_direct(at: u64, length: u64, r: u64, aligned: bool) -> bool
 }
 
 // Direct or padded, for a vector of `length` bytes that is or is not aligned.
-pub fn plan_transfer(offset: StoreOffset, length: u64, aligned: bool, align: Alignments) -> Transfer
+#[tactic(auto, unfolding(crate::specs::Padding::transfer_of))]
+pub fn plan_transfer(
+    offset: StoreOffset,
+    length: u64,
+    aligned: bool,
+    align: Alignments,
+) -> Result<Transfer, Refusal>
     ensures { result ≡ transfer_of align offset length aligned }
 {
     if !align.is_fit() {
-        return Transfer::Refused(Refusal::Unfit);
+        return Err(Refusal::Unfit);
     }
     let at = offset.0;
-    let Sum::Fits(end) = add(at, length) else {
-        return Transfer::Refused(Refusal::Overflow);
+    let Some(end) = at.checked_add(length) else {
+        return Err(Refusal::Overflow);
     };
     let r = align.req;
     if is_direct(at, length, r, aligned) {
-        return Transfer::Direct(Range {
+        return Ok(Transfer::Direct(Range {
             start: offset,
             end: StoreOffset(end),
-        });
+        }));
     }
-    match pad_to(at, length, r, align.length_align()) {
-        Padding::Padded(span) => Transfer::Bounced(span),
-        Padding::Refused(r) => Transfer::Refused(r),
-    }
-}
-
-impl Transfer {
-    // Why it is refused; of one that is not, 207.
-    pub fn refusal(self) -> Refusal
-        ensures { result ≡ transfer_refusal self }
-    {
-        match self {
-            Transfer::Direct(_) => Refusal::Overflow,
-            Transfer::Bounced(_) => Refusal::Overflow,
-            Transfer::Refused(r) => r,
-        }
-    }
+    let span = pad_to(at, length, r, align.length_align())?;
+    Ok(Transfer::Bounced(span))
 }
 
 impl Span {
@@ -152,6 +137,7 @@ impl Span {
     }
 
     // What a padded write of this range reads first.
+    #[tactic(auto, unfolding(crate::specs::Padding::reads_of))]
     pub fn reads(self) -> Reads
         ensures { result ≡ reads_of self }
     {

@@ -3,28 +3,17 @@ ghost use Rattle.std.specs.Prelude.{true, ◌≡◌, ◌+◌, ◌<◌};
 ghost use Rattle.arithmetic.specs.Rounding.{fits};
 ghost use Rattle.arithmetic.specs.Planner.{plan_outcome, chunk_count, planned_chunk, count_of, planned_of};
 
-use crate::offsets::{LARGEST, Range, StoreOffset, is_multiple, lesser};
-use crate::refusals::{Outcome, Refusal};
+use crate::offsets::{LARGEST, Range, StoreOffset, is_multiple};
+use crate::refusals::Refusal;
 use crate::settings::Settings;
 
-#[derive(Clone, Copy)]
-pub enum Count {
-    Chunks(u64),
-    Refused(Refusal),
-}
-
-#[derive(Clone, Copy)]
-pub enum Planned {
-    Chunk(Range),
-    Refused(Refusal),
-}
-
 // Whether there is a plan: 201, then 210, then 207.
-fn check(offset: StoreOffset, length: u64, settings: Settings) -> Outcome
+#[tactic(auto, unfolding(crate::specs::Planner::plan_outcome))]
+fn check(offset: StoreOffset, length: u64, settings: Settings) -> Result<(), Refusal>
     ensures { result ≡ plan_outcome settings offset length }
 {
     if !settings.is_fit() {
-        return Outcome::Refused(Refusal::Unfit);
+        return Err(Refusal::Unfit);
     }
     let align = settings.align;
     let r = align.req;
@@ -32,12 +21,12 @@ fn check(offset: StoreOffset, length: u64, settings: Settings) -> Outcome
     let starts = is_multiple(at, r);
     let ends = is_multiple(length, r);
     if !(starts & ends) {
-        return Outcome::Refused(Refusal::Unaligned);
+        return Err(Refusal::Unaligned);
     }
     if !(length <= LARGEST - at) {
-        return Outcome::Refused(Refusal::Overflow);
+        return Err(Refusal::Overflow);
     }
-    Outcome::Done
+    Ok(())
 }
 
 fn chunk_count(n: u64, bounce: u64) -> u64
@@ -49,16 +38,16 @@ fn chunk_count(n: u64, bounce: u64) -> u64
 }
 
 // How many chunks pure_write_full_zeroes writes for `length` bytes at `offset`.
-pub fn count_chunks(offset: StoreOffset, length: u64, settings: Settings) -> Count
+#[tactic(auto, unfolding(crate::specs::Planner::count_of))]
+pub fn count_chunks(offset: StoreOffset, length: u64, settings: Settings) -> Result<u64, Refusal>
     ensures { result ≡ count_of settings offset length }
 {
-    match check(offset, length, settings) {
-        Outcome::Refused(r) => Count::Refused(r),
-        Outcome::Done => Count::Chunks(chunk_count(length, settings.bounce)),
-    }
+    check(offset, length, settings)?;
+    Ok(chunk_count(length, settings.bounce))
 }
 
 // Chunk i of a range of n bytes that fits.
+#[tactic(auto, unfolding(crate::specs::Planner::planned_chunk))]
 fn chunk_at(at: u64, n: u64, bounce: u64, i: u64) -> Range
     requires { (0 < bounce) × (fits (at + n) ≡ true) }
     ensures { result ≡ planned_chunk bounce at n i }
@@ -72,7 +61,7 @@ fn chunk_at(at: u64, n: u64, bounce: u64, i: u64) -> Range
         };
     }
     let skipped = i * bounce;
-    let length = lesser(n - skipped, bounce);
+    let length = (n - skipped).min(bounce);
     let start = at + skipped;
     let end = start + length;
     Range {
@@ -82,11 +71,15 @@ fn chunk_at(at: u64, n: u64, bounce: u64, i: u64) -> Range
 }
 
 // Chunk i; past the last one an empty range at the end.
-pub fn plan_chunk(offset: StoreOffset, length: u64, settings: Settings, i: u64) -> Planned
+#[tactic(auto, unfolding(crate::specs::Planner::planned_of))]
+pub fn plan_chunk(
+    offset: StoreOffset,
+    length: u64,
+    settings: Settings,
+    i: u64,
+) -> Result<Range, Refusal>
     ensures { result ≡ planned_of settings offset length i }
 {
-    match check(offset, length, settings) {
-        Outcome::Refused(r) => Planned::Refused(r),
-        Outcome::Done => Planned::Chunk(chunk_at(offset.0, length, settings.bounce, i)),
-    }
+    check(offset, length, settings)?;
+    Ok(chunk_at(offset.0, length, settings.bounce, i))
 }

@@ -27,6 +27,7 @@ pub enum Refusal {
 }
 
 impl Refusal {
+    #[tactic(auto, unfolding(crate::specs::Refusals::number_of))]
     pub fn number(self) -> u8
         ensures { result ≡ number_of self }
     {
@@ -55,20 +56,12 @@ impl Refusal {
     }
 }
 
-// What became of a call that returns nothing else.
-#[derive(Clone, Copy)]
-pub enum Outcome {
-    Done,
-    Refused(Refusal),
-}
-
-impl Outcome {
-    pub fn number(self) -> u8
-        ensures { result ≡ outcome_number self }
-    {
-        match self {
-            Outcome::Done => 0,
-            Outcome::Refused(r) => r.number(),
-        }
+// The number of a call that returns nothing else.
+pub fn outcome_number(outcome: Result<(), Refusal>) -> u8
+    ensures { result ≡ outcome_number outcome }
+{
+    match outcome {
+        Ok(()) => 0,
+        Err(refusal) => refusal.number(),
     }
 }

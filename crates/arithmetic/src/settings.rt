@@ -5,7 +5,7 @@ ghost use Rattle.arithmetic.specs.Settings.{is_alignment, length_align, alignmen
 ghost use Rattle.arithmetic.specs.Settings.{profile_of};
 
 use crate::offsets::{LARGEST, is_multiple};
-use crate::refusals::{Outcome, Refusal};
+use crate::refusals::Refusal;
 
 // Document 01's mem, req, zero, discard: M, R, Z, D.
 #[derive(Clone, Copy)]
@@ -37,13 +37,6 @@ pub struct Buffers {
     pub scratch: Lent,
 }
 
-// A drive profile (document 01: a drive row), by its index.
-#[derive(Clone, Copy)]
-pub enum Profile {
-    Of(Alignments),
-    Refused(Refusal),
-}
-
 const MAX_ALIGNMENT: u64 = 65536;
 
 const MAX_BOUNCE: u64 = 1048576;
@@ -51,6 +44,7 @@ const MAX_BOUNCE: u64 = 1048576;
 const SLOTS: u64 = 8;
 
 // Whether x is a power of two, which has no digit in common with the number before it, and at most 65,536.
+#[tactic(auto, unfolding(crate::specs::Settings::is_alignment))]
 fn is_alignment(x: u64) -> bool
     ensures { result ≡ is_alignment x }
 {
@@ -62,16 +56,14 @@ fn is_alignment(x: u64) -> bool
 
 impl Alignments {
     // L: the greater of the memory and the request alignment.
+    #[tactic(auto, unfolding(crate::specs::Settings::length_align))]
     pub fn length_align(self) -> u64
         ensures { result ≡ length_align self }
     {
-        if self.mem < self.req {
-            self.req
-        } else {
-            self.mem
-        }
+        self.mem.max(self.req)
     }
 
+    #[tactic(auto, unfolding(crate::specs::Settings::alignments_fit))]
     pub fn is_fit(self) -> bool
         ensures { result ≡ alignments_fit self }
     {
@@ -85,6 +77,7 @@ impl Alignments {
 
 impl Settings {
     // Whether opening accepts the alignments and the bounce buffer's length: false is refusal 201.
+    #[tactic(auto, unfolding(crate::specs::Settings::bounce_fits, crate::specs::Settings::settings_fit))]
     pub fn is_fit(self) -> bool
         ensures { result ≡ settings_fit self }
     {
@@ -109,6 +102,7 @@ impl Lent {
 }
 
 impl Buffers {
+    #[tactic(auto, unfolding(crate::specs::Settings::buffers_fit))]
     fn is_fit(self, s: Settings) -> bool
         requires { settings_fit s ≡ true }
         ensures { result ≡ buffers_fit s self }
@@ -124,40 +118,42 @@ impl Buffers {
 }
 
 // What opening answers: 201 for unfit settings, then 205 for unfit buffers.
-pub fn check_opening(s: Settings, b: Buffers) -> Outcome
+#[tactic(auto, unfolding(crate::specs::Settings::opening_of))]
+pub fn check_opening(s: Settings, b: Buffers) -> Result<(), Refusal>
     ensures { result ≡ opening_of s b }
 {
     if !s.is_fit() {
-        return Outcome::Refused(Refusal::Unfit);
+        return Err(Refusal::Unfit);
     }
     if !b.is_fit(s) {
-        return Outcome::Refused(Refusal::Buffer);
+        return Err(Refusal::Buffer);
     }
-    Outcome::Done
+    Ok(())
 }
 
-fn make_row(mem: u64, req: u64, zero: u64, discard: u64) -> Profile
-    ensures { result ≡ Profile.Of (alignments mem req zero discard) }
+fn make_row(mem: u64, req: u64, zero: u64, discard: u64) -> Alignments
+    ensures { result ≡ alignments mem req zero discard }
 {
-    Profile::Of(Alignments {
+    Alignments {
         mem,
         req,
         zero,
         discard,
-    })
+    }
 }
 
 // The alignments of a drive profile.
-pub fn drive_profile(index: usize) -> Profile
+#[tactic(auto, unfolding(crate::specs::Settings::profile_of, crate::specs::Settings::profiles))]
+pub fn drive_profile(index: usize) -> Result<Alignments, Refusal>
     ensures { result ≡ profile_of index }
 {
     match index {
-        0 => make_row(1, 1, 1, 1),
-        1 => make_row(1, 512, 512, 512),
-        2 => make_row(512, 512, 4096, 4096),
-        3 => make_row(4096, 4096, 4096, 65536),
-        4 => make_row(4096, 512, 512, 512),
-        5 => make_row(4096, 512, 4096, 65536),
-        _ => Profile::Refused(Refusal::Unfit),
+        0 => Ok(make_row(1, 1, 1, 1)),
+        1 => Ok(make_row(1, 512, 512, 512)),
+        2 => Ok(make_row(512, 512, 4096, 4096)),
+        3 => Ok(make_row(4096, 4096, 4096, 65536)),
+        4 => Ok(make_row(4096, 512, 512, 512)),
+        5 => Ok(make_row(4096, 512, 4096, 65536)),
+        _ => Err(Refusal::Unfit),
     }
 }

@@ -3,7 +3,7 @@
 ghost use Rattle.std.specs.Prelude.{true, ltb, ◌≡◌, ◌<◌};
 ghost use Rattle.arithmetic.specs.Zeroes.{cut_fits, cut_of, zero_cut_of, discard_cut_of, chunk_length, chunk_of};
 
-use crate::offsets::{LARGEST, Range, StoreOffset, lesser, remainder, round_down};
+use crate::offsets::{LARGEST, Range, StoreOffset, remainder, round_down};
 use crate::refusals::Refusal;
 use crate::settings::{Alignments, Settings};
 
@@ -21,22 +21,6 @@ pub enum ZeroCut {
     Nothing,
     Whole(Range),
     Split(Cut),
-    Refused(Refusal),
-}
-
-#[derive(Clone, Copy)]
-pub enum DiscardCut {
-    Nothing,
-    Middle(Range),
-    Refused(Refusal),
-}
-
-// The next write of write_full_zeroes over a range.
-#[derive(Clone, Copy)]
-pub enum Chunk {
-    Nothing,
-    Next(Range),
-    Refused(Refusal),
 }
 
 // Whether the sums of a cut fit.
@@ -49,6 +33,7 @@ fn cut_fits(at: u64, length: u64, z: u64) -> bool
 }
 
 // The cut of a range whose sums fit.
+#[tactic(auto, unfolding(crate::specs::Zeroes::cut_of, crate::specs::Rounding::round_up))]
 fn cut_at(at: u64, length: u64, z: u64) -> Cut
     requires { (0 < z) × (cut_fits z at length ≡ true) }
     ensures { result ≡ cut_of z at length }
@@ -74,86 +59,91 @@ fn cut_at(at: u64, length: u64, z: u64) -> Cut
 fn has_bytes(r: Range) -> bool
     ensures { result ≡ ltb r.start.0 r.end.0 }
 {
-    let start = r.start;
-    let end = r.end;
-    start.0 < end.0
+    r.start.0 < r.end.0
 }
 
 // What write_zeroes and write_allocated_zeroes do with `length` bytes at `offset`.
-pub fn zero_cut(offset: StoreOffset, length: u64, align: Alignments) -> ZeroCut
+#[tactic(auto, unfolding(crate::specs::Zeroes::cut_of, crate::specs::Zeroes::has_middle, crate::specs::Zeroes::zero_cut_of))]
+pub fn zero_cut(offset: StoreOffset, length: u64, align: Alignments) -> Result<ZeroCut, Refusal>
     ensures { result ≡ zero_cut_of align offset length }
 {
     if !align.is_fit() {
-        return ZeroCut::Refused(Refusal::Unfit);
+        return Err(Refusal::Unfit);
     }
     if length == 0 {
-        return ZeroCut::Nothing;
+        return Ok(ZeroCut::Nothing);
     }
     let at = offset.0;
     let z = align.zero;
     if !cut_fits(at, length, z) {
-        return ZeroCut::Refused(Refusal::Overflow);
+        return Err(Refusal::Overflow);
     }
     let c = cut_at(at, length, z);
     if !has_bytes(c.middle) {
         let end = at + length;
-        return ZeroCut::Whole(Range {
+        return Ok(ZeroCut::Whole(Range {
             start: offset,
             end: StoreOffset(end),
-        });
+        }));
     }
-    ZeroCut::Split(c)
+    Ok(ZeroCut::Split(c))
 }
 
 // What discard does with `length` bytes at `offset`.
-pub fn discard_cut(offset: StoreOffset, length: u64, align: Alignments) -> DiscardCut
+#[tactic(auto, unfolding(crate::specs::Zeroes::cut_of, crate::specs::Zeroes::discard_cut_of, crate::specs::Zeroes::has_middle))]
+pub fn discard_cut(
+    offset: StoreOffset,
+    length: u64,
+    align: Alignments,
+) -> Result<Option<Range>, Refusal>
     ensures { result ≡ discard_cut_of align offset length }
 {
     if !align.is_fit() {
-        return DiscardCut::Refused(Refusal::Unfit);
+        return Err(Refusal::Unfit);
     }
     let at = offset.0;
     let d = align.discard;
     if !cut_fits(at, length, d) {
-        return DiscardCut::Refused(Refusal::Overflow);
+        return Err(Refusal::Overflow);
     }
-    let c = cut_at(at, length, d);
-    let middle = c.middle;
+    let middle = cut_at(at, length, d).middle;
     if !has_bytes(middle) {
-        return DiscardCut::Nothing;
+        return Ok(None);
     }
-    DiscardCut::Middle(middle)
+    Ok(Some(middle))
 }
 
-// The length of the first chunk of n bytes at `at`.
+// The length of the first chunk of n bytes at `at`. R is no `NonZero`, as in `is_direct` of padding.
+#[tactic(auto, unfolding(crate::specs::Zeroes::chunk_length, crate::specs::Rounding::is_multiple))]
 fn chunk_length(at: u64, n: u64, r: u64, bounce: u64) -> u64
     requires { 0 < r }
     ensures { result ≡ chunk_length r bounce at n }
 {
     let off = remainder(at, r);
     if off == 0 {
-        return lesser(n, bounce);
+        return n.min(bounce);
     }
-    lesser(n, r - off)
+    n.min(r - off)
 }
 
 // The first chunk of a range that write_full_zeroes still has to write.
-pub fn next_chunk(range: Range, settings: Settings) -> Chunk
+#[tactic(auto, unfolding(crate::specs::Zeroes::chunk_of))]
+pub fn next_chunk(range: Range, settings: Settings) -> Result<Option<Range>, Refusal>
     ensures { result ≡ chunk_of settings range }
 {
     if !settings.is_fit() {
-        return Chunk::Refused(Refusal::Unfit);
+        return Err(Refusal::Unfit);
     }
     if !has_bytes(range) {
-        return Chunk::Nothing;
+        return Ok(None);
     }
     let align = settings.align;
     let start = range.start;
     let end = range.end;
     let n = chunk_length(start.0, end.0 - start.0, align.req, settings.bounce);
     let chunk_end = start.0 + n;
-    Chunk::Next(Range {
+    Ok(Some(Range {
         start,
         end: StoreOffset(chunk_end),
-    })
+    }))
 }

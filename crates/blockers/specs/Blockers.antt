@@ -7,8 +7,6 @@ use Rattle.arithmetic.specs.declared.offsets.Range.{Range}
 use Rattle.arithmetic.specs.Refusals.{when_done}
 use Rattle.arithmetic.specs.declared.refusals.Refusal.{Refusal}
 use Rattle.arithmetic.specs.declared.refusals.Refusal.TheVariants.{Slot}
-use Rattle.arithmetic.specs.declared.refusals.Outcome.{Outcome}
-use Rattle.arithmetic.specs.declared.refusals.Outcome.TheVariants.{Done, Refused}
 use Rattle.blockers.specs.declared.Kind.{Kind}
 use Rattle.blockers.specs.declared.Kind.TheVariants.{Absent, Weak, Strong}
 use Rattle.blockers.specs.declared.Blocker.{Blocker}
@@ -65,17 +63,17 @@ no_blockers = record { slots = replicate 8 vacant }
 -- the blockers after a call, and whether it was carried out
 pub record Changed : Type 0 where
   pub blockers : Blockers
-  pub outcome : Outcome
+  pub outcome : Result (Unit {0}) Refusal
 
 -- what such a call answers: an error leaves the caller with the blockers that it had
 abbrev pub changed : Changed → Result Blockers Refusal
 changed c = when_done c.outcome (Ok c.blockers) Err
 
 abbrev pub refused : Blockers → Changed
-refused b = record { blockers = b; outcome = Refused Slot }
+refused b = record { blockers = b; outcome = Err Slot }
 
 abbrev pub changed_to : List Blocker → Changed
-changed_to l = record { blockers = record { slots = l }; outcome = Done }
+changed_to l = record { blockers = record { slots = l }; outcome = (Ok tt) }
 
 -- "It is entered even while it waits." Past slot 7, and where one is entered: 208.
 unfoldable pub entered_of : Kind → ℕ → Range → Blockers → Changed

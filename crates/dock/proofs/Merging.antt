@@ -1,4 +1,5 @@
 -- The copies between the data and a share of the scratch, and the steps of begin and tell over them: each branch of the code gives what the definition says. Assumes nothing.
+use Rattle.std.specs.Prelude.{Result, Ok}
 use mathlib.Core.Path.{◌≡◌, refl, sym, ◌∙◌}
 use mathlib.Core.Bool.{Bool, true, false, ◌&&◌, ◌||◌, not}
 use mathlib.Core.List.{List}
@@ -11,8 +12,6 @@ use borrow.Author.Tests.{eqb-true, leb-true}
 use borrow.Rule.Slice.PartMut.{put_mid, put_same}
 use Rattle.arithmetic.specs.Rounding.{pick}
 use Rattle.arithmetic.specs.SettingsLaws.{and_left, and_right}
-use Rattle.arithmetic.specs.declared.refusals.Outcome.{Outcome}
-use Rattle.arithmetic.specs.declared.refusals.Outcome.TheVariants.{Done}
 use Rattle.vectors.specs.Vectors.{put, bytes_of, segments_of, copies, is_valid, outcome_of}
 use Rattle.vectors.specs.ByteLaws.{bytes_length}
 use Rattle.vectors.specs.SegmentLaws.{valid}
@@ -22,6 +21,7 @@ use Rattle.stages.specs.declared.state.Job.{Job}
 use Rattle.stages.specs.declared.state.State.{State}
 use Rattle.dock.proofs.SlotsOf.{share_in}
 use Rattle.dock.specs.Begin.{fills, is_write_job, source_of, source_fits, merged_at, InShare}
+use Rattle.arithmetic.specs.declared.refusals.Refusal.{Refusal}
 
 -- a lent part put back
 back : (l : List ℕ) (a n : ℕ) (ys : List ℕ) → length ys ≡ n → put_mid a (a + n - a) l ys ≡ put l a ys
@@ -43,7 +43,7 @@ copied_long memory v n e =
 
 module _ (a n : ℕ) (j : Job) (v : IoVector) (memory scratch : List ℕ) (h : a + n ≤ length scratch) where
   -- a write's vector is copied in, or refused
-  pub merged_write : is_write_job j ≡ true → (r : Outcome) (ys : List ℕ)
+  pub merged_write : is_write_job j ≡ true → (r : Result (Unit {0}) Refusal) (ys : List ℕ)
       → r ≡ outcome_of (copies memory v (length (take (a + n - a) (drop a scratch))))
       → ys ≡ pick (copies memory v (length (take (a + n - a) (drop a scratch)))) (bytes_of memory (segments_of v)) (take (a + n - a) (drop a scratch))
       → fills r (put_mid a (a + n - a) scratch ys) ≡ merged_at a n j v memory scratch
@@ -64,7 +64,7 @@ module _ (a n : ℕ) (j : Job) (v : IoVector) (memory scratch : List ℕ) (h : a
 
   -- zeroes
   pub merged_zeroes : is_write_job j ≡ false → (ys : List ℕ) → ys ≡ replicate (length (take (a + n - a) (drop a scratch))) 0
-      → fills Done (put_mid a (a + n - a) scratch ys) ≡ merged_at a n j v memory scratch
+      → fills (Ok tt) (put_mid a (a + n - a) scratch ys) ≡ merged_at a n j v memory scratch
   unfolding merged_at source_fits source_of
   merged_zeroes w ys p =
       let k : a + n - a ≡ n = omega arith in

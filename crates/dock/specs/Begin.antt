@@ -5,8 +5,6 @@ use Rattle.arithmetic.specs.Rounding.{pick}
 use Rattle.arithmetic.specs.Refusals.{when_done}
 use Rattle.arithmetic.specs.declared.refusals.Refusal.{Refusal}
 use Rattle.arithmetic.specs.declared.refusals.Refusal.TheVariants.{Segment, Overlap, Full}
-use Rattle.arithmetic.specs.declared.refusals.Outcome.{Outcome}
-use Rattle.arithmetic.specs.declared.refusals.Outcome.TheVariants.{Done, Refused}
 use Rattle.arithmetic.specs.declared.offsets.StoreOffset.{StoreOffset}
 use Rattle.arithmetic.specs.declared.settings.Settings.{Settings}
 use Rattle.arithmetic.specs.declared.settings.Buffers.{Buffers}
@@ -23,24 +21,20 @@ use Rattle.stages.specs.declared.state.Phase.{Phase}
 use Rattle.stages.specs.declared.state.Phase.TheVariants.{Free, Ended, DirectRead, BouncedRead, FirstRead, SecondRead, BouncedWrite}
 use Rattle.stages.specs.declared.state.Phase.TheVariants.{DirectWrite, ZeroRequest, DiscardRequest}
 use Rattle.stages.specs.declared.state.State.{State}
-use Rattle.stages.specs.declared.plan.Plan.{Plan}
-use Rattle.stages.specs.declared.plan.Plan.TheVariants.{Done as NothingToDo, Started, Refused as PlanRefused}
 use Rattle.dock.specs.Dock.{vacant, lent_of, overlaps_of, first_free}
 use Rattle.dock.specs.declared.dock.Dock.{Dock}
 use Rattle.dock.specs.declared.begin.Asked.{Asked}
-use Rattle.dock.specs.declared.begin.Begun.{Begun}
 use Rattle.dock.specs.declared.begin.Admission.{Admission}
 use Rattle.dock.specs.declared.begin.Beginning.{Beginning}
-use Rattle.dock.specs.declared.begin.Begun.TheVariants.{Done as NoRequest, Admitted, Refused as BeginRefused}
 
 -- ---- what is filled as a job comes to its write from the bounce buffer
 
 -- a scratch, or the refusal that leaves it as it was
 pub record Filled : Type 0 where
   pub scratch : List ℕ
-  pub outcome : Outcome
+  pub outcome : Result (Unit {0}) Refusal
 
-abbrev pub fills : Outcome → List ℕ → Filled
+abbrev pub fills : Result (Unit {0}) Refusal → List ℕ → Filled
 fills o s = record { scratch = s; outcome = o }
 
 abbrev pub is_write_job : Job → Bool
@@ -62,8 +56,8 @@ source_fits j v n memory = pick (is_write_job j) (copies memory v n) true
 unfoldable pub merged_at : ℕ → ℕ → Job → IoVector → List ℕ → List ℕ → Filled
 merged_at a n j v memory scratch =
     pick (source_fits j v n memory)
-    (record { scratch = put scratch a (source_of j v n memory); outcome = Done })
-    (record { scratch = scratch; outcome = Refused Segment })
+    (record { scratch = put scratch a (source_of j v n memory); outcome = (Ok tt) })
+    (record { scratch = scratch; outcome = Err Segment })
 
 -- "Then the vector is copied in": into the asked part of the share that starts at `share`
 abbrev pub merged : ℕ → State → IoVector → List ℕ → List ℕ → Filled
@@ -83,7 +77,7 @@ is_bounced_write ZeroRequest = false
 is_bounced_write DiscardRequest = false
 
 unfoldable pub filled : ℕ → State → IoVector → List ℕ → List ℕ → Filled
-filled share x v memory scratch = pick (is_bounced_write x.phase) (merged share x v memory scratch) (fills Done scratch)
+filled share x v memory scratch = pick (is_bounced_write x.phase) (merged share x v memory scratch) (fills (Ok tt) scratch)
 
 -- what a fill of the job x asks of a scratch of n bytes
 abbrev pub InShare : ℕ → State → ℕ → Type 0
@@ -97,14 +91,14 @@ unfoldable pub blockers_with : Blockers → ℕ → State → Changed
 blockers_with b p x =
     pick (is_blocking x.phase) (entered_of (strength x.stage.strong) p (blocked_of x.stage) b) (record {
       blockers = b;
-      outcome = Done;
+      outcome = (Ok tt);
     })
 
 -- ---- a job comes to its stage: its blocker enters, its scratch is filled
 
 pub record Entering : Type 0 where
   pub blockers : Blockers
-  pub outcome : Outcome
+  pub outcome : Result (Unit {0}) Refusal
   pub scratch : List ℕ
 
 abbrev pub enters : Changed → List ℕ → Entering
@@ -152,7 +146,7 @@ is_aligned (Ok t) = t
 is_aligned (Err r) = false
 
 -- the first stage of a job
-abbrev pub plan_of : Job → Settings → Buffers → StoreOffset → ℕ → IoVector → Plan
+abbrev pub plan_of : Job → Settings → Buffers → StoreOffset → ℕ → IoVector → Result (Option State) Refusal
 plan_of Read s b o n v = read_plan s o v.total (is_aligned (alignment_of s.align b.«data» v))
 plan_of Write s b o n v = write_plan s o v.total (is_aligned (alignment_of s.align b.«data» v))
 plan_of Zeroes s b o n v = zero_plan s false o n
@@ -163,34 +157,34 @@ plan_of Discard s b o n v = discard_plan s o n
 abbrev pub vector_for : Asked → IoVector
 vector_for q = selected_of q.job q.vector
 
-abbrev pub plan_for : Settings → Buffers → Asked → Plan
+abbrev pub plan_for : Settings → Buffers → Asked → Result (Option State) Refusal
 plan_for s b q = plan_of q.job s b q.offset q.length q.vector
 
 -- ---- begin, as far as one slot goes
 
 -- The one place that has the order of refusals at begin: "201, 205" by what is lent, "202", the plan's own ("empty read, write or zero job
 -- done, 207 [..], a discard with nothing to do done, 206"), "203, 204". Zeroes and discards never meet 202: law `empty_valid`.
-abbrev pub allowed_by : Plan → Bool → ℕ → Plan
-allowed_by NothingToDo met free = NothingToDo
-allowed_by (PlanRefused r) met free = PlanRefused r
-allowed_by (Started x) met free = pick met (PlanRefused Overlap) (pick (ltb free 8) (Started x) (PlanRefused Full))
+abbrev pub allowed_by : Result (Option State) Refusal → Bool → ℕ → Result (Option State) Refusal
+allowed_by (Ok None) met free = Ok None
+allowed_by (Err r) met free = Err r
+allowed_by (Ok (Some x)) met free = pick met (Err Overlap) (pick (ltb free 8) (Ok (Some x)) (Err Full))
 
-abbrev pub decided_of : Outcome → Bool → Plan → Bool → ℕ → Plan
-decided_of (Refused r) valid plan met free = PlanRefused r
-decided_of Done valid plan met free = pick valid (allowed_by plan met free) (PlanRefused Segment)
+abbrev pub decided_of : Result (Unit {0}) Refusal → Bool → Result (Option State) Refusal → Bool → ℕ → Result (Option State) Refusal
+decided_of (Err r) valid plan met free = Err r
+decided_of (Ok _) valid plan met free = pick valid (allowed_by plan met free) (Err Segment)
 
 -- what a begin leaves of the slot p that it takes
 pub record Admits : Type 0 where
-  pub answer : Begun
+  pub answer : Result (Option ℕ) Refusal
   pub blockers : Blockers
   pub state : State
   pub scratch : List ℕ
 
 -- what a call answers that leaves the slot and the scratch so: none where there is no request to make
-abbrev pub admission_by : Begun → Blockers → State → Result (Option Admission) Refusal
-admission_by NoRequest b x = Ok None
-admission_by (Admitted p) b x = Ok (Some (record { slot = p; blockers = b; state = x }))
-admission_by (BeginRefused r) b x = Err r
+abbrev pub admission_by : Result (Option ℕ) Refusal → Blockers → State → Result (Option Admission) Refusal
+admission_by (Ok None) b x = Ok None
+admission_by (Ok (Some p)) b x = Ok (Some (record { slot = p; blockers = b; state = x }))
+admission_by (Err r) b x = Err r
 
 abbrev pub admission : Admits → Result (Option Admission) Refusal
 admission a = admission_by a.answer a.blockers a.state
@@ -199,42 +193,42 @@ admission a = admission_by a.answer a.blockers a.state
 abbrev pub AdmitGives : Admits → Result (Option Admission) Refusal → List ℕ → Type 0
 AdmitGives a r scratch = (r ≡ admission a) × (scratch ≡ a.scratch)
 
-abbrev pub admit_none : Blockers → Begun → List ℕ → Admits
+abbrev pub admit_none : Blockers → Result (Option ℕ) Refusal → List ℕ → Admits
 admit_none b a scratch = record { answer = a; blockers = b; state = vacant; scratch = scratch }
 
 -- A dock of no call's making may have a blocker where the slot is free: the begin is then refused, and changes nothing. No dock that calls
 -- made is refused so: MadeLaws of crate theorem_lists.
-abbrev pub admit_by : Outcome → Blockers → ℕ → State → Entering → Admits
+abbrev pub admit_by : Result (Unit {0}) Refusal → Blockers → ℕ → State → Entering → Admits
 admit_by o b p x e =
     when_done o (record {
-      answer = Admitted p;
+      answer = (Ok (Some p));
       blockers = e.blockers;
       state = x;
       scratch = e.scratch;
-    }) (λ r. admit_none b (BeginRefused r) e.scratch)
+    }) (λ r. admit_none b (Err r) e.scratch)
 
-abbrev pub admit_at : Blockers → ℕ → ℕ → IoVector → List ℕ → List ℕ → Plan → Admits
-admit_at b p bounce v memory scratch NothingToDo = admit_none b NoRequest scratch
-admit_at b p bounce v memory scratch (PlanRefused r) = admit_none b (BeginRefused r) scratch
-admit_at b p bounce v memory scratch (Started x) =
+abbrev pub admit_at : Blockers → ℕ → ℕ → IoVector → List ℕ → List ℕ → Result (Option State) Refusal → Admits
+admit_at b p bounce v memory scratch (Ok None) = admit_none b (Ok None) scratch
+admit_at b p bounce v memory scratch (Err r) = admit_none b (Err r) scratch
+admit_at b p bounce v memory scratch (Ok (Some x)) =
     admit_by (enter_at b p (p * bounce) x v memory scratch).outcome b p x (enter_at b p (p * bounce) x v memory scratch)
 
 -- the slot that a plan takes lies in the dock, its share in a scratch of n bytes, and its first stage in the share
-abbrev pub PlanInShare : ℕ → ℕ → ℕ → Plan → Type 0
-PlanInShare p bounce n NothingToDo = Unit {0}
-PlanInShare p bounce n (PlanRefused r) = Unit {0}
-PlanInShare p bounce n (Started x) = (p < 8) × (is_sound bounce x ≡ true) × (8 * bounce ≤ n)
+abbrev pub PlanInShare : ℕ → ℕ → ℕ → Result (Option State) Refusal → Type 0
+PlanInShare p bounce n (Ok None) = Unit {0}
+PlanInShare p bounce n (Err r) = Unit {0}
+PlanInShare p bounce n (Ok (Some x)) = (p < 8) × (is_sound bounce x ≡ true) × (8 * bounce ≤ n)
 
 -- ---- begin
 
 -- what a begin gives back: the dock, the answer, and the scratch as it leaves it
 pub record Begins : Type 0 where
   pub dock : Dock
-  pub answer : Begun
+  pub answer : Result (Option ℕ) Refusal
   pub scratch : List ℕ
 
 -- a call answers r and leaves the dock d and this scratch, as b has them
-abbrev pub BeginGives : Begins → Begun → Dock → List ℕ → Type 0
+abbrev pub BeginGives : Begins → Result (Option ℕ) Refusal → Dock → List ℕ → Type 0
 BeginGives b r d scratch = (r ≡ b.answer) × (d ≡ b.dock) × (scratch ≡ b.scratch)
 
 -- the answer and the scratch of a call
@@ -251,16 +245,16 @@ with_job d p b x v = record {
 }
 
 -- stored in the dock with its vector, where it is admitted
-abbrev pub stored_with_by : Begun → Dock → IoVector → Admits → Begins
-stored_with_by NoRequest d v a = record { dock = d; answer = NoRequest; scratch = a.scratch }
-stored_with_by (Admitted p) d v a = record { dock = with_job d p a.blockers a.state v; answer = Admitted p; scratch = a.scratch }
-stored_with_by (BeginRefused r) d v a = record { dock = d; answer = BeginRefused r; scratch = a.scratch }
+abbrev pub stored_with_by : Result (Option ℕ) Refusal → Dock → IoVector → Admits → Begins
+stored_with_by (Ok None) d v a = record { dock = d; answer = (Ok None); scratch = a.scratch }
+stored_with_by (Ok (Some p)) d v a = record { dock = with_job d p a.blockers a.state v; answer = (Ok (Some p)); scratch = a.scratch }
+stored_with_by (Err r) d v a = record { dock = d; answer = Err r; scratch = a.scratch }
 
 abbrev pub stored_with : Dock → IoVector → Admits → Begins
 stored_with d v a = stored_with_by a.answer d v a
 
 -- the plan of what is asked, where nothing refuses it, over m bytes of data and n of scratch
-abbrev pub decided_for : Dock → Asked → ℕ → ℕ → Plan
+abbrev pub decided_for : Dock → Asked → ℕ → ℕ → Result (Option State) Refusal
 decided_for d q m n =
     decided_of (lent_of d.settings d.buffers m n) (is_valid m (vector_for q)) (plan_for d.settings d.buffers q)
     (overlaps_of d.states d.vectors q.job (vector_for q)) (first_free d.states)

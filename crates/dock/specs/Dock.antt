@@ -1,17 +1,13 @@
 -- The dock: settings, lent buffers, blockers, and for each of the 8 slots a job's state and vector. Document 01, "Settings" and "Events".
-use Rattle.std.specs.Prelude.{Bool, true, false, ◌&&◌, ◌||◌, not, List, [], ◌∷◌, ℕ, suc, ◌*◌, ltb, eqb, get_or, replicate}
+use Rattle.std.specs.Prelude.{Bool, true, false, ◌&&◌, ◌||◌, not, List, [], ◌∷◌, ℕ, suc, ◌*◌, ltb, eqb, get_or, replicate, Result, Ok, Err}
 use Rattle.arithmetic.specs.Rounding.{pick}
 use Rattle.arithmetic.specs.Refusals.{when_done}
 use Rattle.arithmetic.specs.Loops.{any_below}
 use Rattle.arithmetic.specs.Offsets.{buffer_at, range_of}
 use Rattle.arithmetic.specs.Settings.{opening_of, profile_of, alignments}
 use Rattle.arithmetic.specs.declared.refusals.Refusal.TheVariants.{Buffer}
-use Rattle.arithmetic.specs.declared.refusals.Outcome.{Outcome}
-use Rattle.arithmetic.specs.declared.refusals.Outcome.TheVariants.{Done, Refused}
 use Rattle.arithmetic.specs.declared.settings.Settings.{Settings}
 use Rattle.arithmetic.specs.declared.settings.Buffers.{Buffers}
-use Rattle.arithmetic.specs.declared.settings.Profile.{Profile}
-use Rattle.arithmetic.specs.declared.settings.Profile.TheVariants.{Of, Refused as NoProfile}
 use Rattle.vectors.specs.Vectors.{vector_of, segments_of, overlap_of, self_overlap_of}
 use Rattle.vectors.specs.declared.vector.IoVector.{IoVector}
 use Rattle.blockers.specs.Blockers.{no_blockers, waits_of}
@@ -24,6 +20,8 @@ use Rattle.stages.specs.declared.state.Course.TheVariants.{Last}
 use Rattle.stages.specs.declared.state.State.{State}
 use Rattle.dock.specs.declared.dock.Dock.{Dock}
 use Rattle.dock.specs.declared.open.Opened.{Opened}
+use Rattle.arithmetic.specs.declared.refusals.Refusal.{Refusal}
+use Rattle.arithmetic.specs.declared.settings.Alignments.{Alignments}
 
 -- ---- opening
 
@@ -61,9 +59,9 @@ fresh s b = record { settings = s; buffers = b; blockers = no_blockers; states =
 unfoldable pub open_of : Settings → Buffers → Opened
 open_of s b = record { dock = fresh s b; outcome = opening_of s b }
 
-abbrev pub open_by : Profile → ℕ → Buffers → Opened
-open_by (Of a) bounce b = open_of (record { align = a; bounce = bounce }) b
-open_by (NoProfile r) bounce b = record { dock = fresh (record { align = alignments 0 0 0 0; bounce = bounce }) b; outcome = Refused r }
+abbrev pub open_by : Result Alignments Refusal → ℕ → Buffers → Opened
+open_by (Ok a) bounce b = open_of (record { align = a; bounce = bounce }) b
+open_by (Err r) bounce b = record { dock = fresh (record { align = alignments 0 0 0 0; bounce = bounce }) b; outcome = Err r }
 
 unfoldable pub open_profile_of : ℕ → ℕ → Buffers → Opened
 open_profile_of index bounce b = open_by (profile_of index) bounce b
@@ -81,8 +79,8 @@ unfoldable pub lent_fits : Buffers → ℕ → ℕ → Bool
 lent_fits b m n = eqb m b.«data».length && eqb n b.scratch.length
 
 -- what a begin is lent: 201 and 205 as at opening, then 205
-unfoldable pub lent_of : Settings → Buffers → ℕ → ℕ → Outcome
-lent_of s b m n = when_done (opening_of s b) (pick (lent_fits b m n) Done (Refused Buffer)) Refused
+unfoldable pub lent_of : Settings → Buffers → ℕ → ℕ → Result (Unit {0}) Refusal
+lent_of s b m n = when_done (opening_of s b) (pick (lent_fits b m n) (Ok tt) (Err Buffer)) Err
 
 -- "A request is out, or due": the slot's job has one and does not wait
 unfoldable pub is_out_by : Blockers → State → ℕ → Bool

@@ -1,14 +1,12 @@
 -- What the calls on a slot rely on: which jobs are sound there, what is filled and copied out then, the lowest free slot, and how a begin
 -- is decided. Assumes nothing.
 use Rattle.std.specs.Prelude.{◌≡◌, refl, Bool, true, false, ◌&&◌, ◌||◌, List, [], ◌∷◌, ℕ, zero, suc, ◌+◌, ◌*◌, ◌<◌, leb, ltb, eqb, length}
-use Rattle.std.specs.Prelude.{get_or}
+use Rattle.std.specs.Prelude.{get_or, Result, Ok, Err, Option, Some, None}
 use Rattle.std.proofs.Common.{sym, ap, ◌∙◌, add-one, arith, ltb-true, lt-ltb, le-leb}
 use Rattle.arithmetic.specs.Rounding.{pick}
 use Rattle.arithmetic.specs.Refusals.{when_done}
 use Rattle.arithmetic.specs.Loops.{any_below}
 use Rattle.arithmetic.specs.declared.refusals.Refusal.TheVariants.{Overlap, Full, Buffer, NoAnswer}
-use Rattle.arithmetic.specs.declared.refusals.Outcome.{Outcome}
-use Rattle.arithmetic.specs.declared.refusals.Outcome.TheVariants.{Done, Refused}
 use Rattle.arithmetic.specs.Settings.{opening_of}
 use Rattle.arithmetic.specs.SettingsLaws.{and_left, and_right, opened}
 use Rattle.arithmetic.specs.declared.settings.Settings.{Settings}
@@ -26,8 +24,6 @@ use Rattle.stages.specs.declared.state.Job.TheVariants.{Read, Write, Zeroes, All
 use Rattle.stages.specs.declared.state.State.{State}
 use Rattle.stages.specs.declared.told.Step.{Step}
 use Rattle.stages.specs.declared.told.Step.TheVariants.{Stays, Ends, Enters}
-use Rattle.stages.specs.declared.plan.Plan.{Plan}
-use Rattle.stages.specs.declared.plan.Plan.TheVariants.{Done as NothingToDo, Started, Refused as PlanRefused}
 use Rattle.dock.specs.Dock.{no_state, lent_fits, lent_of, meets_at, meets_itself, overlaps_of, first_free}
 use Rattle.dock.specs.Begin.{Filled, fills, is_bounced_write, merged, filled, decided_of, admit_at, stored_with, selected_of}
 use Rattle.dock.specs.Begin.{plan_of, begin_of}
@@ -36,7 +32,7 @@ use Rattle.dock.specs.Tell.{Handed, hands, is_bounced_read, copied_out, handed, 
 use Rattle.dock.specs.Slots.{filled_share, handed_share, PlanSound, StepSound}
 use Rattle.dock.specs.declared.dock.Dock.{Dock}
 use Rattle.dock.specs.declared.begin.Asked.{Asked}
-use Rattle.dock.specs.declared.tell.Answered.TheVariants.{Leads, Refused as NoLead}
+use Rattle.arithmetic.specs.declared.refusals.Refusal.{Refusal}
 
 -- ---- a sound job is sound in each of the eight slots, over the buffers of opening
 
@@ -52,7 +48,7 @@ pub filled_share_lem : (p : ℕ) (s : Settings) (b : Buffers) (x : State) (v : I
     → filled_share p s b x v memory scratch ≡ filled (p * s.bounce) x v memory scratch
 unfolding filled_share filled
 filled_share_lem p s b x v memory scratch e = rw e (go (is_bounced_write x.phase) (merged (p * s.bounce) x v memory scratch)
-    (fills Done scratch))
+    (fills (Ok tt) scratch))
   where
     go : (t : Bool) (k z : Filled) → pick t (pick t k z) z ≡ pick t k z
     go true k z = refl
@@ -63,7 +59,7 @@ pub handed_share_lem : (p : ℕ) (s : Settings) (b : Buffers) (x : State) (code 
     → handed_share p s b x code v memory scratch ≡ handed (p * s.bounce) x code v memory scratch
 unfolding handed_share handed
 handed_share_lem p s b x code v memory scratch e = rw e (go (is_bounced_read x.phase && eqb code 0)
-    (copied_out (p * s.bounce) x v memory scratch) (hands Done memory))
+    (copied_out (p * s.bounce) x v memory scratch) (hands (Ok tt) memory))
   where
     go : (t : Bool) (k z : Handed) → pick t (pick t k z) z ≡ pick t k z
     go true k z = refl
@@ -72,11 +68,11 @@ handed_share_lem p s b x code v memory scratch e = rw e (go (is_bounced_read x.p
 -- ---- a code is told
 
 -- a code that leads on leads where the stage says
-pub leads_told : (s : Settings) (x : State) (code : ℕ) (t : Step) → answered_of s x code ≡ Leads t → told_of s x code ≡ t
+pub leads_told : (s : Settings) (x : State) (code : ℕ) (t : Step) → answered_of s x code ≡ Ok t → told_of s x code ≡ t
 unfolding answered_of
 leads_told s x code t e = leads (ltb code 200) e
   where
-    leads : (u : Bool) → pick u (Leads (told_of s x code)) (NoLead NoAnswer) ≡ Leads t → told_of s x code ≡ t
+    leads : (u : Bool) → pick u (Ok (told_of s x code)) (Err NoAnswer) ≡ Ok t → told_of s x code ≡ t
     leads true e = cc
     leads false e = let z : ◌≡◌ {A = ℕ} 0 1 = cc in absurd (omega arith)
 
@@ -91,7 +87,7 @@ sound_share x s b k = and_left (is_sound s.bounce x) (leb (8 * s.bounce) b.scrat
 
 pub leads_sound : (p : ℕ) (s : Settings) (b : Buffers) (x : State) (code m n : ℕ) → p < 8 → lent_fits b m n ≡ true
     → is_sound_in x s b ≡ true →
-    (t : Step) → answered_of s x code ≡ Leads t
+    (t : Step) → answered_of s x code ≡ Ok t
     → StepSound p s b x n t
 leads_sound p s b x code m n h l k t e = by t (leads_told s x code t e)
   where
@@ -169,7 +165,7 @@ lowest_free (x ∷ xs) h = go (is_free x.phase) refl h (λ l. lowest_free xs l)
 
 -- the first stage of a plan is sound
 pub plan_sound : (j : Job) (s : Settings) (b : Buffers) (o : StoreOffset) (n : ℕ) (v : IoVector) (x : State)
-    → plan_of j s b o n v ≡ Started x → is_sound s.bounce x ≡ true
+    → plan_of j s b o n v ≡ (Ok (Some x)) → is_sound s.bounce x ≡ true
 plan_sound Read s b o n v x e = (read_opens s o v.total _ x e).sound
 plan_sound Write s b o n v x e = (write_opens s o v.total _ x e).sound
 plan_sound Zeroes s b o n v x e = (zero_opens s o n false x e).sound
@@ -177,61 +173,66 @@ plan_sound AllocatedZeroes s b o n v x e = (zero_opens s o n true x e).sound
 plan_sound Discard s b o n v x e = (discard_opens s o n x e).sound
 
 -- a plan that was decided to start: nothing refused it, and it has its slot
-pub record Permitted (l : Outcome) (t : Bool) (plan : Plan) (met : Bool) (f : ℕ) (x : State) : Type 0 where
-  pub lent : l ≡ Done
+pub record Permitted (l : Result (Unit {0}) Refusal) (t : Bool) (plan : Result (Option State) Refusal) (met : Bool) (f : ℕ) (x : State) :
+    Type 0 where
+  pub lent : l ≡ Ok tt
   pub valid : t ≡ true
-  pub planned : plan ≡ Started x
+  pub planned : plan ≡ Ok (Some x)
   pub apart : met ≡ false
   pub slot : f < 8
 
-pub started : (l : Outcome) (t : Bool) (plan : Plan) (met : Bool) (f : ℕ) (x : State) → decided_of l t plan met f ≡ Started x →
+pub started : (l : Result (Unit {0}) Refusal) (t : Bool) (plan : Result (Option State) Refusal) (met : Bool) (f : ℕ) (x : State)
+    → decided_of l t plan met f ≡ (Ok (Some x)) →
     Permitted l t plan met f x
-started (Refused r) t plan met f x e = absurd (let z : ◌≡◌ {A = ℕ} 0 1 = cc in omega arith)
-started Done false plan met f x e = absurd (let z : ◌≡◌ {A = ℕ} 0 1 = cc in omega arith)
-started Done true NothingToDo met f x e = absurd (let z : ◌≡◌ {A = ℕ} 0 1 = cc in omega arith)
-started Done true (PlanRefused r) met f x e = absurd (let z : ◌≡◌ {A = ℕ} 0 1 = cc in omega arith)
-started Done true (Started y) met f x e = go met (ltb f 8) refl e
+started (Err r) t plan met f x e = absurd (let z : ◌≡◌ {A = ℕ} 0 1 = cc in omega arith)
+started (Ok _) false plan met f x e = absurd (let z : ◌≡◌ {A = ℕ} 0 1 = cc in omega arith)
+started (Ok _) true (Ok None) met f x e = absurd (let z : ◌≡◌ {A = ℕ} 0 1 = cc in omega arith)
+started (Ok _) true (Err r) met f x e = absurd (let z : ◌≡◌ {A = ℕ} 0 1 = cc in omega arith)
+started (Ok _) true (Ok (Some y)) met f x e = go met (ltb f 8) refl e
   where
-    go : (a u : Bool) → ltb f 8 ≡ u → pick a (PlanRefused Overlap) (pick u (Started y) (PlanRefused Full)) ≡ Started x →
-        Permitted Done true (Started y) a f x
+    go : (a u : Bool) → ltb f 8 ≡ u → pick a (Err Overlap) (pick u (Ok (Some y)) (Err Full)) ≡ (Ok (Some x)) →
+        Permitted (Ok (tt {0})) true (Ok (Some y)) a f x
     go true u h e = absurd (let z : ◌≡◌ {A = ℕ} 0 1 = cc in omega arith)
     go false true h e = record { lent = refl; valid = refl; planned = e; apart = refl; slot = ltb-true f 8 h }
     go false false h e = absurd (let z : ◌≡◌ {A = ℕ} 0 1 = cc in omega arith)
 
 -- what is lent fits: as at opening, and the lengths
-pub lent_done : (s : Settings) (b : Buffers) (m n : ℕ) → lent_of s b m n ≡ Done → (opening_of s b ≡ Done) × (lent_fits b m n ≡ true)
+pub lent_done : (s : Settings) (b : Buffers) (m n : ℕ) → lent_of s b m n ≡ (Ok tt) → (opening_of s b ≡ (Ok tt)) × (lent_fits b m n ≡ true)
 unfolding lent_of
 lent_done s b m n e = go (opening_of s b) (lent_fits b m n) e
   where
-    go : (o : Outcome) (t : Bool) → when_done o (pick t Done (Refused Buffer)) Refused ≡ Done → (o ≡ Done) × (t ≡ true)
-    go Done true e = (refl, refl)
-    go Done false e = let z : ◌≡◌ {A = ℕ} 0 1 = cc in absurd (omega arith)
-    go (Refused r) t e = let z : ◌≡◌ {A = ℕ} 0 1 = cc in absurd (omega arith)
+    go : (o : Result (Unit {0}) Refusal) (t : Bool) → when_done o (pick t (Ok (tt {0})) (Err Buffer)) Err ≡ (Ok (tt {0}))
+        → (o ≡ (Ok (tt {0}))) × (t ≡ true)
+    go (Ok _) true e = (refl, refl)
+    go (Ok _) false e = let z : ◌≡◌ {A = ℕ} 0 1 = cc in absurd (omega arith)
+    go (Err r) t e = let z : ◌≡◌ {A = ℕ} 0 1 = cc in absurd (omega arith)
 
 -- over what a begin is lent, a job whose stage is sound is sound in a slot of the eight
-lent_sound : (s : Settings) (b : Buffers) (m n p : ℕ) (x : State) → lent_of s b m n ≡ Done → p < 8 → is_sound s.bounce x ≡ true →
+lent_sound : (s : Settings) (b : Buffers) (m n p : ℕ) (x : State) → lent_of s b m n ≡ (Ok tt) → p < 8 → is_sound s.bounce x ≡ true →
     is_sound_at p x s b n ≡ true
 unfolding is_sound_at is_sound_in
 lent_sound s b m n p x d h w =
     let k = lent_done s b m n d in
     sound_here p x s b m n h k.1 (simp w (le-leb (8 * s.bounce) b.scratch.length (omega (arith, (opened s b k.0).room))))
 
-pub decided_sound : (j : Job) (s : Settings) (b : Buffers) (o : StoreOffset) (k : ℕ) (v : IoVector) (m n : ℕ) (l : Outcome)
-    → l ≡ lent_of s b m n → (t : Bool) (plan : Plan) → plan ≡ plan_of j s b o k v
-    → (met : Bool) (f : ℕ) (q : Plan) → q ≡ decided_of l t plan met f → PlanSound f s b n q
-decided_sound j s b o k v m n l le t plan pe met f NothingToDo e = tt
-decided_sound j s b o k v m n l le t plan pe met f (PlanRefused r) e = tt
-decided_sound j s b o k v m n l le t plan pe met f (Started x) e =
+pub decided_sound : (j : Job) (s : Settings) (b : Buffers) (o : StoreOffset) (k : ℕ) (v : IoVector) (m n : ℕ) (l : Result (Unit {0})
+    Refusal)
+    → l ≡ lent_of s b m n → (t : Bool) (plan : Result (Option State) Refusal) → plan ≡ plan_of j s b o k v
+    → (met : Bool) (f : ℕ) (q : Result (Option State) Refusal) → q ≡ decided_of l t plan met f → PlanSound f s b n q
+decided_sound j s b o k v m n l le t plan pe met f (Ok None) e = tt
+decided_sound j s b o k v m n l le t plan pe met f (Err r) e = tt
+decided_sound j s b o k v m n l le t plan pe met f (Ok (Some x)) e =
     let w = started l t plan met f x (sym e) in
     lent_sound s b m n f x (sym le ∙ w.lent) w.slot (plan_sound j s b o k v x (sym pe ∙ w.planned))
 
 -- what is asked, planned, decided and admitted, each as its definition says, is begun
 module _ (d : Dock) (q : Asked) (memory scratch : List ℕ) (v : IoVector) (ve : v ≡ selected_of q.job q.vector) (met : Bool)
     (me : met ≡ overlaps_of d.states d.vectors q.job v)
-    (l : Outcome) (le : l ≡ lent_of d.settings d.buffers (length memory) (length scratch)) (f : ℕ) (fe : f ≡ first_free d.states)
-    (plan : Plan) (pe : plan ≡ plan_of q.job d.settings d.buffers q.offset q.length q.vector) (t : Bool)
+    (l : Result (Unit {0}) Refusal) (le : l ≡ lent_of d.settings d.buffers (length memory) (length scratch)) (f : ℕ) (fe : f ≡ first_free
+    d.states)
+    (plan : Result (Option State) Refusal) (pe : plan ≡ plan_of q.job d.settings d.buffers q.offset q.length q.vector) (t : Bool)
     (te : t ≡ is_valid (length memory) v)
-    (r : Plan) (re : r ≡ decided_of l t plan met f) where
+    (r : Result (Option State) Refusal) (re : r ≡ decided_of l t plan met f) where
   pub begin_whole : stored_with d v (admit_at d.blockers f d.settings.bounce v memory scratch r) ≡ begin_of d q memory scratch
   unfolding begin_of
   begin_whole = cc

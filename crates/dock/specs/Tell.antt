@@ -4,8 +4,6 @@ use Rattle.arithmetic.specs.Rounding.{pick}
 use Rattle.arithmetic.specs.Refusals.{when_done}
 use Rattle.arithmetic.specs.declared.refusals.Refusal.{Refusal}
 use Rattle.arithmetic.specs.declared.refusals.Refusal.TheVariants.{Segment, Buffer, Slot, NoAnswer}
-use Rattle.arithmetic.specs.declared.refusals.Outcome.{Outcome}
-use Rattle.arithmetic.specs.declared.refusals.Outcome.TheVariants.{Done, Refused}
 use Rattle.arithmetic.specs.declared.settings.Settings.{Settings}
 use Rattle.arithmetic.specs.declared.settings.Buffers.{Buffers}
 use Rattle.vectors.specs.Vectors.{scatter_of, segments_of, copies, vector_of}
@@ -26,30 +24,26 @@ use Rattle.dock.specs.Next.{is_sound_in}
 use Rattle.dock.specs.declared.dock.Dock.{Dock}
 use Rattle.dock.specs.declared.tell.Telling.{Telling}
 use Rattle.dock.specs.declared.tell.Stepping.{Stepping}
-use Rattle.dock.specs.declared.tell.Answered.{Answered}
-use Rattle.dock.specs.declared.tell.Answered.TheVariants.{Leads, Refused as NoLead}
-use Rattle.dock.specs.declared.tell.Collected.{Collected}
-use Rattle.dock.specs.declared.tell.Collected.TheVariants.{Final, Refused as NotCollected}
 use Rattle.dock.specs.declared.tell.Collects.{Collects}
 
 -- ---- tell, as far as one slot goes
 
 -- the blockers once the slot's job has left its stage
 unfoldable pub blockers_without : Blockers → ℕ → State → Changed
-blockers_without b p x = pick (is_blocking x.phase) (left_of p b) (record { blockers = b; outcome = Done })
+blockers_without b p x = pick (is_blocking x.phase) (left_of p b) (record { blockers = b; outcome = (Ok tt) })
 
 -- "Padded: one read of the padded range into the share, then the asked bytes are copied out"; "a failed padded read leaves them unchanged"
 pub record Handed : Type 0 where
   pub memory : List ℕ
-  pub outcome : Outcome
+  pub outcome : Result (Unit {0}) Refusal
 
-abbrev pub hands : Outcome → List ℕ → Handed
+abbrev pub hands : Result (Unit {0}) Refusal → List ℕ → Handed
 hands o m = record { memory = m; outcome = o }
 
 -- n bytes of the scratch from a on, into the vector's segments
 unfoldable pub copied_at : ℕ → ℕ → IoVector → List ℕ → List ℕ → Handed
 copied_at a n v memory scratch =
-    pick (copies memory v n) (hands Done (scatter_of memory (segments_of v) (take n (drop a scratch)))) (hands (Refused Segment) memory)
+    pick (copies memory v n) (hands (Ok tt) (scatter_of memory (segments_of v) (take n (drop a scratch)))) (hands (Err Segment) memory)
 
 abbrev pub copied_out : ℕ → State → IoVector → List ℕ → List ℕ → Handed
 copied_out share x v memory scratch = copied_at (share + x.stage.head.0) (size_of x.stage.asked) v memory scratch
@@ -68,10 +62,10 @@ is_bounced_read DiscardRequest = false
 
 unfoldable pub handed : ℕ → State → ℕ → IoVector → List ℕ → List ℕ → Handed
 handed share x code v memory scratch =
-    pick (is_bounced_read x.phase && eqb code 0) (copied_out share x v memory scratch) (record { memory = memory; outcome = Done })
+    pick (is_bounced_read x.phase && eqb code 0) (copied_out share x v memory scratch) (record { memory = memory; outcome = (Ok tt) })
 
 pub record Stepped : Type 0 where
-  pub outcome : Outcome
+  pub outcome : Result (Unit {0}) Refusal
   pub blockers : Blockers
   pub state : State
   pub memory : List ℕ
@@ -86,7 +80,7 @@ abbrev pub StepGives : Stepped → Result Stepping Refusal → List ℕ → List
 StepGives t r memory scratch = (r ≡ stepping t) × (memory ≡ t.memory) × (scratch ≡ t.scratch)
 
 abbrev pub refused_step : Blockers → State → Refusal → List ℕ → List ℕ → Stepped
-refused_step b x r memory scratch = record { outcome = Refused r; blockers = b; state = x; memory = memory; scratch = scratch }
+refused_step b x r memory scratch = record { outcome = Err r; blockers = b; state = x; memory = memory; scratch = scratch }
 
 -- A dock of no call's making may lack the blocker that leaves, have one where another enters, or a vector of other bytes than the stage's:
 -- the tell is then refused, and changes nothing. Law `made_tell` of crate theorem_lists: no dock that calls made is refused so.
@@ -136,12 +130,12 @@ StepInShare share n (Ends y) = Unit {0}
 StepInShare share n (Enters y) = InShare share y n
 
 -- "0 done, 1 unsupported, 2 to 199 failed, 200 to 255 no answer"
-unfoldable pub answered_of : Settings → State → ℕ → Answered
-answered_of s x code = pick (ltb code 200) (Leads (told_of s x code)) (NoLead NoAnswer)
+unfoldable pub answered_of : Settings → State → ℕ → Result Step Refusal
+answered_of s x code = pick (ltb code 200) (Ok (told_of s x code)) (Err NoAnswer)
 
-abbrev pub answered_by : Answered → Blockers → ℕ → ℕ → State → ℕ → IoVector → List ℕ → List ℕ → Stepped
-answered_by (NoLead r) b p share x code v memory scratch = refused_step b x r memory scratch
-answered_by (Leads t) b p share x code v memory scratch = stepped_at b p share x code v memory scratch t
+abbrev pub answered_by : Result Step Refusal → Blockers → ℕ → ℕ → State → ℕ → IoVector → List ℕ → List ℕ → Stepped
+answered_by (Err r) b p share x code v memory scratch = refused_step b x r memory scratch
+answered_by (Ok t) b p share x code v memory scratch = stepped_at b p share x code v memory scratch t
 
 -- "Tell: [..] 208, 209"
 unfoldable pub told_at : Blockers → ℕ → Settings → Buffers → State → IoVector → ℕ → List ℕ → List ℕ → Stepped
@@ -158,12 +152,12 @@ told_in d p code memory scratch = told_at d.blockers p d.settings d.buffers (sta
 
 pub record Told : Type 0 where
   pub dock : Dock
-  pub outcome : Outcome
+  pub outcome : Result (Unit {0}) Refusal
   pub memory : List ℕ
   pub scratch : List ℕ
 
 -- a call answers r and leaves the dock d, this data and this scratch, as t has them
-abbrev pub TellGives : Told → Outcome → Dock → List ℕ → List ℕ → Type 0
+abbrev pub TellGives : Told → Result (Unit {0}) Refusal → Dock → List ℕ → List ℕ → Type 0
 TellGives t r d memory scratch = (r ≡ t.outcome) × (d ≡ t.dock) × (memory ≡ t.memory) × (scratch ≡ t.scratch)
 
 -- the answer of a call, and the data and the scratch as it leaves them
@@ -181,14 +175,14 @@ accepted d p b y =
         states = set d.states p y;
         vectors = d.vectors;
       };
-      outcome = Done;
+      outcome = (Ok tt);
     }
 
 abbrev pub refused_tell : Dock → List ℕ → List ℕ → Refusal → Told
-refused_tell d memory scratch r = record { dock = d; outcome = Refused r; memory = memory; scratch = scratch }
+refused_tell d memory scratch r = record { dock = d; outcome = Err r; memory = memory; scratch = scratch }
 
 -- stored in the dock where it is done
-abbrev pub stored_by : Outcome → Dock → ℕ → Stepped → Told
+abbrev pub stored_by : Result (Unit {0}) Refusal → Dock → ℕ → Stepped → Told
 stored_by o d p t = when_done o (tells (accepted d p t.blockers t.state) t.memory t.scratch)
     (refused_tell d t.memory t.scratch)
 
@@ -211,10 +205,10 @@ unfoldable pub collect_of : Dock → ℕ → ℕ → ℕ → Collects
 collect_of d p m n =
     pick (lent_fits d.buffers m n)
     (pick (ltb p 8 && has_ended (state_at d p).phase)
-    (record { dock = with_job d p d.blockers vacant (vector_of []); answer = Final (state_at d p).answer })
-    (record { dock = d; answer = NotCollected Slot }))
-    (record { dock = d; answer = NotCollected Buffer })
+    (record { dock = with_job d p d.blockers vacant (vector_of []); answer = Ok (state_at d p).answer })
+    (record { dock = d; answer = Err Slot }))
+    (record { dock = d; answer = Err Buffer })
 
 -- a call answers r and leaves the dock d, as c has them
-abbrev pub CollectGives : Collects → Collected → Dock → Type 0
+abbrev pub CollectGives : Collects → Result ℕ Refusal → Dock → Type 0
 CollectGives c r d = (r ≡ c.answer) × (d ≡ c.dock)

@@ -3,15 +3,16 @@ ghost use Rattle.std.specs.Prelude.{◌≡◌, length};
 ghost use Rattle.dock.specs.Begin.{InShare, begins, blockers_with, is_aligned, read_of, write_of, zeroes_of, discard_of, selected_of};
 ghost use Rattle.dock.specs.Begin.{plan_of, begin_of, enter_at, EnterGives, decided_of, PlanInShare, admit_at, AdmitGives};
 ghost use Rattle.blockers.specs.Blockers.{changed};
+ghost use Rattle.dock.specs.Dock.{overlaps_of};
 ghost use Rattle.vectors.specs.Vectors.{alignment_of};
 
 use crate::bytes::Place;
 use crate::dock::{Dock, SLOTS, check_lent, first_free, meets, meets_itself};
 use arithmetic::offsets::StoreOffset;
-use arithmetic::refusals::{Outcome, Refusal};
+use arithmetic::refusals::Refusal;
 use arithmetic::settings::{Alignments, Buffers, Lent, Settings};
 use blockers::Blockers;
-use stages::plan::{Plan, plan_discard, plan_read, plan_write, plan_zeroes, zero_job};
+use stages::plan::{plan_discard, plan_read, plan_write, plan_zeroes, zero_job};
 use stages::state::{Job, State, is_blocking};
 use vectors::vector::IoVector;
 
@@ -25,18 +26,10 @@ pub struct Asked {
     pub vector: IoVector,
 }
 
-// What a begin answers.
-#[derive(Clone, Copy)]
-pub enum Begun {
-    Done, // no request to make: the job takes no slot
-    Admitted(usize), // the job's slot
-    Refused(Refusal),
-}
-
 // By value, the dock beside the answer: it comes back from a refused begin too (`begin_of`).
 #[derive(Clone, Copy)]
 pub struct Beginning {
-    pub answer: Begun,
+    pub answer: Result<Option<usize>, Refusal>,
     pub dock: Dock,
 }
 
@@ -121,7 +114,11 @@ fn is_aligned(v: IoVector, align: Alignments, data: Lent) -> bool
 }
 
 // The first stage of what is asked: 207 and 206, or no request to make.
-pub fn plan_asked(asked: Asked, settings: Settings, buffers: Buffers) -> Plan
+pub fn plan_asked(
+    asked: Asked,
+    settings: Settings,
+    buffers: Buffers,
+) -> Result<Option<State>, Refusal>
     ensures { result ≡ plan_of asked.job settings buffers asked.offset asked.length asked.vector }
 {
     let v = asked.vector;
@@ -136,25 +133,29 @@ pub fn plan_asked(asked: Asked, settings: Settings, buffers: Buffers) -> Plan
 }
 
 // The plan, where nothing refuses it: 201 and 205 by what is lent, 202, the plan's own, 203, 204.
-pub fn decide(lent: Outcome, valid: bool, plan: Plan, met: bool, free: usize) -> Plan
+pub fn decide(
+    lent: Result<(), Refusal>,
+    valid: bool,
+    plan: Result<Option<State>, Refusal>,
+    met: bool,
+    free: usize,
+) -> Result<Option<State>, Refusal>
     ensures { result ≡ decided_of lent valid plan met free }
 {
-    if let Outcome::Refused(r) = lent {
-        return Plan::Refused(r);
-    }
+    lent?;
     if !valid {
-        return Plan::Refused(Refusal::Segment);
+        return Err(Refusal::Segment);
     }
-    let Plan::Started(x) = plan else {
-        return plan;
+    let Some(x) = plan? else {
+        return Ok(None);
     };
     if met {
-        return Plan::Refused(Refusal::Overlap);
+        return Err(Refusal::Overlap);
     }
     if SLOTS <= free {
-        return Plan::Refused(Refusal::Full);
+        return Err(Refusal::Full);
     }
-    Plan::Started(x)
+    Ok(Some(x))
 }
 
 // The blockers once the stage of the job in `slot` has entered: strong for a padded write, none for a read.
@@ -186,10 +187,8 @@ impl Place {
         ensures { EnterGives (enter_at b self.now.slot self.now.share x self.now.vector «data».now scratch.old) result scratch.new }
     {
         let blockers = enter_blocker(b, self.slot, x)?;
-        match self.fill(x, data, scratch) {
-            Outcome::Done => Ok(blockers),
-            Outcome::Refused(r) => Err(r),
-        }
+        self.fill(x, data, scratch)?;
+        Ok(blockers)
     }
 }
 
@@ -198,7 +197,7 @@ fn admit(
     b: Blockers,
     slot: usize,
     bounce: u64,
-    plan: Plan,
+    plan: Result<Option<State>, Refusal>,
     v: IoVector,
     data: &[u8],
     scratch: &mut [u8],
@@ -206,10 +205,8 @@ fn admit(
     requires { PlanInShare slot bounce (length scratch.old) plan }
     ensures { AdmitGives (admit_at b slot bounce v «data».now scratch.old plan) result scratch.new }
 {
-    let state = match plan {
-        Plan::Done => return Ok(None),
-        Plan::Refused(r) => return Err(r),
-        Plan::Started(x) => x,
+    let Some(state) = plan? else {
+        return Ok(None);
     };
     let place = Place {
         slot,
@@ -225,6 +222,17 @@ fn admit(
 }
 
 impl Dock {
+    // Whether a job's vector meets itself, or that of a job in a slot, where one of the two reads.
+    fn meets_any(&self, job: Job, v: IoVector) -> bool
+        ensures { result ≡ overlaps_of self.now.states self.now.vectors job v }
+    {
+        let mut met = meets_itself(job, v);
+        for (i, x) in self.states.iter().enumerate() {
+            met |= meets(*x, self.vectors[i], job, v);
+        }
+        met
+    }
+
     // Begin what is asked, in the lowest free slot.
     #[tactic(auto, unfolding(crate::specs::Begin::begin_of))]
     pub fn begin(mut self, asked: Asked, data: &[u8], scratch: &mut [u8]) -> Beginning
@@ -234,10 +242,7 @@ impl Dock {
         let buffers = self.buffers;
         let job = asked.job;
         let v = select_vector(job, asked.vector);
-        let mut met = meets_itself(job, v);
-        for (i, x) in self.states.iter().enumerate() {
-            met |= meets(*x, self.vectors[i], job, v);
-        }
+        let met = self.meets_any(job, v);
         let lent = check_lent(settings, buffers, data.len(), scratch.len());
         let free = first_free(self.states);
         let first = plan_asked(asked, settings, buffers);
@@ -246,13 +251,13 @@ impl Dock {
             Ok(Some(job)) => job,
             Ok(None) => {
                 return Beginning {
-                    answer: Begun::Done,
+                    answer: Ok(None),
                     dock: self,
                 };
             }
             Err(r) => {
                 return Beginning {
-                    answer: Begun::Refused(r),
+                    answer: Err(r),
                     dock: self,
                 };
             }
@@ -261,7 +266,7 @@ impl Dock {
         self.states[job.slot] = job.state;
         self.vectors[job.slot] = v;
         Beginning {
-            answer: Begun::Admitted(job.slot),
+            answer: Ok(Some(job.slot)),
             dock: self,
         }
     }

@@ -7,7 +7,7 @@ ghost use Rattle.dock.specs.Slots.{filled_share, handed_share};
 ghost use Rattle.dock.specs.Next.{is_sound_at};
 
 use crate::next::is_sound_at;
-use arithmetic::refusals::{Outcome, Refusal};
+use arithmetic::refusals::Refusal;
 use arithmetic::settings::{Buffers, Settings};
 use stages::state::{Job, Phase, State, size};
 use vectors::bytes::fill_bytes;
@@ -35,34 +35,47 @@ pub fn is_bounced_read(p: Phase) -> bool
 // n bytes of what the job writes, its vector's or zeroes, into the scratch from `start` on. Here and in `copy_out` the vector's answer is
 // taken apart by `let .. else`, as document 01 has it.
 #[tactic(auto, unfolding(crate::specs::Begin::merged_at, crate::specs::Begin::source_of, crate::specs::Begin::source_fits))]
-fn merge(start: usize, n: usize, job: Job, v: IoVector, data: &[u8], scratch: &mut [u8]) -> Outcome
+fn merge(
+    start: usize,
+    n: usize,
+    job: Job,
+    v: IoVector,
+    data: &[u8],
+    scratch: &mut [u8],
+) -> Result<(), Refusal>
     requires { start + n ≤ length scratch.old }
     ensures { fills result scratch.new ≡ merged_at start n job v «data».now scratch.old }
 {
     let end = start + n;
     if is_write_job(job) {
         let copied = v.copy_into_slice(data, &mut scratch[start..end]);
-        let Outcome::Done = copied else {
+        let Ok(()) = copied else {
             return copied; // no vector over the data, or of another length: the scratch is as it was
         };
-        return Outcome::Done;
+        return Ok(());
     }
     fill_bytes(&mut scratch[start..end], 0);
-    Outcome::Done
+    Ok(())
 }
 
 // n bytes of the scratch from `start` on into the vector's segments.
 #[tactic(auto, unfolding(crate::specs::Tell::copied_at))]
-fn copy_out(start: usize, n: usize, v: IoVector, data: &mut [u8], scratch: &[u8]) -> Outcome
+fn copy_out(
+    start: usize,
+    n: usize,
+    v: IoVector,
+    data: &mut [u8],
+    scratch: &[u8],
+) -> Result<(), Refusal>
     requires { start + n ≤ length scratch.now }
     ensures { hands result «data».new ≡ copied_at start n v «data».old scratch.now }
 {
     let end = start + n;
     let copied = v.copy_from_slice(data, &scratch[start..end]);
-    let Outcome::Done = copied else {
+    let Ok(()) = copied else {
         return copied; // no vector over the data, or of another length: the data is as it was
     };
-    Outcome::Done
+    Ok(())
 }
 
 // Where a job is: its slot, where the slot's share of the scratch starts, and its vector, as long as it runs. That its bytes lie in the
@@ -77,12 +90,12 @@ pub(crate) struct Place {
 impl Place {
     // As the job comes to its write from the bounce buffer, the asked part of its share is filled.
     #[tactic(auto, unfolding(crate::specs::Begin::filled))]
-    pub(crate) fn fill(&self, x: State, data: &[u8], scratch: &mut [u8]) -> Outcome
+    pub(crate) fn fill(&self, x: State, data: &[u8], scratch: &mut [u8]) -> Result<(), Refusal>
         requires { InShare self.now.share x (length scratch.old) }
         ensures { fills result scratch.new ≡ filled self.now.share x self.now.vector «data».now scratch.old }
     {
         if !is_bounced_write(x.phase) {
-            return Outcome::Done;
+            return Ok(());
         }
         let start = self.share + x.stage.head.0;
         let n = size(x.stage.asked) as usize;
@@ -91,12 +104,18 @@ impl Place {
 
     // As a padded read ends with 0, its asked bytes are copied out of its share.
     #[tactic(auto, unfolding(crate::specs::Tell::handed))]
-    pub(crate) fn hand_out(&self, x: State, code: u8, data: &mut [u8], scratch: &[u8]) -> Outcome
+    pub(crate) fn hand_out(
+        &self,
+        x: State,
+        code: u8,
+        data: &mut [u8],
+        scratch: &[u8],
+    ) -> Result<(), Refusal>
         requires { InShare self.now.share x (length scratch.now) }
         ensures { hands result «data».new ≡ handed self.now.share x code self.now.vector «data».old scratch.now }
     {
         if !is_bounced_read(x.phase) || code != 0 {
-            return Outcome::Done;
+            return Ok(());
         }
         let start = self.share + x.stage.head.0;
         let n = size(x.stage.asked) as usize;
@@ -130,14 +149,14 @@ pub fn fill_share(
     v: IoVector,
     data: &[u8],
     scratch: &mut [u8],
-) -> Outcome
+) -> Result<(), Refusal>
     ensures { fills result scratch.new ≡ filled_share slot settings buffers x v «data».now scratch.old }
 {
     if !is_bounced_write(x.phase) {
-        return Outcome::Done;
+        return Ok(());
     }
     let Some(share) = share_of(slot, settings, buffers, x, scratch.len()) else {
-        return Outcome::Refused(Refusal::Slot);
+        return Err(Refusal::Slot);
     };
     let place = Place {
         slot,
@@ -158,15 +177,15 @@ pub fn hand_out_share(
     v: IoVector,
     data: &mut [u8],
     scratch: &[u8],
-) -> Outcome
+) -> Result<(), Refusal>
     ensures { hands result «data».new ≡ handed_share slot settings buffers x code v «data».old
         scratch.now }
 {
     if !is_bounced_read(x.phase) || code != 0 {
-        return Outcome::Done;
+        return Ok(());
     }
     let Some(share) = share_of(slot, settings, buffers, x, scratch.len()) else {
-        return Outcome::Refused(Refusal::Slot);
+        return Err(Refusal::Slot);
     };
     let place = Place {
         slot,

@@ -2,7 +2,7 @@
 ghost use Rattle.std.specs.Prelude.{◌≡◌};
 ghost use Rattle.dock.specs.Dock.{lent_fits, lent_of, is_read_job, meets_of, meets_itself, first_free};
 
-use arithmetic::refusals::{Outcome, Refusal};
+use arithmetic::refusals::Refusal;
 use arithmetic::settings::{Buffers, Settings, check_opening};
 use blockers::Blockers;
 use stages::state::{Job, State, is_free};
@@ -29,18 +29,19 @@ pub fn lent_fits(b: Buffers, data_len: usize, scratch_len: usize) -> bool
 
 // What a begin is lent: settings and buffers that opening accepts, with their lengths of opening.
 #[tactic(auto, unfolding(crate::specs::Dock::lent_of))]
-pub fn check_lent(s: Settings, b: Buffers, data_len: usize, scratch_len: usize) -> Outcome
+pub fn check_lent(
+    s: Settings,
+    b: Buffers,
+    data_len: usize,
+    scratch_len: usize,
+) -> Result<(), Refusal>
     ensures { result ≡ lent_of s b data_len scratch_len }
 {
-    match check_opening(s, b) {
-        Outcome::Refused(r) => Outcome::Refused(r),
-        Outcome::Done => {
-            if lent_fits(b, data_len, scratch_len) {
-                return Outcome::Done;
-            }
-            Outcome::Refused(Refusal::Buffer)
-        }
+    check_opening(s, b)?;
+    if !lent_fits(b, data_len, scratch_len) {
+        return Err(Refusal::Buffer);
     }
+    Ok(())
 }
 
 pub fn is_read_job(j: Job) -> bool
@@ -64,7 +65,7 @@ pub fn meets_itself(j: Job, v: IoVector) -> bool
     is_read_job(j) && v.overlaps_itself()
 }
 
-// The lowest free slot; 8 where there is none.
+// The lowest free slot; 8 where there is none, as `decide` takes it (`decided_of`).
 pub fn first_free(states: [State; 8]) -> usize
     ensures { result ≡ first_free states }
 {

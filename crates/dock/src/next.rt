@@ -19,7 +19,6 @@ pub enum Due {
     Waiting,
     Make(Request),
     Answer(u8),
-    Refused(Refusal),
 }
 
 // Where a request's piece lies.
@@ -27,7 +26,6 @@ pub enum Due {
 pub enum Piece {
     InData(Segment),
     InScratch(Segment),
-    Refused(Refusal),
 }
 
 // Whether the request of the job x in `slot` is out: it has one, and does not wait.
@@ -47,7 +45,7 @@ pub fn is_sound_in(x: State, settings: Settings, buffers: Buffers) -> bool
 }
 
 // Whether they do, and its share, that of `slot`, lies in a scratch of `scratch_len` bytes. Here and in `piece_in`, `fill_share` and
-// `hand_out_share` slot, settings and buffers are no struct: crate dock_words calls them, and has each in words of its own.
+// `hand_out_share` slot, settings and buffers are no struct: those of a `Dock` would be put into one for the call alone.
 #[tactic(auto, unfolding(crate::specs::Next::is_sound_at))]
 pub fn is_sound_at(
     slot: usize,
@@ -64,32 +62,32 @@ pub fn is_sound_at(
 }
 
 // What the job x needs now, which waits or not and whose vector has `count` segments.
-pub fn due_now(x: State, waits: bool, count: usize) -> Due
+pub fn due_now(x: State, waits: bool, count: usize) -> Result<Due, Refusal>
     ensures { result ≡ due_in x waits count }
 {
     if is_free(x.phase) {
-        return Due::Refused(Refusal::Slot);
+        return Err(Refusal::Slot);
     }
     if has_ended(x.phase) {
-        return Due::Answer(x.answer);
+        return Ok(Due::Answer(x.answer));
     }
     if waits {
-        return Due::Waiting;
+        return Ok(Due::Waiting);
     }
-    Due::Make(x.request(count))
+    Ok(Due::Make(x.request(count)))
 }
 
 impl Dock {
     // What the job in `slot` needs now. Changes nothing.
     #[tactic(auto, unfolding(crate::specs::Next::next_of))]
-    pub fn next(self, slot: usize, data: &[u8], scratch: &[u8]) -> Due
+    pub fn next(self, slot: usize, data: &[u8], scratch: &[u8]) -> Result<Due, Refusal>
         ensures { result ≡ next_of self slot (length «data».now) (length scratch.now) }
     {
         if !lent_fits(self.buffers, data.len(), scratch.len()) {
-            return Due::Refused(Refusal::Buffer);
+            return Err(Refusal::Buffer);
         }
         if SLOTS <= slot {
-            return Due::Refused(Refusal::Slot);
+            return Err(Refusal::Slot);
         }
         let x = self.states[slot];
         let v = self.vectors[slot];
@@ -99,31 +97,38 @@ impl Dock {
 }
 
 // n bytes of the scratch from `start` on, as a request's only piece.
-fn in_scratch(i: usize, start: u64, n: u64) -> Piece
+fn in_scratch(i: usize, start: u64, n: u64) -> Result<Piece, Refusal>
     ensures { result ≡ in_scratch i start n }
 {
     if i != 0 || n == 0 {
-        return Piece::Refused(Refusal::Slot);
+        return Err(Refusal::Slot);
     }
-    Piece::InScratch(Segment {
+    Ok(Piece::InScratch(Segment {
         start: start as usize,
         length: n as usize,
-    })
+    }))
 }
 
 // Segment i of a vector over `data_len` bytes.
 #[tactic(auto, unfolding(vectors::specs::Vectors::is_valid))]
-fn in_data(i: usize, data_len: usize, v: IoVector) -> Piece
+fn in_data(i: usize, data_len: usize, v: IoVector) -> Result<Piece, Refusal>
     ensures { result ≡ in_data i data_len v }
 {
     if !v.is_valid(data_len) || v.count <= i {
-        return Piece::Refused(Refusal::Slot);
+        return Err(Refusal::Slot);
     }
-    Piece::InData(v.segments[i])
+    Ok(Piece::InData(v.segments[i]))
 }
 
 // Piece i of the request of the job x, whose share starts at `share` and has `bounce` bytes.
-fn piece_of(x: State, v: IoVector, share: u64, bounce: u64, i: usize, data_len: usize) -> Piece
+fn piece_of(
+    x: State,
+    v: IoVector,
+    share: u64,
+    bounce: u64,
+    i: usize,
+    data_len: usize,
+) -> Result<Piece, Refusal>
     requires { (is_sound bounce x ≡ true) × (share + bounce < 2 ^ 64) }
     ensures { result ≡ piece_by x.phase share i data_len x v }
 {
@@ -137,7 +142,7 @@ fn piece_of(x: State, v: IoVector, share: u64, bounce: u64, i: usize, data_len: 
             in_scratch(i, share + place.0 as u64, size(stage.second))
         }
         Phase::Free | Phase::Ended | Phase::ZeroRequest | Phase::DiscardRequest => {
-            Piece::Refused(Refusal::Slot)
+            Err(Refusal::Slot)
         }
     }
 }
@@ -152,14 +157,14 @@ pub fn piece_in(
     v: IoVector,
     i: usize,
     data_len: usize,
-) -> Piece
+) -> Result<Piece, Refusal>
     ensures { result ≡ piece_in slot settings buffers x v i data_len }
 {
     if SLOTS <= slot {
-        return Piece::Refused(Refusal::Slot);
+        return Err(Refusal::Slot);
     }
     if !is_sound_in(x, settings, buffers) {
-        return Piece::Refused(Refusal::Slot);
+        return Err(Refusal::Slot);
     }
     let share = slot as u64 * settings.bounce;
     piece_of(x, v, share, settings.bounce, i, data_len)
@@ -183,48 +188,64 @@ fn part_mut<'a>(s: &'a mut [u8], start: usize, n: usize) -> &'a mut [u8]
 }
 
 // The part of the data or the scratch where a piece lies: empty for a refusal, since no piece is empty.
-fn part_at<'a>(place: Piece, data: &'a [u8], scratch: &'a [u8]) -> &'a [u8]
+fn part_at<'a>(place: Result<Piece, Refusal>, data: &'a [u8], scratch: &'a [u8]) -> &'a [u8]
     ensures { result.now ≡ bytes_at place «data».now scratch.now }
 {
     match place {
-        Piece::InData(s) => part(data, s.start, s.length),
-        Piece::InScratch(s) => part(scratch, s.start, s.length),
-        Piece::Refused(_) => part(data, 0, 0),
+        Ok(Piece::InData(s)) => part(data, s.start, s.length),
+        Ok(Piece::InScratch(s)) => part(scratch, s.start, s.length),
+        Err(_) => part(data, 0, 0),
     }
 }
 
-fn part_mut_at<'a>(place: Piece, data: &'a mut [u8], scratch: &'a mut [u8]) -> &'a mut [u8]
+fn part_mut_at<'a>(
+    place: Result<Piece, Refusal>,
+    data: &'a mut [u8],
+    scratch: &'a mut [u8],
+) -> &'a mut [u8]
     ensures { result.now ≡ bytes_at place «data».old scratch.old }
 {
     match place {
-        Piece::InData(s) => part_mut(data, s.start, s.length),
-        Piece::InScratch(s) => part_mut(scratch, s.start, s.length),
-        Piece::Refused(_) => part_mut(data, 0, 0),
+        Ok(Piece::InData(s)) => part_mut(data, s.start, s.length),
+        Ok(Piece::InScratch(s)) => part_mut(scratch, s.start, s.length),
+        Err(_) => part_mut(data, 0, 0),
     }
 }
 
 impl Dock {
     // Where piece i of the request that is out in `slot` lies.
     #[tactic(auto, unfolding(crate::specs::Next::piece_of, crate::specs::Dock::is_out))]
-    fn place(&self, slot: usize, i: usize, data_len: usize, scratch_len: usize) -> Piece
+    fn place(
+        &self,
+        slot: usize,
+        i: usize,
+        data_len: usize,
+        scratch_len: usize,
+    ) -> Result<Piece, Refusal>
         ensures { result ≡ piece_of self.now slot i data_len scratch_len }
     {
         if !lent_fits(self.buffers, data_len, scratch_len) {
-            return Piece::Refused(Refusal::Buffer);
+            return Err(Refusal::Buffer);
         }
         if SLOTS <= slot {
-            return Piece::Refused(Refusal::Slot);
+            return Err(Refusal::Slot);
         }
         let x = self.states[slot];
         if !is_out(self.blockers, x, slot) {
-            return Piece::Refused(Refusal::Slot);
+            return Err(Refusal::Slot);
         }
         let v = self.vectors[slot];
         piece_in(slot, self.settings, self.buffers, x, v, i, data_len)
     }
 
     // The same, with the dock by value as the other calls take it.
-    pub fn piece_place(self, slot: usize, i: usize, data_len: usize, scratch_len: usize) -> Piece
+    pub fn piece_place(
+        self,
+        slot: usize,
+        i: usize,
+        data_len: usize,
+        scratch_len: usize,
+    ) -> Result<Piece, Refusal>
         ensures { result ≡ piece_of self slot i data_len scratch_len }
     {
         self.place(slot, i, data_len, scratch_len)

@@ -1,62 +1,66 @@
 // Document 01's number for each case of an answer.
 ghost use Rattle.std.specs.Prelude.{◌≡◌};
-ghost use Rattle.dock.specs.Numbers.{begun_paper, due_paper, piece_paper, collected_paper};
+ghost use Rattle.dock.specs.Numbers.{Paper, begun_paper, due_paper, piece_paper, collected_paper};
 
-use crate::begin::Begun;
 use crate::next::{Due, Piece};
-use crate::tell::Collected;
+use arithmetic::refusals::Refusal;
 
-// A number of document 01's: 0, a code of the store, or one of its table. None for an answer that has values alone.
-#[derive(Clone, Copy)]
-pub enum Number {
-    Of(u8),
-    None,
+// An answer that document 01 writes as a number, with values beside it.
+pub trait Numbered {
+    ghost paper: { Self → Paper };
+
+    // Its number: 0, a code of the store, or one of the table. None for an answer that has values alone.
+    fn number(self) -> Option<u8>
+        ensures { result ≡ (paper self).number };
 }
 
-impl Begun {
-    pub fn number(self) -> Number
-        ensures { result ≡ (begun_paper self).number }
-    {
+// What begin answers.
+impl Numbered for Result<Option<usize>, Refusal> {
+    ghost paper = { begun_paper };
+
+    fn number(self) -> Option<u8> {
         match self {
-            Begun::Done => Number::Of(0),
-            Begun::Admitted(_) => Number::None,
-            Begun::Refused(r) => Number::Of(r.number()),
+            Ok(None) => Some(0),
+            Ok(Some(_)) => None,
+            Err(refusal) => Some(refusal.number()),
         }
     }
 }
 
-impl Due {
-    pub fn number(self) -> Number
-        ensures { result ≡ (due_paper self).number }
-    {
+// What next answers.
+impl Numbered for Result<Due, Refusal> {
+    ghost paper = { due_paper };
+
+    fn number(self) -> Option<u8> {
         match self {
-            Due::Waiting => Number::None,
-            Due::Make(_) => Number::None,
-            Due::Answer(code) => Number::Of(code),
-            Due::Refused(r) => Number::Of(r.number()),
+            Ok(Due::Waiting) => None,
+            Ok(Due::Make(_)) => None,
+            Ok(Due::Answer(code)) => Some(code),
+            Err(refusal) => Some(refusal.number()),
         }
     }
 }
 
-impl Piece {
-    pub fn number(self) -> Number
-        ensures { result ≡ (piece_paper self).number }
-    {
+// Where a piece lies.
+impl Numbered for Result<Piece, Refusal> {
+    ghost paper = { piece_paper };
+
+    fn number(self) -> Option<u8> {
         match self {
-            Piece::InData(_) => Number::None,
-            Piece::InScratch(_) => Number::None,
-            Piece::Refused(r) => Number::Of(r.number()),
+            Ok(_) => None,
+            Err(refusal) => Some(refusal.number()),
         }
     }
 }
 
-impl Collected {
-    pub fn number(self) -> Number
-        ensures { result ≡ (collected_paper self).number }
-    {
+// What collect answers.
+impl Numbered for Result<u8, Refusal> {
+    ghost paper = { collected_paper };
+
+    fn number(self) -> Option<u8> {
         match self {
-            Collected::Final(code) => Number::Of(code),
-            Collected::Refused(r) => Number::Of(r.number()),
+            Ok(code) => Some(code),
+            Err(refusal) => Some(refusal.number()),
         }
     }
 }

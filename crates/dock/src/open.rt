@@ -4,8 +4,8 @@ ghost use Rattle.dock.specs.Dock.{vacant, fresh, open_of, open_by};
 
 use crate::dock::Dock;
 use arithmetic::offsets::BufferOffset;
-use arithmetic::refusals::Outcome;
-use arithmetic::settings::{Alignments, Buffers, Profile, Settings, check_opening};
+use arithmetic::refusals::Refusal;
+use arithmetic::settings::{Alignments, Buffers, Settings, check_opening};
 use blockers::Blockers;
 use stages::state::{Course, Job, Phase, Stage, State, nowhere};
 use vectors::vector::IoVector;
@@ -15,7 +15,7 @@ use vectors::vector::IoVector;
 #[derive(Clone, Copy)]
 pub struct Opened {
     pub dock: Dock,
-    pub outcome: Outcome,
+    pub outcome: Result<(), Refusal>,
 }
 
 // The state of a free slot.
@@ -66,12 +66,12 @@ pub fn open(settings: Settings, buffers: Buffers) -> Opened
 }
 
 // Open by drive profile (document 01: a drive row), a built-in one or one of a loaded table: refused with 201, then 205.
-pub fn open_by(profile: Profile, bounce: u64, buffers: Buffers) -> Opened
+pub fn open_by(profile: Result<Alignments, Refusal>, bounce: u64, buffers: Buffers) -> Opened
     ensures { result ≡ open_by profile bounce buffers }
 {
     match profile {
-        Profile::Of(align) => open(Settings { align, bounce }, buffers),
-        Profile::Refused(r) => {
+        Ok(align) => open(Settings { align, bounce }, buffers),
+        Err(r) => {
             let align = Alignments {
                 mem: 0,
                 req: 0,
@@ -81,7 +81,7 @@ pub fn open_by(profile: Profile, bounce: u64, buffers: Buffers) -> Opened
             let dock = make_fresh(Settings { align, bounce }, buffers);
             Opened {
                 dock,
-                outcome: Outcome::Refused(r),
+                outcome: Err(r),
             }
         }
     }

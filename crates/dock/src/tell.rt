@@ -10,7 +10,7 @@ use crate::bytes::Place;
 use crate::dock::{Dock, SLOTS, lent_fits};
 use crate::next::{is_out, is_sound_in};
 use crate::open::make_vacant;
-use arithmetic::refusals::{Outcome, Refusal};
+use arithmetic::refusals::Refusal;
 use arithmetic::settings::Settings;
 use blockers::Blockers;
 use stages::state::{State, has_ended, is_blocking};
@@ -20,7 +20,7 @@ use vectors::vector::IoVector;
 // By value, the dock beside the answer: it comes back from a refused tell too (`tell_of`).
 #[derive(Clone, Copy)]
 pub struct Telling {
-    pub outcome: Outcome,
+    pub outcome: Result<(), Refusal>,
     pub dock: Dock,
 }
 
@@ -31,23 +31,10 @@ pub struct Stepping {
     pub state: State,
 }
 
-// What a code leads to: a step of the job, or a refusal.
-#[derive(Clone, Copy)]
-pub enum Answered {
-    Leads(Step),
-    Refused(Refusal),
-}
-
-#[derive(Clone, Copy)]
-pub enum Collected {
-    Final(u8),
-    Refused(Refusal),
-}
-
 // The same of a collect (`collect_of`).
 #[derive(Clone, Copy)]
 pub struct Collects {
-    pub answer: Collected,
+    pub answer: Result<u8, Refusal>,
     pub dock: Dock,
 }
 
@@ -74,13 +61,11 @@ impl Place {
         requires { InShare self.now.share y (length scratch.old) }
         ensures { StepGives (stays_at b self.now.share y self.now.vector «data».now scratch.old) result «data».now scratch.new }
     {
-        match self.fill(y, data, scratch) {
-            Outcome::Done => Ok(Stepping {
-                blockers: b,
-                state: y,
-            }),
-            Outcome::Refused(r) => Err(r),
-        }
+        self.fill(y, data, scratch)?;
+        Ok(Stepping {
+            blockers: b,
+            state: y,
+        })
     }
 
     // The job x ends as y: its blocker leaves, and a padded read's bytes are copied out.
@@ -99,10 +84,8 @@ impl Place {
             «data».new scratch.now }
     {
         let blockers = leave_blocker(b, self.slot, x)?;
-        match self.hand_out(x, code, data, scratch) {
-            Outcome::Done => Ok(Stepping { blockers, state: y }),
-            Outcome::Refused(r) => Err(r),
-        }
+        self.hand_out(x, code, data, scratch)?;
+        Ok(Stepping { blockers, state: y })
     }
 
     // The job x enters its next stage as y: its blocker leaves first, then the next one enters and notes all that are entered then.
@@ -124,7 +107,7 @@ impl Place {
         Ok(Stepping { blockers, state: y })
     }
 
-    // The job x after its step.
+    // The job x after its step. The step is a value that the definitions speak of (`told_of`), so it is matched, and is no closure.
     fn take_step(
         &self,
         b: Blockers,
@@ -148,14 +131,14 @@ impl Place {
 
 // What a code leads to: 0 done, 1 unsupported, 2 to 199 failed; 200 and up is no answer.
 #[tactic(auto, unfolding(crate::specs::Tell::answered_of, stages::specs::Stages::told_of))]
-pub fn interpret_code(x: State, settings: Settings, code: u8) -> Answered
+pub fn interpret_code(x: State, settings: Settings, code: u8) -> Result<Step, Refusal>
     ensures { result ≡ answered_of settings x code }
 {
     match code {
-        0 => Answered::Leads(x.done(settings)),
-        1 => Answered::Leads(x.unsupported(settings)),
-        2..=199 => Answered::Leads(x.ends(code)),
-        _ => Answered::Refused(Refusal::NoAnswer),
+        0 => Ok(x.done(settings)),
+        1 => Ok(x.unsupported(settings)),
+        2..=199 => Ok(x.ends(code)),
+        _ => Err(Refusal::NoAnswer),
     }
 }
 
@@ -169,7 +152,8 @@ impl Dock {
         data: &mut [u8],
         scratch: &mut [u8],
     ) -> Result<Stepping, Refusal>
-        requires { (slot < 8) × (lent_fits self.now.buffers (length «data».old) (length scratch.old) ≡ true) }
+        requires place { slot < 8 }
+        requires lent { lent_fits self.now.buffers (length «data».old) (length scratch.old) ≡ true }
         ensures { StepGives (told_in self.now slot code «data».old scratch.old) result «data».new scratch.new }
     {
         let b = self.blockers;
@@ -178,8 +162,8 @@ impl Dock {
             return Err(Refusal::Slot);
         }
         match interpret_code(x, self.settings, code) {
-            Answered::Refused(r) => Err(r),
-            Answered::Leads(step) => {
+            Err(r) => Err(r),
+            Ok(step) => {
                 let place = Place {
                     slot,
                     share: slot * self.settings.bounce as usize,
@@ -198,13 +182,13 @@ impl Dock {
     {
         if !lent_fits(self.buffers, data.len(), scratch.len()) {
             return Telling {
-                outcome: Outcome::Refused(Refusal::Buffer),
+                outcome: Err(Refusal::Buffer),
                 dock: self,
             };
         }
         if SLOTS <= slot {
             return Telling {
-                outcome: Outcome::Refused(Refusal::Slot),
+                outcome: Err(Refusal::Slot),
                 dock: self,
             };
         }
@@ -212,7 +196,7 @@ impl Dock {
             Ok(told) => told,
             Err(r) => {
                 return Telling {
-                    outcome: Outcome::Refused(r),
+                    outcome: Err(r),
                     dock: self,
                 };
             }
@@ -220,7 +204,7 @@ impl Dock {
         self.blockers = told.blockers;
         self.states[slot] = told.state;
         Telling {
-            outcome: Outcome::Done,
+            outcome: Ok(()),
             dock: self,
         }
     }
@@ -232,27 +216,27 @@ impl Dock {
     {
         if !lent_fits(self.buffers, data.len(), scratch.len()) {
             return Collects {
-                answer: Collected::Refused(Refusal::Buffer),
+                answer: Err(Refusal::Buffer),
                 dock: self,
             };
         }
         if SLOTS <= slot {
             return Collects {
-                answer: Collected::Refused(Refusal::Slot),
+                answer: Err(Refusal::Slot),
                 dock: self,
             };
         }
         let x = self.states[slot];
         if !has_ended(x.phase) {
             return Collects {
-                answer: Collected::Refused(Refusal::Slot),
+                answer: Err(Refusal::Slot),
                 dock: self,
             };
         }
         self.states[slot] = make_vacant();
         self.vectors[slot] = IoVector::new();
         Collects {
-            answer: Collected::Final(x.answer),
+            answer: Ok(x.answer),
             dock: self,
         }
     }

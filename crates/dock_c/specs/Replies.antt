@@ -1,16 +1,10 @@
 -- Document 01's number and values of an answer, as they cross the boundary: in one struct of words.
-use Rattle.std.specs.Prelude.{◌≡◌, Result, Ok, Err, Bool, true, false, List, [], ◌∷◌, ℕ, length, get_or}
+use Rattle.std.specs.Prelude.{◌≡◌, Result, Ok, Err, Bool, true, false, List, [], ◌∷◌, ℕ, length, get_or, Option, Some, None}
 use Rattle.arithmetic.specs.Rounding.{pick}
 use Rattle.arithmetic.specs.Refusals.{number_of, outcome_number, is_done}
 use Rattle.arithmetic.specs.declared.refusals.Refusal.{Refusal}
 use Rattle.arithmetic.specs.declared.settings.Settings.{Settings}
 use Rattle.arithmetic.specs.declared.settings.Buffers.{Buffers}
-use Rattle.arithmetic.specs.declared.settings.Profile.{Profile}
-use Rattle.arithmetic.specs.declared.settings.Profile.TheVariants.{Of as Profiled, Refused as NoProfile}
-use Rattle.arithmetic.specs.declared.planner.Count.{Count}
-use Rattle.arithmetic.specs.declared.planner.Count.TheVariants.{Chunks, Refused as NotCounted}
-use Rattle.arithmetic.specs.declared.planner.Planned.{Planned}
-use Rattle.arithmetic.specs.declared.planner.Planned.TheVariants.{Chunk, Refused as NotPlanned}
 use Rattle.vectors.specs.Vectors.{outcome_of}
 use Rattle.vectors.specs.declared.vector.IoVector.{IoVector}
 use Rattle.vectors.specs.declared.vector.Halves.{Halves}
@@ -21,10 +15,7 @@ use Rattle.dock.specs.Begin.{Begins}
 use Rattle.dock.specs.Tell.{Told}
 use Rattle.dock.specs.Numbers.{Paper, numbered, valued, begun_paper, collected_paper}
 use Rattle.dock.specs.declared.dock.Dock.{Dock}
-use Rattle.dock.specs.declared.tell.Collected.{Collected}
 use Rattle.dock.specs.declared.tell.Collects.{Collects}
-use Rattle.dock.specs.declared.numbers.Number.{Number}
-use Rattle.dock.specs.declared.numbers.Number.TheVariants.{Of, None}
 use Rattle.tables.specs.Words.{outcome_of as loaded_outcome, words_after}
 use Rattle.tables.specs.declared.table.Table.{Table}
 use Rattle.sheets.specs.Sheets.{Joins}
@@ -33,6 +24,8 @@ use Rattle.dock_words.specs.View.{Rows, blockers_of}
 use Rattle.vectors.specs.Words.{vector_words}
 use Rattle.dock_words.specs.CallWords.{same_unless}
 use Rattle.dock_c.specs.declared.replies.Reply.{Reply}
+use Rattle.arithmetic.specs.declared.offsets.Range.{Range}
+use Rattle.arithmetic.specs.declared.settings.Alignments.{Alignments}
 
 -- the settings and the buffers of an opening, from its numbers
 abbrev pub settings_by : ℕ → ℕ → ℕ → ℕ → ℕ → Settings
@@ -42,8 +35,8 @@ abbrev pub buffers_by : ℕ → ℕ → ℕ → ℕ → Buffers
 buffers_by a m b n = record { «data» = record { address = a; length = m }; scratch = record { address = b; length = n } }
 
 -- no number of the paper's is 256
-abbrev pub number_word : Number → ℕ
-number_word (Of n) = n
+abbrev pub number_word : Option ℕ → ℕ
+number_word (Some n) = n
 number_word None = 256
 
 -- how many values there are, then the values, 0 past the last: no answer has more than four
@@ -63,13 +56,13 @@ abbrev pub numbers : ℕ → Reply
 numbers n = record { number = n; count = 0; first = 0; second = 0; third = 0; fourth = 0 }
 
 -- the planner: "count of chunks, and chunk i", which is its offset and its length
-abbrev pub count_paper : Count → Paper
-count_paper (Chunks n) = valued (n ∷ [])
-count_paper (NotCounted r) = numbered (number_of r)
+abbrev pub count_paper : Result ℕ Refusal → Paper
+count_paper (Ok n) = valued (n ∷ [])
+count_paper (Err r) = numbered (number_of r)
 
-abbrev pub planned_paper : Planned → Paper
-planned_paper (Chunk c) = valued (c.start.0 ∷ size_of c ∷ [])
-planned_paper (NotPlanned r) = numbered (number_of r)
+abbrev pub planned_paper : Result Range Refusal → Paper
+planned_paper (Ok c) = valued (c.start.0 ∷ size_of c ∷ [])
+planned_paper (Err r) = numbered (number_of r)
 
 -- `is_aligned`: 1 for aligned, 0 for not
 abbrev pub alignment_paper : Result Bool Refusal → Paper
@@ -79,21 +72,21 @@ alignment_paper (Err r) = numbered (number_of r)
 
 -- the splits (document 02, N2): 0, and "the number of pieces looked at" beside it
 abbrev pub split_paper : Result ℕ Refusal → Paper
-split_paper (Ok n) = record { number = Of 0; values = n ∷ [] }
+split_paper (Ok n) = record { number = Some 0; values = n ∷ [] }
 split_paper (Err r) = numbered (number_of r)
 
 -- a row of a drive table (document 02, N3): M, R, Z, D
-abbrev pub profile_paper : Profile → Paper
-profile_paper (Profiled a) = valued (a.mem ∷ a.req ∷ a.zero ∷ a.discard ∷ [])
-profile_paper (NoProfile r) = numbered (number_of r)
+abbrev pub profile_paper : Result Alignments Refusal → Paper
+profile_paper (Ok a) = valued (a.mem ∷ a.req ∷ a.zero ∷ a.discard ∷ [])
+profile_paper (Err r) = numbered (number_of r)
 
 -- joined writes (document 02, N14): 0, and how many ranges and bytes they became
 abbrev pub joined_paper : Result Size Refusal → Paper
-joined_paper (Ok s) = record { number = Of 0; values = s.ranges ∷ s.bytes ∷ [] }
+joined_paper (Ok s) = record { number = Some 0; values = s.ranges ∷ s.bytes ∷ [] }
 joined_paper (Err r) = numbered (number_of r)
 
 -- collect: the number that `collected_paper` gives
-abbrev pub collected_number : Collected → ℕ
+abbrev pub collected_number : Result ℕ Refusal → ℕ
 collected_number c = number_word (collected_paper c).number
 
 -- ---- a call gives back what the dock's definition says: its answer, the dock in words after it, and the lent bytes

@@ -1,5 +1,5 @@
 // The boundary: what C or Rust calls. The arrays have the lengths declared here; data and scratch are a pointer and a length. For any
-// words.
+// words. Here and in `combined` settings, blockers, states and vectors stand in every contract: the C interface has them as four arrays.
 #![tactic(auto)]
 
 mod replies; // answers, as they cross
@@ -24,11 +24,10 @@ ghost use Rattle.tables.specs.Tables.{profile_in};
 ghost use Rattle.tables.specs.Words.{table_from};
 ghost use Rattle.dock_c.specs.Replies.{settings_by, buffers_by, reply_of, count_paper, planned_paper, BeginsAs, TellsAs, CollectsAs};
 
-use crate::replies::{
-    Reply, begun_reply, collected_number, count_reply, due_reply, piece_reply, planned_reply,
-};
+use crate::replies::{Reply, collected_number};
 use arithmetic::offsets::StoreOffset;
 use arithmetic::planner::{count_chunks, plan_chunk};
+use arithmetic::refusals::outcome_number;
 use arithmetic::settings::{Alignments, Buffers, Lent, Settings, drive_profile};
 use dock::begin::Asked;
 use dock_words::arrays::{
@@ -92,10 +91,11 @@ pub extern "C" fn dock_words_open(
         bounce: share,
     };
     let b = buffers_of(data_address, data_length, scratch_address, scratch_length);
-    open(settings, blockers, states, vectors, s, b).number()
+    outcome_number(open(settings, blockers, states, vectors, s, b))
 }
 
 // Open by drive profile (document 01: a drive row).
+#[tactic(auto, unfolding(dock::specs::Dock::open_profile_of))]
 #[unsafe(no_mangle)]
 pub extern "C" fn dock_words_open_row(
     settings: &mut SettingRow,
@@ -119,7 +119,7 @@ pub extern "C" fn dock_words_open_row(
     let b = buffers_of(data_address, data_length, scratch_address, scratch_length);
     let profile = drive_profile(row);
     let outcome = open_by(settings, blockers, states, vectors, profile, share, b);
-    outcome.number()
+    outcome_number(outcome)
 }
 
 // Open by a row of a loaded drive table (document 02, N3), which stands in the place of the built-in rows.
@@ -147,7 +147,7 @@ pub extern "C" fn dock_words_open_table(
     let b = buffers_of(data_address, data_length, scratch_address, scratch_length);
     let profile = row_of(table, row);
     let outcome = open_by(settings, blockers, states, vectors, profile, share, b);
-    outcome.number()
+    outcome_number(outcome)
 }
 
 // Begin a read of the vector's length at `offset` into the data.
@@ -173,7 +173,7 @@ pub extern "C" fn dock_words_begin_read(
         blockers.new states.new vectors.new }
 {
     let asked = Asked::read(StoreOffset(offset), vector_of(vector));
-    begun_reply(begin(settings, blockers, states, vectors, asked, data, scratch))
+    Reply::from(begin(settings, blockers, states, vectors, asked, data, scratch))
 }
 
 // Begin a write of the vector's bytes at `offset`.
@@ -199,7 +199,7 @@ pub extern "C" fn dock_words_begin_write(
         blockers.new states.new vectors.new }
 {
     let asked = Asked::write(StoreOffset(offset), vector_of(vector));
-    begun_reply(begin(settings, blockers, states, vectors, asked, data, scratch))
+    Reply::from(begin(settings, blockers, states, vectors, asked, data, scratch))
 }
 
 // Begin zeroes, plain or allocating.
@@ -226,7 +226,7 @@ pub extern "C" fn dock_words_begin_zeroes(
         blockers.new states.new vectors.new }
 {
     let asked = Asked::zeroes(allocate != 0, StoreOffset(offset), length);
-    begun_reply(begin(settings, blockers, states, vectors, asked, data, scratch))
+    Reply::from(begin(settings, blockers, states, vectors, asked, data, scratch))
 }
 
 // Begin a discard.
@@ -252,7 +252,7 @@ pub extern "C" fn dock_words_begin_discard(
         blockers.new states.new vectors.new }
 {
     let asked = Asked::discard(StoreOffset(offset), length);
-    begun_reply(begin(settings, blockers, states, vectors, asked, data, scratch))
+    Reply::from(begin(settings, blockers, states, vectors, asked, data, scratch))
 }
 
 // What the job in `slot` needs now.
@@ -269,7 +269,7 @@ pub extern "C" fn dock_words_next(
     ensures { result ≡ reply_of (due_paper (next_of (dock_of settings.now blockers.now states.now
         vectors.now) slot data_len scratch_len)) }
 {
-    due_reply(next(
+    Reply::from(next(
         settings,
         blockers,
         states,
@@ -295,7 +295,7 @@ pub extern "C" fn dock_words_piece(
     ensures { result ≡ reply_of (piece_paper (piece_of (dock_of settings.now blockers.now states.now
         vectors.now) slot i data_len scratch_len)) }
 {
-    piece_reply(piece(
+    Reply::from(piece(
         settings,
         blockers,
         states,
@@ -332,7 +332,7 @@ pub extern "C" fn dock_words_tell(
     let outcome = tell(
         settings, blockers, states, vectors, slot, code, data, scratch,
     );
-    outcome.number()
+    outcome_number(outcome)
 }
 
 // Take the final answer; the slot is free again.
@@ -370,7 +370,7 @@ pub extern "C" fn dock_words_chunks(settings: &SettingRow, offset: u64, length: 
     ensures { result ≡ reply_of (count_paper (count_of (settings_of settings.now) (store_at offset) length)) }
 {
     let s = settings_of(settings);
-    count_reply(count_chunks(StoreOffset(offset), length, s))
+    Reply::from(count_chunks(StoreOffset(offset), length, s))
 }
 
 // And chunk i.
@@ -379,5 +379,5 @@ pub extern "C" fn dock_words_chunk(settings: &SettingRow, offset: u64, length: u
     ensures { result ≡ reply_of (planned_paper (planned_of (settings_of settings.now) (store_at offset) length i)) }
 {
     let s = settings_of(settings);
-    planned_reply(plan_chunk(StoreOffset(offset), length, s, i))
+    Reply::from(plan_chunk(StoreOffset(offset), length, s, i))
 }

@@ -4,7 +4,7 @@ ghost use Rattle.std.specs.Prelude.{◌≡◌};
 ghost use Rattle.sheets.specs.Sheets.{writes_in, join_of};
 ghost use Rattle.dock_c.specs.Replies.{JoinsWith};
 
-use crate::replies::{Reply, joined_reply};
+use crate::replies::Reply;
 use sheets::joining::join;
 
 // Join the writes: 0, how many ranges they became and how many bytes these have; refused (220, 219) every word and byte stays.
@@ -19,5 +19,5 @@ pub extern "C" fn dock_words_join(
         (join_of (writes_in writes.now) «data».now output.old joined.old)
         result output.new joined.new }
 {
-    joined_reply(join(writes, data, output, joined))
+    Reply::from(join(writes, data, output, joined))
 }

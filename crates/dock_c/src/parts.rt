@@ -9,9 +9,9 @@ ghost use Rattle.dock_words.specs.View.{flag_of, flag_word, blockers_of};
 ghost use Rattle.vectors.specs.Words.{vector_from};
 ghost use Rattle.dock_c.specs.Replies.{reply_of, alignment_paper, EditsAs, SplitsAs, SplitsTailAs, MovesAs, BlocksAs};
 
-use crate::replies::{Reply, alignment_reply, split_reply};
+use crate::replies::Reply;
 use arithmetic::offsets::{Range, StoreOffset};
-use arithmetic::refusals::Refusal;
+use arithmetic::refusals::{Refusal, outcome_number};
 use arithmetic::settings::{Alignments, Lent};
 use blockers::strength;
 use dock_words::arrays::{BlockerRows, VectorRow, enter, leave, put_vector_of, vector_of, waits};
@@ -75,9 +75,9 @@ pub extern "C" fn dock_words_vector_split_tail_at(
     match v.split_tail_at(mid, data_len) {
         Ok(tail) => {
             put_vector_of(vector, tail.vector);
-            split_reply(Ok(tail.looked))
+            Reply::from(Ok(tail.looked))
         }
-        Err(refusal) => split_reply(Err(refusal)),
+        Err(refusal) => Reply::from(refusal),
     }
 }
 
@@ -112,9 +112,9 @@ pub extern "C" fn dock_words_vector_split_at(
         Ok(halves) => {
             put_vector_of(vector, halves.head);
             put_vector_of(tail, halves.tail);
-            split_reply(Ok(halves.looked))
+            Reply::from(Ok(halves.looked))
         }
-        Err(refusal) => split_reply(Err(refusal)),
+        Err(refusal) => Reply::from(refusal),
     }
 }
 
@@ -131,7 +131,7 @@ pub extern "C" fn dock_words_vector_copy_into_slice(
 {
     let v = vector_of(vector);
     let outcome = v.copy_into_slice(data, slice);
-    outcome.number()
+    outcome_number(outcome)
 }
 
 // The bytes of `slice` go into the vector's segments.
@@ -147,7 +147,7 @@ pub extern "C" fn dock_words_vector_copy_from_slice(
 {
     let v = vector_of(vector);
     let outcome = v.copy_from_slice(data, slice);
-    outcome.number()
+    outcome_number(outcome)
 }
 
 // Every byte of the vector's segments becomes `value`.
@@ -159,7 +159,7 @@ pub extern "C" fn dock_words_vector_fill(vector: &VectorRow, data: &mut [u8], va
 {
     let v = vector_of(vector);
     let outcome = v.fill(data, value);
-    outcome.number()
+    outcome_number(outcome)
 }
 
 // Whether direct requests can use the vector's segments, over data at that address.
@@ -183,7 +183,7 @@ pub extern "C" fn dock_words_vector_is_aligned(
         zero,
         discard,
     };
-    alignment_reply(v.is_aligned(align, Lent { address, length }))
+    Reply::from(v.is_aligned(align, Lent { address, length }))
 }
 
 // Enter a blocker over the store's bytes from `start` up to `end`, strong or weak.
@@ -204,7 +204,7 @@ pub extern "C" fn dock_words_blockers_enter(
     };
     let kind = strength(strong != 0);
     let outcome = enter(blockers, kind, slot, range);
-    outcome.number()
+    outcome_number(outcome)
 }
 
 // The slot's blocker leaves.
@@ -214,7 +214,7 @@ pub extern "C" fn dock_words_blockers_leave(blockers: &mut BlockerRows, slot: us
         result blockers.old blockers.new }
 {
     let outcome = leave(blockers, slot);
-    outcome.number()
+    outcome_number(outcome)
 }
 
 // 1 where the slot's blocker waits, 0 where not.
@@ -222,5 +222,5 @@ pub extern "C" fn dock_words_blockers_leave(blockers: &mut BlockerRows, slot: us
 pub extern "C" fn dock_words_blockers_wait(blockers: &BlockerRows, slot: usize) -> u8
     ensures { result ≡ flag_word (waits_of slot (blockers_of blockers.now)) }
 {
-    if waits(blockers, slot) { 1 } else { 0 }
+    u8::from(waits(blockers, slot))
 }

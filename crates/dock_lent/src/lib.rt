@@ -8,14 +8,18 @@ ghost use Rattle.dock.specs.Begin.{begin_of, BeginGives};
 ghost use Rattle.dock.specs.Next.{next_of, piece_of};
 ghost use Rattle.dock.specs.Tell.{tell_of, TellGives, collect_of, CollectGives};
 
-use arithmetic::refusals::Outcome;
-use dock::begin::{Asked, Begun};
+use arithmetic::refusals::Refusal;
+use dock::begin::Asked;
 use dock::dock::Dock;
 use dock::next::{Due, Piece};
-use dock::tell::Collected;
 
 // Begin what is asked, in the lowest free slot.
-pub fn begin(dock: &mut Dock, asked: Asked, data: &[u8], scratch: &mut [u8]) -> Begun
+pub fn begin(
+    dock: &mut Dock,
+    asked: Asked,
+    data: &[u8],
+    scratch: &mut [u8],
+) -> Result<Option<usize>, Refusal>
     ensures { BeginGives (begin_of dock.old asked «data».now scratch.old)
         result dock.new scratch.new }
 {
@@ -25,21 +29,33 @@ pub fn begin(dock: &mut Dock, asked: Asked, data: &[u8], scratch: &mut [u8]) -> 
 }
 
 // What the job in `slot` needs now.
-pub fn next(dock: &Dock, slot: usize, data: &[u8], scratch: &[u8]) -> Due
+pub fn next(dock: &Dock, slot: usize, data: &[u8], scratch: &[u8]) -> Result<Due, Refusal>
     ensures { result ≡ next_of dock.now slot (length «data».now) (length scratch.now) }
 {
     dock.next(slot, data, scratch)
 }
 
 // Where piece i of the slot's request lies.
-pub fn piece_place(dock: &Dock, slot: usize, i: usize, data_len: usize, scratch_len: usize) -> Piece
+pub fn piece_place(
+    dock: &Dock,
+    slot: usize,
+    i: usize,
+    data_len: usize,
+    scratch_len: usize,
+) -> Result<Piece, Refusal>
     ensures { result ≡ piece_of dock.now slot i data_len scratch_len }
 {
     dock.piece_place(slot, i, data_len, scratch_len)
 }
 
 // Hand in the code of the request that is out.
-pub fn tell(dock: &mut Dock, slot: usize, code: u8, data: &mut [u8], scratch: &mut [u8]) -> Outcome
+pub fn tell(
+    dock: &mut Dock,
+    slot: usize,
+    code: u8,
+    data: &mut [u8],
+    scratch: &mut [u8],
+) -> Result<(), Refusal>
     ensures { TellGives (tell_of dock.old slot code «data».old scratch.old)
         result dock.new «data».new scratch.new }
 {
@@ -49,7 +65,7 @@ pub fn tell(dock: &mut Dock, slot: usize, code: u8, data: &mut [u8], scratch: &m
 }
 
 // Take the final answer; the slot is free again.
-pub fn collect(dock: &mut Dock, slot: usize, data: &[u8], scratch: &[u8]) -> Collected
+pub fn collect(dock: &mut Dock, slot: usize, data: &[u8], scratch: &[u8]) -> Result<u8, Refusal>
     ensures { CollectGives (collect_of dock.old slot (length «data».now) (length scratch.now))
         result dock.new }
 {

@@ -1,18 +1,15 @@
 -- What the combined calls rely on: what is shown of a slot, and of a begin and a tell, by what the separate calls give. Assumes nothing.
-use Rattle.std.specs.Prelude.{◌≡◌, refl, Bool, true, false, List, ℕ, length}
+use Rattle.std.specs.Prelude.{◌≡◌, refl, Bool, true, false, List, ℕ, length, Result, Ok, Err}
 use Rattle.std.proofs.Math.Path.{sym, ap}
 use Rattle.std.proofs.Common.{◌∙◌}
 use Rattle.arithmetic.specs.Refusals.{when_done, is_done}
 use Rattle.arithmetic.specs.declared.refusals.Refusal.{Refusal}
-use Rattle.arithmetic.specs.declared.refusals.Outcome.{Outcome}
-use Rattle.arithmetic.specs.declared.refusals.Outcome.TheVariants.{Done, Refused}
 use Rattle.stages.specs.declared.state.Request.{Request}
 use Rattle.dock.specs.Begin.{Begins, begin_of}
 use Rattle.dock.specs.Next.{next_of, piece_of}
 use Rattle.dock.specs.Tell.{Told, tell_of, collect_of}
 use Rattle.dock.specs.declared.dock.Dock.{Dock}
 use Rattle.dock.specs.declared.begin.Asked.{Asked}
-use Rattle.dock.specs.declared.begin.Begun.{Begun}
 use Rattle.dock.specs.declared.next.Due.{Due}
 use Rattle.dock.specs.declared.next.Due.TheVariants.{Make, Answer}
 use Rattle.dock.specs.declared.next.Piece.{Piece}
@@ -25,12 +22,12 @@ use Rattle.dock_shown.specs.Shown.{submit_of, complete_of}
 -- ---- show
 
 module _ (d : Dock) (p m n : ℕ) where
-  shown_as : (z : Due) → next_of d p m n ≡ z → show_by z d p m n ≡ show_of d p m n
+  shown_as : (z : Result Due Refusal) → next_of d p m n ≡ z → show_by z d p m n ≡ show_of d p m n
   unfolding show_of
-  shown_as z e = sym (ap (λ (k : Due). show_by k d p m n) e)
+  shown_as z e = sym (ap (λ (k : Result Due Refusal). show_by k d p m n) e)
 
   -- what leaves the dock leaves every word
-  pub shown_kept : (z : Due) → next_of d p m n ≡ z → (show_by z d p m n).dock ≡ d → (words : List ℕ)
+  pub shown_kept : (z : Result Due Refusal) → next_of d p m n ≡ z → (show_by z d p m n).dock ≡ d → (words : List ℕ)
       → words ≡ shown_words (show_by z d p m n).answer → (x v : Rows)
       → ShowsAs (show_of d p m n) words d × same_two (is_collected (show_of d p m n).answer) x v x v
   shown_kept z e k words w x v =
@@ -38,46 +35,20 @@ module _ (d : Dock) (p m n : ℕ) where
       ((w ∙ ap (λ (s : Shows). shown_words s.answer) q, sym k ∙ ap (λ (s : Shows). s.dock) q), (same_words _ _, same_words _ _))
 
   -- a request, with its first piece
-  pub shown_asked : (q : Request) → next_of d p m n ≡ Make q → (c : Piece) → c ≡ piece_of d p 0 m n → (words : List ℕ)
+  pub shown_asked : (q : Request) → next_of d p m n ≡ (Ok (Make q)) → (c : Result Piece Refusal) → c ≡ piece_of d p 0 m n → (words : List ℕ)
       → words ≡ shown_words (Asks p q c) → (x v : Rows)
       → ShowsAs (show_of d p m n) words d × same_two (is_collected (show_of d p m n).answer) x v x v
-  shown_asked q e c k words w x v = shown_kept (Make q) e refl words (w ∙ ap (λ (z : Piece). shown_words (Asks p q z)) k) x v
+  shown_asked q e c k words w x v = shown_kept (Ok (Make q)) e refl words (w ∙ ap (λ (z : Result Piece Refusal). shown_words (Asks p q
+      z)) k) x v
 
   -- a final answer is collected
-  pub shown_taken : (a : ℕ) → next_of d p m n ≡ Answer a → (words : List ℕ) → words ≡ short_words 1 a → (d' : Dock)
+  pub shown_taken : (a : ℕ) → next_of d p m n ≡ (Ok (Answer a)) → (words : List ℕ) → words ≡ short_words 1 a → (d' : Dock)
       → d' ≡ (collect_of d p m n).dock → (x v x' v' : Rows)
       → ShowsAs (show_of d p m n) words d' × same_two (is_collected (show_of d p m n).answer) x v x' v'
   shown_taken a e words w d' k x v x' v' =
-      let q = shown_as (Answer a) e in
+      let q = shown_as (Ok (Answer a)) e in
       let t = sym (ap (λ (s : Shows). is_collected s.answer) q) in
       ((w ∙ ap (λ (s : Shows). shown_words s.answer) q, k ∙ ap (λ (s : Shows). s.dock) q), (done_words _ _ _ t, done_words _ _ _ t))
-
--- ---- a begin, shown
-
-module _
-    (begun z : Begun) (e : begun ≡ z) (d : Dock) (m n : ℕ) (words : List ℕ)
-    (w : words ≡ shown_words (shown_begun z d m n).answer) where
-  -- one that took no slot leaves every word
-  pub begun_kept : (shown_begun z d m n).dock ≡ d → (x v : Rows)
-      → ShowsAs (shown_begun begun d m n) words d × same_two (is_admitted begun) x v x v
-  begun_kept k x v = (
-    (
-      w ∙ sym (ap (λ (b : Begun). shown_words (shown_begun b d m n).answer) e),
-      sym k ∙ sym (ap (λ (b : Begun). (shown_begun b d m n).dock) e),
-    ),
-    (same_words _ _, same_words _ _),
-  )
-
-  pub begun_shown : is_admitted z ≡ true → (d' : Dock) → d' ≡ (shown_begun z d m n).dock → (x v x' v' : Rows)
-      → ShowsAs (shown_begun begun d m n) words d' × same_two (is_admitted begun) x v x' v'
-  begun_shown t d' k x v x' v' =
-      let u = ap is_admitted e ∙ t in (
-        (
-          w ∙ sym (ap (λ (b : Begun). shown_words (shown_begun b d m n).answer) e),
-          k ∙ sym (ap (λ (b : Begun). (shown_begun b d m n).dock) e),
-        ),
-        (done_words _ _ _ u, done_words _ _ _ u),
-      )
 
 -- ---- submit
 
@@ -106,23 +77,23 @@ module _ (d : Dock) (q : Asked) (memory scratch : List ℕ) (g : Begins) (e : g 
 
 module _ (d : Dock) (p code : ℕ) (memory scratch : List ℕ) (t : Told) (e : t ≡ tell_of d p code memory scratch) where
   -- what a tell comes to, shown where it is done
-  abbrev shown_told : Told → Outcome → Shows
+  abbrev shown_told : Told → Result (Unit {0}) Refusal → Shows
   shown_told z o = when_done o (show_of z.dock p (length memory) (length scratch)) (λ r. record { answer = NotShown r; dock = z.dock })
 
-  as_told : (o : Outcome) → t.outcome ≡ o → shown_told t o ≡ complete_of d p code memory scratch
+  as_told : (o : Result (Unit {0}) Refusal) → t.outcome ≡ o → shown_told t o ≡ complete_of d p code memory scratch
   unfolding complete_of
   as_told o k = sym (ap (shown_told t) k) ∙ ap (λ (z : Told). shown_told z z.outcome) e
 
-  pub completed_refused : (r : Refusal) → t.outcome ≡ Refused r → (words : List ℕ) → words ≡ shown_words (NotShown r)
+  pub completed_refused : (r : Refusal) → t.outcome ≡ Err r → (words : List ℕ) → words ≡ shown_words (NotShown r)
       → ShowsAs (complete_of d p code memory scratch) words t.dock
   completed_refused r o words w =
-      let j = as_told (Refused r) o in
+      let j = as_told (Err r) o in
       (w ∙ ap (λ (z : Shows). shown_words z.answer) j, ap (λ (z : Shows). z.dock) j)
 
-  pub completed : t.outcome ≡ Done → (words : List ℕ) (d' : Dock) → ShowsAs (show_of t.dock p (length memory) (length scratch)) words d'
+  pub completed : t.outcome ≡ (Ok tt) → (words : List ℕ) (d' : Dock) → ShowsAs (show_of t.dock p (length memory) (length scratch)) words d'
       → ShowsAs (complete_of d p code memory scratch) words d'
   completed o words d' s =
-      let j = as_told Done o in
+      let j = as_told (Ok tt) o in
       (s.0 ∙ ap (λ (z : Shows). shown_words z.answer) j, s.1 ∙ ap (λ (z : Shows). z.dock) j)
 
   -- a refusal leaves every word
@@ -130,7 +101,7 @@ module _ (d : Dock) (p code : ℕ) (memory scratch : List ℕ) (t : Told) (e : t
       → same_three (is_done (tell_of d p code memory scratch).outcome) b x v b' x' v
   complete_words b x v b' x' f = rw (← ap (λ (z : Told). is_done z.outcome) e) (f.0, f.1, same_words _ _)
 
-  pub complete_done : t.outcome ≡ Done → (b x v b' x' v' : Rows)
+  pub complete_done : t.outcome ≡ (Ok tt) → (b x v b' x' v' : Rows)
       → same_three (is_done (tell_of d p code memory scratch).outcome) b x v b' x' v'
   complete_done o b x v b' x' v' =
       let u = ap (λ (z : Told). is_done z.outcome) (sym e) ∙ ap is_done o in

@@ -10,27 +10,18 @@ ghost use Rattle.dock_words.specs.CallWords.{is_admitted, same_two, same_three};
 ghost use Rattle.dock_shown.specs.Shown.{NotShown, Asks, short_words, shown_words, is_collected, show_of, ShowsAs, shown_begun, submit_of};
 ghost use Rattle.dock_shown.specs.Shown.{complete_of, LeavesBytes};
 
-use arithmetic::refusals::{Outcome, Refusal};
-use dock::begin::{Asked, Begun};
+use arithmetic::refusals::Refusal;
+use dock::begin::Asked;
 use dock::next::{Due, Piece};
 use dock_words::arrays::{
     BlockerRows, SettingRow, StateRows, VectorRows, begin, collect, next, piece, tell,
 };
 use stages::state::{Kind, Request};
 
-fn byte_word(x: u8) -> u64
-    ensures { result ≡ x }
-{
-    x as u64
-}
+// In every contract here settings, blockers, states and vectors stand one by one: the C interface lends each in an array of its own.
 
-fn size_word(x: usize) -> u64
-    ensures { result ≡ x }
-{
-    x as u64
-}
-
-// The number of a request's kind.
+// The number of a request's kind. Both are other crates' types, so no `From` can say it; and a match keeps document 01's numbers apart
+// from the order in which the kinds are declared.
 pub fn kind_number(k: Kind) -> u64
     ensures { result ≡ kind_number k }
 {
@@ -53,49 +44,29 @@ fn put_short(reply: &mut [u64; 9], what: u64, number: u64)
 fn put_refusal(reply: &mut [u64; 9], r: Refusal)
     ensures { reply.new ≡ shown_words (NotShown r) }
 {
-    put_short(reply, 0, byte_word(r.number()));
+    put_short(reply, 0, r.number() as u64);
 }
 
 // The request that is out in `slot`, and its first piece.
-fn put_request(reply: &mut [u64; 9], slot: usize, q: Request, p: Piece)
+fn put_request(reply: &mut [u64; 9], slot: usize, q: Request, p: Result<Piece, Refusal>)
     ensures { reply.new ≡ shown_words (Asks slot q p) }
 {
-    let offset = q.offset;
-    let made = q.kind;
-    let kind = kind_number(made);
-    let pieces = size_word(q.segments);
-    let slot = size_word(slot);
-    match p {
-        Piece::InData(s) => {
-            *reply = [
-                3,
-                slot,
-                kind,
-                offset.0,
-                q.length,
-                pieces,
-                0,
-                size_word(s.start),
-                size_word(s.length),
-            ];
-        }
-        Piece::InScratch(s) => {
-            *reply = [
-                3,
-                slot,
-                kind,
-                offset.0,
-                q.length,
-                pieces,
-                1,
-                size_word(s.start),
-                size_word(s.length),
-            ];
-        }
-        Piece::Refused(_) => {
-            *reply = [3, slot, kind, offset.0, q.length, pieces, 0, 0, 0];
-        }
-    }
+    let (buffer, start, length) = match p {
+        Ok(Piece::InData(s)) => (0, s.start, s.length),
+        Ok(Piece::InScratch(s)) => (1, s.start, s.length),
+        Err(_) => (0, 0, 0),
+    };
+    *reply = [
+        3,
+        slot as u64,
+        kind_number(q.kind),
+        q.offset.0,
+        q.length,
+        q.segments as u64,
+        buffer,
+        start as u64,
+        length as u64,
+    ];
 }
 
 // What the job in `slot` needs now, with the first piece of its request; its final answer is collected, and the slot is free again.
@@ -118,7 +89,7 @@ pub fn show(
         slot data_len scratch_len).answer) states.old vectors.old states.new
         vectors.new }
 {
-    let due = next(
+    let due = match next(
         settings,
         blockers,
         states,
@@ -126,12 +97,15 @@ pub fn show(
         slot,
         data_len,
         scratch_len,
-    );
+    ) {
+        Ok(due) => due,
+        Err(r) => return put_refusal(reply, r),
+    };
     match due {
-        Due::Refused(r) => put_refusal(reply, r),
-        Due::Waiting => put_short(reply, 2, size_word(slot)),
+        Due::Waiting => put_short(reply, 2, slot as u64),
         Due::Answer(code) => {
-            collect(
+            // what it answers is the code that next gave
+            let _ = collect(
                 settings,
                 blockers,
                 states,
@@ -140,7 +114,7 @@ pub fn show(
                 data_len,
                 scratch_len,
             );
-            put_short(reply, 1, byte_word(code));
+            put_short(reply, 1, code as u64);
         }
         Due::Make(q) => {
             let p = piece(
@@ -164,7 +138,7 @@ fn show_begun(
     blockers: &BlockerRows,
     states: &mut StateRows,
     vectors: &mut VectorRows,
-    begun: Begun,
+    begun: Result<Option<usize>, Refusal>,
     data_len: usize,
     scratch_len: usize,
     reply: &mut [u64; 9],
@@ -176,10 +150,13 @@ fn show_begun(
     ensures words { same_two (is_admitted begun) states.old vectors.old
         states.new vectors.new }
 {
-    match begun {
-        Begun::Done => put_short(reply, 1, 0),
-        Begun::Refused(r) => put_refusal(reply, r),
-        Begun::Admitted(slot) => show(
+    let taken = match begun {
+        Ok(taken) => taken,
+        Err(r) => return put_refusal(reply, r),
+    };
+    match taken {
+        None => put_short(reply, 1, 0),
+        Some(slot) => show(
             settings,
             blockers,
             states,
@@ -261,7 +238,7 @@ pub fn complete(
     let outcome = tell(
         settings, blockers, states, vectors, slot, code, data, scratch,
     );
-    if let Outcome::Refused(r) = outcome {
+    if let Err(r) = outcome {
         return put_refusal(reply, r);
     }
     show(

@@ -2,7 +2,7 @@
 -- Assumes nothing.
 use Rattle.std.proofs.Math.Path.{◌≡◌, refl, sym}
 use Rattle.std.proofs.Common.{ap, ◌∙◌, arith, ltb-true, lt-ltb, le-ltb}
-use Rattle.std.specs.Prelude.{Bool, ◌&&◌, ℕ, ◌<◌, ◌≤◌, ltb, set}
+use Rattle.std.specs.Prelude.{Bool, ◌&&◌, ℕ, ◌<◌, ◌≤◌, ltb, set, Result, Ok, Err, Option, Some, None}
 use Rattle.std.proofs.Math.Bool.{true, false, not}
 use mathlib.Core.List.{List}
 use Rattle.arithmetic.specs.Rounding.{pick}
@@ -10,8 +10,6 @@ use Rattle.arithmetic.specs.Refusals.{when_done, is_done, is_done_lem}
 use Rattle.arithmetic.specs.SettingsLaws.{and_left, and_right}
 use Rattle.arithmetic.specs.declared.refusals.Refusal.{Refusal}
 use Rattle.arithmetic.specs.declared.refusals.Refusal.TheVariants.{Slot}
-use Rattle.arithmetic.specs.declared.refusals.Outcome.{Outcome}
-use Rattle.arithmetic.specs.declared.refusals.Outcome.TheVariants.{Done, Refused}
 use Rattle.vectors.specs.declared.vector.IoVector.{IoVector}
 use Rattle.blockers.specs.Blockers.{is_entered, blocker_at, left_of, entered_of, changed_to, refused, strength}
 use Rattle.blockers.specs.Laws.{left_own, enter_done}
@@ -27,8 +25,6 @@ use Rattle.dock.specs.Tell.{Told, tells, blockers_without, handed, Stepped, refu
 use Rattle.dock.specs.Tell.{enters_at}
 use Rattle.dock.specs.declared.dock.Dock.{Dock}
 use Rattle.dock.specs.declared.open.Opened.{Opened}
-use Rattle.dock.specs.declared.begin.Begun.{Begun}
-use Rattle.dock.specs.declared.begin.Begun.TheVariants.{Done as NoRequest, Admitted, Refused as BeginRefused}
 use Rattle.dock_words.specs.View.{Rows, blockers_of, states_of, vectors_of, settings_of, buffers_of, dock_of}
 use Rattle.dock_words.specs.CallWords.{same_unless, opens_as, opens_over, changes, ToldWords, tells_words, stored_words_by, stored_words}
 use Rattle.dock_words.specs.CallWords.{BegunWords, begins_words, stored_job_by, stored_job}
@@ -58,12 +54,12 @@ not_opened true d made e = let z : ◌≡◌ {A = Bool} true false = e in let y 
 not_opened false d made e = tt
 
 -- an opening that is refused, over words that stay, and one that is carried out
-module _ (made : Opened) (o : Outcome) (e : o ≡ made.outcome) (s : List ℕ) (b x v : Rows) where
-  pub refused_opening : (r : Refusal) → o ≡ Refused r → (o ≡ made.outcome) × opens_over made s b x v s b x v
+module _ (made : Opened) (o : Result (Unit {0}) Refusal) (e : o ≡ made.outcome) (s : List ℕ) (b x v : Rows) where
+  pub refused_opening : (r : Refusal) → o ≡ Err r → (o ≡ made.outcome) × opens_over made s b x v s b x v
   refused_opening r f = (e, (not_opened _ _ _ (ap is_done (sym e ∙ f)), same_words _ _, (same_words _ _, same_words _ _, same_words _ _)))
 
-  pub done_opening : o ≡ Done → (s' : List ℕ) (b' x' v' : Rows) → dock_of s' b' x' v' ≡ made.dock
-      → (Done ≡ made.outcome) × opens_over made s b x v s' b' x' v'
+  pub done_opening : o ≡ (Ok tt) → (s' : List ℕ) (b' x' v' : Rows) → dock_of s' b' x' v' ≡ made.dock
+      → ((Ok tt) ≡ made.outcome) × opens_over made s b x v s' b' x' v'
   done_opening f s' b' x' v' d =
       let k = ap is_done (sym e ∙ f) in
       (sym f ∙ e, (opened_as _ _ _ d, done_words _ _ _ k, (done_words _ _ _ k, done_words _ _ _ k, done_words _ _ _ k)))
@@ -71,7 +67,7 @@ module _ (made : Opened) (o : Outcome) (e : o ≡ made.outcome) (s : List ℕ) (
 -- ---- what a call left, held beside the dock
 
 module _ (s : List ℕ) (b x v : Rows) where
-  pub tell_stored : (p : ℕ) (o : Outcome) (b' x' : Rows) (memory scratch : List ℕ) (t : Stepped)
+  pub tell_stored : (p : ℕ) (o : Result (Unit {0}) Refusal) (b' x' : Rows) (memory scratch : List ℕ) (t : Stepped)
       → tells_words o b' x' memory scratch ≡ stored_words (blockers_of b) (states_of x) p t
       → tells (record { outcome = o; dock = dock_of s b' x' v }) memory scratch ≡ stored (dock_of s b x v) p t
   tell_stored p o b' x' memory scratch t e = ap by e ∙ go t.outcome
@@ -88,11 +84,11 @@ module _ (s : List ℕ) (b x v : Rows) where
         };
       }) k.memory k.scratch
 
-      go : (o : Outcome) → by (stored_words_by o (blockers_of b) (states_of x) p t) ≡ stored_by o (dock_of s b x v) p t
-      go Done = refl
-      go (Refused r) = refl
+      go : (o : Result (Unit {0}) Refusal) → by (stored_words_by o (blockers_of b) (states_of x) p t) ≡ stored_by o (dock_of s b x v) p t
+      go (Ok _) = refl
+      go (Err r) = refl
 
-  pub begin_stored : (r : Begun) (b' x' v' : Rows) (scratch : List ℕ) (w : IoVector) (a : Admits)
+  pub begin_stored : (r : Result (Option ℕ) Refusal) (b' x' v' : Rows) (scratch : List ℕ) (w : IoVector) (a : Admits)
       → begins_words r b' x' v' scratch ≡ stored_job (blockers_of b) (states_of x) (vectors_of v) w a
       → begins (record { answer = r; dock = dock_of s b' x' v' }) scratch ≡ stored_with (dock_of s b x v) w a
   begin_stored r b' x' v' scratch w a e = ap by e ∙ go a.answer
@@ -109,20 +105,21 @@ module _ (s : List ℕ) (b x v : Rows) where
         };
       }) k.scratch
 
-      go : (z : Begun) → by (stored_job_by z (blockers_of b) (states_of x) (vectors_of v) w a) ≡ stored_with_by z (dock_of s b x v) w a
-      go NoRequest = refl
-      go (Admitted p) = refl
-      go (BeginRefused y) = refl
+      go : (z : Result (Option ℕ) Refusal)
+          → by (stored_job_by z (blockers_of b) (states_of x) (vectors_of v) w a) ≡ stored_with_by z (dock_of s b x v) w a
+      go (Ok None) = refl
+      go (Ok (Some p)) = refl
+      go (Err y) = refl
 
 -- a step that is done is stored; one that is refused leaves blockers and states
 module _ (B : Blockers) (xs : List State) (p : ℕ) (t : Stepped) (b x : Rows) (memory scratch : List ℕ) where
-  pub stored_done : t.outcome ≡ Done → blockers_of b ≡ t.blockers → states_of x ≡ set xs p t.state → memory ≡ t.memory
-      → scratch ≡ t.scratch → tells_words Done b x memory scratch ≡ stored_words B xs p t
-  stored_done o e f m n = rw (e, f, m, n) (sym (ap (λ (z : Outcome). stored_words_by z B xs p t) o))
+  pub stored_done : t.outcome ≡ (Ok tt) → blockers_of b ≡ t.blockers → states_of x ≡ set xs p t.state → memory ≡ t.memory
+      → scratch ≡ t.scratch → tells_words (Ok tt) b x memory scratch ≡ stored_words B xs p t
+  stored_done o e f m n = rw (e, f, m, n) (sym (ap (λ (z : Result (Unit {0}) Refusal). stored_words_by z B xs p t) o))
 
-  pub stored_refused : (r : Refusal) → t.outcome ≡ Refused r → blockers_of b ≡ B → states_of x ≡ xs → memory ≡ t.memory
-      → scratch ≡ t.scratch → tells_words (Refused r) b x memory scratch ≡ stored_words B xs p t
-  stored_refused r o e f m n = rw (e, f, m, n) (sym (ap (λ (z : Outcome). stored_words_by z B xs p t) o))
+  pub stored_refused : (r : Refusal) → t.outcome ≡ Err r → blockers_of b ≡ B → states_of x ≡ xs → memory ≡ t.memory
+      → scratch ≡ t.scratch → tells_words (Err r) b x memory scratch ≡ stored_words B xs p t
+  stored_refused r o e f m n = rw (e, f, m, n) (sym (ap (λ (z : Result (Unit {0}) Refusal). stored_words_by z B xs p t) o))
 
 -- ---- when a blocker can leave, enter or change
 
@@ -154,15 +151,15 @@ module _ (b : Blockers) (p : ℕ) where
     leaves_entered e = simp e (sym leave_is)
 
     -- where it cannot, that is 208
-    pub leaves_not : is_done (blockers_without b p x).outcome ≡ false → (blockers_without b p x).outcome ≡ Refused Slot
+    pub leaves_not : is_done (blockers_without b p x).outcome ≡ false → (blockers_without b p x).outcome ≡ Err Slot
     unfolding blockers_without left_of
     leaves_not = go (is_blocking x.phase) (ltb p 8 && is_entered (blocker_at b p)) _
       where
         go : (u t : Bool) (l : List Blocker) → is_done (pick u (pick t (changed_to l) (refused b)) (record {
           blockers = b;
-          outcome = Done;
+          outcome = (Ok (tt {0}));
         })).outcome ≡ false
-            → (pick u (pick t (changed_to l) (refused b)) (record { blockers = b; outcome = Done })).outcome ≡ Refused Slot
+            → (pick u (pick t (changed_to l) (refused b)) (record { blockers = b; outcome = (Ok tt) })).outcome ≡ Err Slot
         go true true l e = let z : ◌≡◌ {A = ℕ} 0 1 = cc in absurd (omega arith)
         go true false l e = refl
         go false t l e = let z : ◌≡◌ {A = ℕ} 0 1 = cc in absurd (omega arith)
@@ -182,22 +179,22 @@ module _ (b : Blockers) (p : ℕ) where
     enters_vacant e h = simp e (simp (lt-ltb p 8 h) (sym (enter_is (strength x.stage.strong) x.stage.request
         ∙ simp (lt-ltb p 8 h))))
 
-    pub enters_not : is_done (blockers_with b p x).outcome ≡ false → (blockers_with b p x).outcome ≡ Refused Slot
+    pub enters_not : is_done (blockers_with b p x).outcome ≡ false → (blockers_with b p x).outcome ≡ Err Slot
     unfolding blockers_with entered_of
     enters_not = go (is_blocking x.phase) (ltb p 8 && not (is_entered (blocker_at b p))) _
       where
         go : (u t : Bool) (l : List Blocker) → is_done (pick u (pick t (changed_to l) (refused b)) (record {
           blockers = b;
-          outcome = Done;
+          outcome = (Ok (tt {0}));
         })).outcome ≡ false
-            → (pick u (pick t (changed_to l) (refused b)) (record { blockers = b; outcome = Done })).outcome ≡ Refused Slot
+            → (pick u (pick t (changed_to l) (refused b)) (record { blockers = b; outcome = (Ok tt) })).outcome ≡ Err Slot
         go true true l e = let z : ◌≡◌ {A = ℕ} 0 1 = cc in absurd (omega arith)
         go true false l e = refl
         go false t l e = let z : ◌≡◌ {A = ℕ} 0 1 = cc in absurd (omega arith)
 
 -- where a blocker has left, the next one enters
 after_left : (b : Blockers) (p : ℕ) (y : State) → is_done (left_of p b).outcome ≡ true
-    → (blockers_with (left_of p b).blockers p y).outcome ≡ Done
+    → (blockers_with (left_of p b).blockers p y).outcome ≡ Ok tt
 unfolding blockers_with
 after_left b p y e = go (is_blocking y.phase)
   where
@@ -211,7 +208,7 @@ after_left b p y e = go (is_blocking y.phase)
     own = ap is_entered (left_own p b h (and_right (ltb p 8) (is_entered (blocker_at b p)) there))
 
     go : (t : Bool) → (pick t (entered_of (strength y.stage.strong) p y.stage.request (left_of p b).blockers)
-        (record { blockers = (left_of p b).blockers; outcome = Done })).outcome ≡ Done
+        (record { blockers = (left_of p b).blockers; outcome = (Ok (tt {0})) })).outcome ≡ Ok (tt {0})
     go true = ap (λ (c : Changed). c.outcome) (enter_done (strength y.stage.strong) p y.stage.request (left_of p b).blockers h own)
     go false = refl
 
@@ -221,10 +218,10 @@ module _ (b : Blockers) (p : ℕ) (x y : State) where
   unfolding blockers_without
   changes_blocking e = simp e (go (left_of p b).outcome refl)
     where
-      go : (o : Outcome) → (left_of p b).outcome ≡ o
-          → is_done o ≡ is_done (when_done o (blockers_with (left_of p b).blockers p y).outcome Refused)
-      go Done q = sym (ap is_done (after_left b p y (ap is_done q)))
-      go (Refused r) q = refl
+      go : (o : Result (Unit {0}) Refusal) → (left_of p b).outcome ≡ o
+          → is_done o ≡ is_done (when_done o (blockers_with (left_of p b).blockers p y).outcome Err)
+      go (Ok _) q = sym (ap is_done (after_left b p y (ap is_done q)))
+      go (Err r) q = refl
 
   -- of a stage with none: where the next one can enter
   pub changes_plain : is_blocking x.phase ≡ false → is_done (blockers_with b p y).outcome ≡ is_done (changes b p x y)
@@ -266,7 +263,7 @@ module _ (b : Blockers) (p share : ℕ) (x y : State) (v : IoVector) (memory scr
       B : Blockers
       B = (blockers_with (blockers_without b p x).blockers p y).blockers
 
-      go : (q n : Outcome) → is_done (when_done q n Refused) ≡ true
+      go : (q n : Result (Unit {0}) Refusal) → is_done (when_done q n Err) ≡ true
           → when_done q (enters_by (when_done n (record {
             blockers = B;
             outcome = (filled share y v memory scratch).outcome;
@@ -280,13 +277,13 @@ module _ (b : Blockers) (p share : ℕ) (x y : State) (v : IoVector) (memory scr
             memory = memory;
             scratch = (filled share y v memory scratch).scratch;
           }
-      go Done Done e = refl
-      go Done (Refused r) e = let z : ◌≡◌ {A = ℕ} 0 1 = cc in absurd (omega arith)
-      go (Refused r) n e = let z : ◌≡◌ {A = ℕ} 0 1 = cc in absurd (omega arith)
+      go (Ok _) (Ok _) e = refl
+      go (Ok _) (Err r) e = let z : ◌≡◌ {A = ℕ} 0 1 = cc in absurd (omega arith)
+      go (Err r) n e = let z : ◌≡◌ {A = ℕ} 0 1 = cc in absurd (omega arith)
 
   -- where it cannot change, that is 208, and nothing moves
   pub enters_stuck : is_done (changes b p x y) ≡ false
-      → ((enters_at b p share x y v memory scratch).outcome ≡ Refused Slot) × (memory ≡ (enters_at b p share x y v memory scratch).memory)
+      → ((enters_at b p share x y v memory scratch).outcome ≡ Err Slot) × (memory ≡ (enters_at b p share x y v memory scratch).memory)
       × (scratch ≡ (enters_at b p share x y v memory scratch).scratch)
   unfolding enters_at enter_at
   enters_stuck = go (blockers_without b p x).outcome (leaves_not b p x) (blockers_with (blockers_without b p x).blockers p y).outcome
@@ -295,7 +292,7 @@ module _ (b : Blockers) (p share : ℕ) (x y : State) (v : IoVector) (memory scr
       B : Blockers
       B = (blockers_with (blockers_without b p x).blockers p y).blockers
 
-      there : Outcome → Outcome → Stepped
+      there : Result (Unit {0}) Refusal → Result (Unit {0}) Refusal → Stepped
       there q n = when_done q (enters_by (when_done n (record {
         blockers = B;
         outcome = (filled share y v memory scratch).outcome;
@@ -303,9 +300,10 @@ module _ (b : Blockers) (p share : ℕ) (x y : State) (v : IoVector) (memory scr
       })
           (λ r. record { blockers = B; outcome = n; scratch = scratch })) y memory) (λ r. refused_step b x r memory scratch)
 
-      go : (q : Outcome) → (is_done q ≡ false → q ≡ Refused Slot) → (n : Outcome) → (is_done n ≡ false → n ≡ Refused Slot) →
-          is_done (when_done q n Refused) ≡ false
-          → ((there q n).outcome ≡ Refused Slot) × (memory ≡ (there q n).memory) × (scratch ≡ (there q n).scratch)
-      go Done f Done g e = let z : ◌≡◌ {A = ℕ} 0 1 = cc in absurd (omega arith)
-      go Done f (Refused r) g e = (g refl, refl, refl)
-      go (Refused r) f n g e = (f refl, refl, refl)
+      go : (q : Result (Unit {0}) Refusal) → (is_done q ≡ false → q ≡ Err Slot) → (n : Result (Unit {0}) Refusal)
+          → (is_done n ≡ false → n ≡ Err Slot) →
+          is_done (when_done q n Err) ≡ false
+          → ((there q n).outcome ≡ Err Slot) × (memory ≡ (there q n).memory) × (scratch ≡ (there q n).scratch)
+      go (Ok _) f (Ok _) g e = let z : ◌≡◌ {A = ℕ} 0 1 = cc in absurd (omega arith)
+      go (Ok _) f (Err r) g e = (g refl, refl, refl)
+      go (Err r) f n g e = (f refl, refl, refl)

@@ -1,5 +1,6 @@
 -- What is put is what is got: a row's words decoded and coded, and a row among the rows. Assumes nothing.
-use Rattle.std.specs.Prelude.{◌≡◌, refl, Bool, true, false, List, [], ◌∷◌, map, ℕ, zero, suc, ◌+◌, ◌<◌, ◌≤◌, length, drop, get_or, set, replicate, not, cond}
+use Rattle.std.specs.Prelude.{◌≡◌, refl, Bool, true, false, List, [], ◌∷◌, map, ℕ, zero}
+use Rattle.std.specs.Prelude.{suc, ◌+◌, ◌<◌, ◌≤◌, length, drop, get_or, set, replicate, not, cond}
 use Rattle.std.specs.List.{position_or_len}
 use Rattle.std.proofs.Common.{sym, ◌∙◌, mod-eq_of_lt, arith, get_or-set_other}
 use Rattle.std.proofs.lemmas.List.{length-map, drop-set-add, map-set, get_or-map}
@@ -45,7 +46,8 @@ module _ (w : List (List ℕ)) (p : ℕ) where
   pub vector_row : p < length w → vector_from (get_or w p []) ≡ get_or (vectors_of w) p no_vector
   vector_row h = sym (get_or-map vector_from w p [] no_vector h)
 
-  pub vector_put : (v : IoVector) (r : List ℕ) → r ≡ vector_words v → length v.segments ≡ 16 → vectors_of (set w p r) ≡ set (vectors_of w) p v
+  pub vector_put : (v : IoVector) (r : List ℕ) → r ≡ vector_words v → length v.segments ≡ 16
+      → vectors_of (set w p r) ≡ set (vectors_of w) p v
   vector_put v r e n = map-set vector_from w p r ∙ rw (e, vector_back v n)
 
   pub blocker_row : p < length w → blocker_of (get_or w p []) ≡ blocker_at (blockers_of w) p

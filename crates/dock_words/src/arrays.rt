@@ -16,13 +16,12 @@ pub use crate::setting_words::settings_of;
 use crate::setting_words::{Place, buffers_of, put_settings};
 use crate::state_words::{first_free, get_state, put_state};
 use crate::told_words::{is_out, tell_slot};
-use arithmetic::refusals::{Outcome, Refusal};
-use arithmetic::settings::{Buffers, Profile, Settings, check_opening};
-use dock::begin::{Asked, Begun, decide, plan_asked, select_vector};
+use arithmetic::refusals::Refusal;
+use arithmetic::settings::{Alignments, Buffers, Settings, check_opening};
+use dock::begin::{Asked, decide, plan_asked, select_vector};
 use dock::dock::{SLOTS, check_lent, lent_fits};
 use dock::next::{Due, Piece, due_now, piece_in};
 use dock::open::make_vacant;
-use dock::tell::Collected;
 use stages::state::has_ended;
 use vectors::vector::IoVector;
 pub use vectors::words::{get_vector as vector_of, put_vector as put_vector_of};
@@ -53,17 +52,14 @@ pub fn open(
     vectors: &mut VectorRows,
     s: Settings,
     b: Buffers,
-) -> Outcome
+) -> Result<(), Refusal>
     ensures { (result ≡ (open_of s b).outcome) × opens_over (open_of s b)
         settings.old blockers.old states.old vectors.old
         settings.new blockers.new states.new vectors.new }
 {
-    let outcome = check_opening(s, b);
-    let Outcome::Done = outcome else {
-        return outcome;
-    };
+    check_opening(s, b)?;
     set_fresh(settings, blockers, states, vectors, s, b);
-    Outcome::Done
+    Ok(())
 }
 
 // Open by drive profile (document 01: a drive row), a built-in one or one of a loaded table: refused with 201, then 205.
@@ -72,21 +68,17 @@ pub fn open_by(
     blockers: &mut BlockerRows,
     states: &mut StateRows,
     vectors: &mut VectorRows,
-    profile: Profile,
+    profile: Result<Alignments, Refusal>,
     bounce: u64,
     b: Buffers,
-) -> Outcome
+) -> Result<(), Refusal>
     ensures { (result ≡ (open_by profile bounce b).outcome) × opens_over (open_by profile bounce b)
         settings.old blockers.old states.old vectors.old
         settings.new blockers.new states.new vectors.new }
 {
-    match profile {
-        Profile::Of(align) => {
-            let s = Settings { align, bounce };
-            open(settings, blockers, states, vectors, s, b)
-        }
-        Profile::Refused(r) => Outcome::Refused(r),
-    }
+    let align = profile?;
+    let s = Settings { align, bounce };
+    open(settings, blockers, states, vectors, s, b)
 }
 
 // Begin what is asked, in the lowest free slot.
@@ -98,7 +90,7 @@ pub fn begin(
     asked: Asked,
     data: &[u8],
     scratch: &mut [u8],
-) -> Begun
+) -> Result<Option<usize>, Refusal>
     ensures dock { begins_in result settings.now blockers.new states.new vectors.new
         scratch.new
         ≡ begin_of (dock_of settings.now blockers.old states.old vectors.old)
@@ -132,16 +124,16 @@ pub fn next(
     slot: usize,
     data_len: usize,
     scratch_len: usize,
-) -> Due
+) -> Result<Due, Refusal>
     ensures { result ≡ next_of (dock_of settings.now blockers.now states.now vectors.now) slot
         data_len scratch_len }
 {
     let lent = buffers_of(settings);
     if !lent_fits(lent, data_len, scratch_len) {
-        return Due::Refused(Refusal::Buffer);
+        return Err(Refusal::Buffer);
     }
     if SLOTS <= slot {
-        return Due::Refused(Refusal::Slot);
+        return Err(Refusal::Slot);
     }
     let waiting = waits(blockers, slot);
     due_now(
@@ -161,20 +153,20 @@ pub fn piece(
     i: usize,
     data_len: usize,
     scratch_len: usize,
-) -> Piece
+) -> Result<Piece, Refusal>
     ensures { result ≡ piece_of (dock_of settings.now blockers.now states.now vectors.now) slot
         i data_len scratch_len }
 {
     let lent = buffers_of(settings);
     if !lent_fits(lent, data_len, scratch_len) {
-        return Piece::Refused(Refusal::Buffer);
+        return Err(Refusal::Buffer);
     }
     if SLOTS <= slot {
-        return Piece::Refused(Refusal::Slot);
+        return Err(Refusal::Slot);
     }
     let x = get_state(&states[slot]);
     if !is_out(blockers, x, slot) {
-        return Piece::Refused(Refusal::Slot);
+        return Err(Refusal::Slot);
     }
     let s = settings_of(settings);
     let v = get_vector(&vectors[slot]);
@@ -191,7 +183,7 @@ pub fn tell(
     code: u8,
     data: &mut [u8],
     scratch: &mut [u8],
-) -> Outcome
+) -> Result<(), Refusal>
     ensures dock { tells_in result settings.now blockers.new states.new vectors.now
         «data».new scratch.new
         ≡ tell_of (dock_of settings.now blockers.old states.old vectors.now)
@@ -200,10 +192,10 @@ pub fn tell(
 {
     let b = buffers_of(settings);
     if !lent_fits(b, data.len(), scratch.len()) {
-        return Outcome::Refused(Refusal::Buffer);
+        return Err(Refusal::Buffer);
     }
     if SLOTS <= slot {
-        return Outcome::Refused(Refusal::Slot);
+        return Err(Refusal::Slot);
     }
     let place = Place {
         slot,
@@ -232,7 +224,7 @@ pub fn collect(
     slot: usize,
     data_len: usize,
     scratch_len: usize,
-) -> Collected
+) -> Result<u8, Refusal>
     ensures dock { CollectGives (collect_of
         (dock_of settings.now blockers.now states.old vectors.old) slot data_len scratch_len)
         result (dock_of settings.now blockers.now states.new vectors.new) }
@@ -240,16 +232,16 @@ pub fn collect(
 {
     let lent = buffers_of(settings);
     if !lent_fits(lent, data_len, scratch_len) {
-        return Collected::Refused(Refusal::Buffer);
+        return Err(Refusal::Buffer);
     }
     if SLOTS <= slot {
-        return Collected::Refused(Refusal::Slot);
+        return Err(Refusal::Slot);
     }
     let x = get_state(&states[slot]);
     if !has_ended(x.phase) {
-        return Collected::Refused(Refusal::Slot);
+        return Err(Refusal::Slot);
     }
     put_state(&mut states[slot], make_vacant());
     put_vector(&mut vectors[slot], IoVector::new());
-    Collected::Final(x.answer)
+    Ok(x.answer)
 }

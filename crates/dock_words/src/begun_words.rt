@@ -1,7 +1,6 @@
 // What a begin does to the words: whether its vector meets another, and the job that comes to its slot.
 ghost use Rattle.std.specs.Prelude.{◌≡◌, true, ◌<◌, length, zip};
 ghost use Rattle.std.specs.List.{list_any};
-ghost use Rattle.stages.specs.declared.plan.Plan.TheVariants.{Started};
 ghost use Rattle.dock.specs.Dock.{meets_of, overlaps_of};
 ghost use Rattle.dock.specs.Next.{is_sound_at};
 ghost use Rattle.dock.specs.Slots.{PlanSound};
@@ -14,11 +13,9 @@ use crate::blocker_steps::{enter_blocker, may_enter};
 use crate::rows::{BlockerRows, StateRow, StateRows, VectorRow, VectorRows};
 use crate::setting_words::Place;
 use crate::state_words::{get_state, is_free_row, put_state};
-use arithmetic::refusals::{Outcome, Refusal};
-use dock::begin::Begun;
+use arithmetic::refusals::Refusal;
 use dock::bytes::fill_share;
 use dock::dock::{SLOTS, meets, meets_itself};
-use stages::plan::Plan;
 use stages::state::{Job, State};
 use vectors::vector::IoVector;
 use vectors::words::{get_vector, put_vector};
@@ -61,19 +58,19 @@ fn admit_started(
     v: IoVector,
     data: &[u8],
     scratch: &mut [u8],
-) -> Begun
+) -> Result<Option<usize>, Refusal>
     requires { (place.slot < 8) × (is_sound_at place.slot x place.settings place.buffers (length scratch.old) ≡ true) }
     ensures dock { StoresJob (admit_at (blockers_of blockers.old) place.slot place.settings.bounce v
-        «data».now scratch.old (Started x)) v
+        «data».now scratch.old ((Ok (Some x)))) v
         blockers.old states.old vectors.old
         result blockers.new states.new vectors.new scratch.new }
     ensures words { same_three (is_admitted result) blockers.old states.old vectors.old
         blockers.new states.new vectors.new }
 {
     if !may_enter(blockers, place.slot, x) {
-        return Begun::Refused(Refusal::Slot);
+        return Err(Refusal::Slot);
     }
-    if let Outcome::Refused(r) = fill_share(
+    fill_share(
         place.slot,
         place.settings,
         place.buffers,
@@ -81,13 +78,11 @@ fn admit_started(
         v,
         data,
         scratch,
-    ) {
-        return Begun::Refused(r);
-    }
-    enter_blocker(blockers, place.slot, x);
+    )?;
+    let _ = enter_blocker(blockers, place.slot, x); // it can, by the test above
     put_state(&mut states[place.slot], x);
     put_vector(&mut vectors[place.slot], v);
-    Begun::Admitted(place.slot)
+    Ok(Some(place.slot))
 }
 
 // A decided job comes to its slot.
@@ -96,11 +91,11 @@ pub(crate) fn admit(
     states: &mut StateRows,
     vectors: &mut VectorRows,
     place: Place,
-    plan: Plan,
+    plan: Result<Option<State>, Refusal>,
     v: IoVector,
     data: &[u8],
     scratch: &mut [u8],
-) -> Begun
+) -> Result<Option<usize>, Refusal>
     requires { PlanSound place.slot place.settings place.buffers (length scratch.old) plan }
     ensures dock { StoresJob (admit_at (blockers_of blockers.old) place.slot place.settings.bounce v
         «data».now scratch.old plan) v
@@ -109,9 +104,8 @@ pub(crate) fn admit(
     ensures words { same_three (is_admitted result) blockers.old states.old vectors.old
         blockers.new states.new vectors.new }
 {
-    match plan {
-        Plan::Done => Begun::Done,
-        Plan::Refused(r) => Begun::Refused(r),
-        Plan::Started(x) => admit_started(blockers, states, vectors, place, x, v, data, scratch),
-    }
+    let Some(x) = plan? else {
+        return Ok(None);
+    };
+    admit_started(blockers, states, vectors, place, x, v, data, scratch)
 }

@@ -9,7 +9,7 @@ ghost use Rattle.dock_words.specs.CallWords.{changes, ChangesBlockers};
 
 use crate::blocker_words::{enter, is_entered_at, leave};
 use crate::rows::BlockerRows;
-use arithmetic::refusals::Outcome;
+use arithmetic::refusals::Refusal;
 use blockers::strength;
 use dock::dock::SLOTS;
 use stages::state::{State, is_blocking};
@@ -29,23 +29,31 @@ pub(crate) fn may_enter(blockers: &BlockerRows, slot: usize, x: State) -> bool
 }
 
 // It leaves.
-pub(crate) fn leave_blocker(blockers: &mut BlockerRows, slot: usize, x: State) -> Outcome
+pub(crate) fn leave_blocker(
+    blockers: &mut BlockerRows,
+    slot: usize,
+    x: State,
+) -> Result<(), Refusal>
     ensures { ChangesBlockers (blockers_without (blockers_of blockers.old) slot x) result
         blockers.old blockers.new }
 {
     if !is_blocking(x.phase) {
-        return Outcome::Done;
+        return Ok(());
     }
     leave(blockers, slot)
 }
 
 // It enters.
-pub(crate) fn enter_blocker(blockers: &mut BlockerRows, slot: usize, x: State) -> Outcome
+pub(crate) fn enter_blocker(
+    blockers: &mut BlockerRows,
+    slot: usize,
+    x: State,
+) -> Result<(), Refusal>
     ensures { ChangesBlockers (blockers_with (blockers_of blockers.old) slot x) result
         blockers.old blockers.new }
 {
     if !is_blocking(x.phase) {
-        return Outcome::Done;
+        return Ok(());
     }
     enter(blockers, strength(x.stage.strong), slot, x.stage.request)
 }
@@ -66,6 +74,6 @@ pub(crate) fn change_blocker(blockers: &mut BlockerRows, slot: usize, x: State, 
     ensures { blockers_of blockers.new ≡ (blockers_with
         (blockers_without (blockers_of blockers.old) slot x).blockers slot y).blockers }
 {
-    leave_blocker(blockers, slot, x);
-    enter_blocker(blockers, slot, y);
+    let _ = leave_blocker(blockers, slot, x); // whether both can is asked before
+    let _ = enter_blocker(blockers, slot, y);
 }

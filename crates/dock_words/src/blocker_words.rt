@@ -8,7 +8,7 @@ ghost use Rattle.dock_words.specs.CallWords.{ChangesBlockers};
 use crate::rows::{BlockerRow, BlockerRows};
 use crate::tags::{Tagged, get_range};
 use arithmetic::offsets::Range;
-use arithmetic::refusals::{Outcome, Refusal};
+use arithmetic::refusals::Refusal;
 use blockers::{Blocker, Kind, conflicts, range_overlaps};
 use dock::dock::SLOTS;
 
@@ -84,15 +84,15 @@ pub fn waits(all: &BlockerRows, slot: usize) -> bool
 }
 
 // Enter a blocker of this kind. Refused (208) past slot 7 and where one is entered.
-pub fn enter(all: &mut BlockerRows, kind: Kind, slot: usize, range: Range) -> Outcome
+pub fn enter(all: &mut BlockerRows, kind: Kind, slot: usize, range: Range) -> Result<(), Refusal>
     ensures { ChangesBlockers (entered_of kind slot range (blockers_of all.old)) result all.old all.new }
 {
     if SLOTS <= slot || is_entered(all[slot][0]) {
-        return Outcome::Refused(Refusal::Slot);
+        return Err(Refusal::Slot);
     }
     let noted = notes(all, kind, range);
     put_blocker(&mut all[slot], Blocker { kind, range, noted });
-    Outcome::Done
+    Ok(())
 }
 
 // The words of the blockers, none of which notes `slot`.
@@ -106,13 +106,13 @@ fn forget(all: &mut BlockerRows, slot: usize)
 }
 
 // The slot's blocker is gone, and nobody notes it any more. Refused (208) past slot 7 and where none is entered.
-pub fn leave(all: &mut BlockerRows, slot: usize) -> Outcome
+pub fn leave(all: &mut BlockerRows, slot: usize) -> Result<(), Refusal>
     ensures { ChangesBlockers (left_of slot (blockers_of all.old)) result all.old all.new }
 {
     if !is_entered_at(all, slot) {
-        return Outcome::Refused(Refusal::Slot);
+        return Err(Refusal::Slot);
     }
     forget(all, slot);
     all[slot] = [0; 11];
-    Outcome::Done
+    Ok(())
 }

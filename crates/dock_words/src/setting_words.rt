@@ -1,11 +1,13 @@
-// Settings and the buffers of opening, in one row of 9 words.
+// Settings and the buffers of opening, in one row of 9 words. Here, and for states and blockers, functions tell what a row stands for:
+// `From` could only stand in the crate that has the type.
 ghost use Rattle.std.specs.Prelude.{◌≡◌};
 ghost use Rattle.dock_words.specs.View.{settings_of, buffers_of, settings_words};
 
 use crate::rows::SettingRow;
 use arithmetic::settings::{Alignments, Buffers, Lent, Settings};
 
-// A slot of the dock, with what its job needs of the rest: the settings and the buffers.
+// A slot of the dock, with what its job needs of the rest: the settings and the buffers. That the slot is below 8 is asked where it
+// indexes, and is no invariant: a begin makes a place for slot 8 too, where none is free.
 #[derive(Clone, Copy)]
 pub(crate) struct Place {
     pub slot: usize,

@@ -15,10 +15,10 @@ use crate::blocker_words::waits;
 use crate::rows::{BlockerRows, StateRows, VectorRow};
 use crate::setting_words::Place;
 use crate::state_words::put_state;
-use arithmetic::refusals::{Outcome, Refusal};
+use arithmetic::refusals::Refusal;
 use dock::bytes::{fill_share, hand_out_share, is_bounced_read, is_bounced_write};
 use dock::next::is_sound_in;
-use dock::tell::{Answered, interpret_code};
+use dock::tell::interpret_code;
 use stages::state::{State, has_ended, is_free};
 use stages::told::Step;
 use vectors::words::get_vector;
@@ -34,12 +34,18 @@ pub(crate) fn is_out(blockers: &BlockerRows, x: State, slot: usize) -> bool
 }
 
 // The asked part of the share is filled; the vector is read only where it is.
-fn fill(vector: &VectorRow, place: Place, x: State, data: &[u8], scratch: &mut [u8]) -> Outcome
+fn fill(
+    vector: &VectorRow,
+    place: Place,
+    x: State,
+    data: &[u8],
+    scratch: &mut [u8],
+) -> Result<(), Refusal>
     ensures { fills result scratch.new ≡ filled_share place.slot place.settings place.buffers x
         (vector_from vector.now) «data».now scratch.old }
 {
     if !is_bounced_write(x.phase) {
-        return Outcome::Done;
+        return Ok(());
     }
     let v = get_vector(vector);
     fill_share(
@@ -61,12 +67,12 @@ fn hand_out(
     code: u8,
     data: &mut [u8],
     scratch: &[u8],
-) -> Outcome
+) -> Result<(), Refusal>
     ensures { hands result «data».new ≡ handed_share place.slot place.settings place.buffers x code
         (vector_from vector.now) «data».old scratch.now }
 {
     if !is_bounced_read(x.phase) {
-        return Outcome::Done;
+        return Ok(());
     }
     let v = get_vector(vector);
     hand_out_share(
@@ -90,7 +96,7 @@ fn stays(
     y: State,
     data: &[u8],
     scratch: &mut [u8],
-) -> Outcome
+) -> Result<(), Refusal>
     requires { (place.slot < 8) × (is_sound_at place.slot y place.settings place.buffers (length scratch.old) ≡ true) }
     ensures dock { StoresStep (stays_at (blockers_of blockers.now) (place.slot * place.settings.bounce) y
         (vector_from vector.now) «data».now scratch.old)
@@ -98,12 +104,9 @@ fn stays(
         result blockers.now states.new «data».now scratch.new }
     ensures words { same_unless (is_done result) states.old states.new }
 {
-    let outcome = fill(vector, place, y, data, scratch);
-    let Outcome::Done = outcome else {
-        return outcome;
-    };
+    fill(vector, place, y, data, scratch)?;
     put_state(&mut states[place.slot], y);
-    Outcome::Done
+    Ok(())
 }
 
 // The job x ends as y: its blocker leaves, and a padded read's bytes are copied out.
@@ -117,7 +120,7 @@ fn ends(
     y: State,
     data: &mut [u8],
     scratch: &[u8],
-) -> Outcome
+) -> Result<(), Refusal>
     requires { (place.slot < 8) × (is_sound_at place.slot x place.settings place.buffers (length scratch.now) ≡ true) }
     ensures dock { StoresStep (ends_at (blockers_of blockers.old) place.slot (place.slot * place.settings.bounce) x code y
         (vector_from vector.now) «data».old scratch.now)
@@ -126,12 +129,9 @@ fn ends(
     ensures words { same_two (is_done result) blockers.old states.old blockers.new states.new }
 {
     if !may_leave(blockers, place.slot, x) {
-        return Outcome::Refused(Refusal::Slot);
+        return Err(Refusal::Slot);
     }
-    let outcome = hand_out(vector, place, x, code, data, scratch);
-    let Outcome::Done = outcome else {
-        return outcome;
-    };
+    hand_out(vector, place, x, code, data, scratch)?;
     let left = leave_blocker(blockers, place.slot, x);
     put_state(&mut states[place.slot], y);
     left
@@ -147,7 +147,7 @@ fn enters(
     y: State,
     data: &[u8],
     scratch: &mut [u8],
-) -> Outcome
+) -> Result<(), Refusal>
     requires { (place.slot < 8) × (is_sound_at place.slot y place.settings place.buffers (length scratch.old) ≡ true) }
     ensures dock { StoresStep (enters_at (blockers_of blockers.old) place.slot (place.slot * place.settings.bounce) x y
         (vector_from vector.now) «data».now scratch.old)
@@ -156,18 +156,15 @@ fn enters(
     ensures words { same_two (is_done result) blockers.old states.old blockers.new states.new }
 {
     if !may_change(blockers, place.slot, x, y) {
-        return Outcome::Refused(Refusal::Slot);
+        return Err(Refusal::Slot);
     }
-    let outcome = fill(vector, place, y, data, scratch);
-    let Outcome::Done = outcome else {
-        return outcome;
-    };
+    fill(vector, place, y, data, scratch)?;
     change_blocker(blockers, place.slot, x, y);
     put_state(&mut states[place.slot], y);
-    Outcome::Done
+    Ok(())
 }
 
-// The job x after its step.
+// The job x after its step, which is matched as in crate dock.
 fn take_step(
     blockers: &mut BlockerRows,
     states: &mut StateRows,
@@ -178,7 +175,7 @@ fn take_step(
     step: Step,
     data: &mut [u8],
     scratch: &mut [u8],
-) -> Outcome
+) -> Result<(), Refusal>
     requires { (place.slot < 8) × (StepSound place.slot place.settings place.buffers x (length scratch.old) step) }
     ensures dock { StoresStep (stepped_at (blockers_of blockers.old) place.slot (place.slot * place.settings.bounce) x code
         (vector_from vector.now) «data».old scratch.old step)
@@ -203,7 +200,7 @@ pub(crate) fn tell_slot(
     code: u8,
     data: &mut [u8],
     scratch: &mut [u8],
-) -> Outcome
+) -> Result<(), Refusal>
     requires { (place.slot < 8) × (lent_fits place.buffers (length «data».old) (length scratch.old) ≡ true) }
     ensures dock { StoresStep (told_at (blockers_of blockers.old) place.slot place.settings place.buffers x
         (vector_from vector.now) code «data».old scratch.old)
@@ -212,15 +209,13 @@ pub(crate) fn tell_slot(
     ensures words { same_two (is_done result) blockers.old states.old blockers.new states.new }
 {
     if !is_out(blockers, x, place.slot) {
-        return Outcome::Refused(Refusal::Slot);
+        return Err(Refusal::Slot);
     }
     if !is_sound_in(x, place.settings, place.buffers) {
-        return Outcome::Refused(Refusal::Slot);
+        return Err(Refusal::Slot);
     }
-    match interpret_code(x, place.settings, code) {
-        Answered::Refused(r) => Outcome::Refused(r),
-        Answered::Leads(t) => {
-            take_step(blockers, states, vector, place, x, code, t, data, scratch)
-        }
-    }
+    let step = interpret_code(x, place.settings, code)?;
+    take_step(
+        blockers, states, vector, place, x, code, step, data, scratch,
+    )
 }

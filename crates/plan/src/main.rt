@@ -5,8 +5,8 @@
 use arithmetic::offsets::{Range, StoreOffset};
 use arithmetic::padding::{Reads, Span, Transfer, plan_transfer};
 use arithmetic::refusals::Refusal;
-use arithmetic::settings::{Profile, Settings, drive_profile};
-use arithmetic::zeroes::{Chunk, Cut, DiscardCut, ZeroCut, discard_cut, next_chunk, zero_cut};
+use arithmetic::settings::{Settings, drive_profile};
+use arithmetic::zeroes::{Cut, ZeroCut, discard_cut, next_chunk, zero_cut};
 use std::{fmt, io};
 
 // offset+length
@@ -85,31 +85,31 @@ impl Drive {
     fn write(self, rt: &impl Print, at: u64, length: u64, aligned: bool) -> io::Result<()> {
         print!(rt; "write {length} at {at}:")?;
         match plan_transfer(StoreOffset(at), length, aligned, self.settings.align) {
-            Transfer::Direct(r) => println!(rt; " write {} (direct)", Extent::from(r)),
-            Transfer::Bounced(s) => {
+            Ok(Transfer::Direct(r)) => println!(rt; " write {} (direct)", Extent::from(r)),
+            Ok(Transfer::Bounced(s)) => {
                 reads(rt, s)?;
                 println!(rt; " write {}+{}", s.start.0, s.length)
             }
-            Transfer::Refused(r) => refused(rt, r),
+            Err(r) => refused(rt, r),
         }
     }
 
     fn zero(self, rt: &impl Print, at: u64, length: u64) -> io::Result<()> {
         print!(rt; "zero {length} at {at}:")?;
         match zero_cut(StoreOffset(at), length, self.settings.align) {
-            ZeroCut::Nothing => println!(rt; " done"),
-            ZeroCut::Whole(r) => println!(rt; " zeroes {}", Extent::from(r)),
-            ZeroCut::Split(c) => split(rt, c),
-            ZeroCut::Refused(r) => refused(rt, r),
+            Ok(ZeroCut::Nothing) => println!(rt; " done"),
+            Ok(ZeroCut::Whole(r)) => println!(rt; " zeroes {}", Extent::from(r)),
+            Ok(ZeroCut::Split(c)) => split(rt, c),
+            Err(r) => refused(rt, r),
         }
     }
 
     fn discard(self, rt: &impl Print, at: u64, length: u64) -> io::Result<()> {
         print!(rt; "discard {length} at {at}:")?;
         match discard_cut(StoreOffset(at), length, self.settings.align) {
-            DiscardCut::Nothing => println!(rt; " done"),
-            DiscardCut::Middle(r) => println!(rt; " discard {}", Extent::from(r)),
-            DiscardCut::Refused(r) => refused(rt, r),
+            Ok(None) => println!(rt; " done"),
+            Ok(Some(r)) => println!(rt; " discard {}", Extent::from(r)),
+            Err(r) => refused(rt, r),
         }
     }
 
@@ -126,7 +126,7 @@ impl Drive {
 
     fn chunks(self, rt: &impl Print, mut rest: Range, most: u64) -> io::Result<()> {
         for i in 0..most {
-            let Chunk::Next(r) = next_chunk(rest, self.settings) else {
+            let Ok(Some(r)) = next_chunk(rest, self.settings) else {
                 break;
             };
             let comma = if i == 0 { "" } else { "," };
@@ -158,7 +158,7 @@ fn row_one(rt: &impl Print, drive: Drive) -> io::Result<()> {
 
 fn main(rt: HostRuntime) -> io::Result<()> {
     println!(rt; "drive profile 1, bounce buffer 4096")?;
-    let Profile::Of(one) = drive_profile(1) else {
+    let Ok(one) = drive_profile(1) else {
         return Ok(());
     };
     let settings = Settings {
@@ -167,7 +167,7 @@ fn main(rt: HostRuntime) -> io::Result<()> {
     };
     row_one(&rt, Drive { settings })?;
     println!(rt; "drive profile 4, bounce buffer 12288, segment off 4096")?;
-    let Profile::Of(four) = drive_profile(4) else {
+    let Ok(four) = drive_profile(4) else {
         return Ok(());
     };
     let settings = Settings {
@@ -176,7 +176,7 @@ fn main(rt: HostRuntime) -> io::Result<()> {
     };
     Drive { settings }.write(&rt, 700, 10, false)?;
     println!(rt; "drive profile 6")?;
-    let Profile::Refused(r) = drive_profile(6) else {
+    let Err(r) = drive_profile(6) else {
         return Ok(());
     };
     refused(&rt, r)

@@ -28,7 +28,7 @@
 ghost use Rattle.std.specs.Prelude.{◌≤◌, length, IfOk};
 
 use arithmetic::offsets::StoreOffset;
-use arithmetic::refusals::{Outcome, Refusal};
+use arithmetic::refusals::Refusal;
 use arithmetic::settings::{Buffers, Lent, drive_profile};
 use dock::begin::Asked;
 use dock::dock::Dock;
@@ -36,7 +36,7 @@ use dock::next::Due;
 use dock::open::Opened;
 use replay_store::{Act, NoRequest};
 use replay_text::marks::{Mark, Marks};
-use replay_text::script::{Event, Line, Verb};
+use replay_text::script::{Event, Verb};
 use replay_text::trace::View;
 use replay_text::{script, trace};
 use std::io;
@@ -98,27 +98,6 @@ fn ask_for(e: Event, vector: IoVector) -> Asked {
     }
 }
 
-// Begins a job; a vector that is refused begins none.
-fn begin(
-    rt: &impl Print,
-    dock: Dock,
-    e: Event,
-    data: &[u8],
-    scratch: &mut [u8],
-) -> io::Result<Dock> {
-    let v = match vector_of(e, segments(e), data.len()) {
-        Ok(v) => v,
-        Err(r) => {
-            trace::refused(rt, r)?;
-            return Ok(dock);
-        }
-    };
-    let b = dock.begin(ask_for(e, v), data, scratch);
-    let answer = b.answer;
-    trace::begun(rt, answer)?;
-    Ok(b.dock)
-}
-
 // What a carry asks of the store.
 fn act_of(e: Event) -> Act {
     Act {
@@ -154,10 +133,14 @@ impl Bench {
         trace::outcome(rt, o.outcome)
     }
 
-    // Begins a job.
-    fn start(&mut self, rt: &impl Print, e: Event) -> io::Result<()> {
-        self.dock = begin(rt, self.dock, e, &self.data, &mut self.scratch)?;
-        Ok(())
+    // Begins a job; a vector that is refused begins none.
+    fn begin(&mut self, e: Event) -> Result<Option<usize>, Refusal> {
+        let vector = vector_of(e, segments(e), self.data.len())?;
+        let b = self
+            .dock
+            .begin(ask_for(e, vector), &self.data, &mut self.scratch);
+        self.dock = b.dock;
+        b.answer
     }
 
     fn next(&self, rt: &impl Print, slot: usize) -> io::Result<()> {
@@ -170,10 +153,8 @@ impl Bench {
         if 199 < code {
             return true;
         }
-        let Due::Make(_) = self.view().next(slot) else {
-            return true;
-        };
-        self.marks.at(slot) == Mark::Carried(code)
+        let is_out = matches!(self.view().next(slot), Ok(Due::Make(_)));
+        !is_out || self.marks.at(slot) == Mark::Carried(code)
     }
 
     // An accepted tell ends the request: the next one of its slot is new.
@@ -185,7 +166,7 @@ impl Bench {
             .dock
             .tell(slot, code, &mut self.data, &mut self.scratch);
         self.dock = t.dock;
-        if let Outcome::Done = t.outcome {
+        if t.outcome.is_ok() {
             self.marks.set(slot, Mark::New);
         }
         trace::outcome(rt, t.outcome)
@@ -227,7 +208,7 @@ impl Bench {
             Verb::Store => fill(rt, &mut self.store, e),
             Verb::Data => fill(rt, &mut self.data, e),
             Verb::Read | Verb::Write | Verb::Zero | Verb::Alloc | Verb::Discard => {
-                self.start(rt, e)
+                trace::begun(rt, self.begin(e))
             }
             Verb::Next => self.next(rt, slot),
             Verb::Carry => self.carry(rt, slot, act_of(e)),
@@ -253,9 +234,9 @@ impl Bench {
     // Plays line `number`: what is wrong with it is printed, too. Whether nothing is.
     fn play(&mut self, rt: &impl Print, number: u64, line: &[u8]) -> io::Result<bool> {
         match script::parse(line) {
-            Line::Comment => trace::copy(rt, line, "\n")?,
-            Line::Event(e) => self.perform(rt, line, e)?,
-            Line::Malformed(flaw) => {
+            Ok(None) => trace::copy(rt, line, "\n")?,
+            Ok(Some(e)) => self.perform(rt, line, e)?,
+            Err(flaw) => {
                 trace::malformed(rt, number, line, flaw)?;
                 return Ok(false);
             }

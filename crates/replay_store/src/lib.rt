@@ -122,7 +122,7 @@ pub fn carry(
     data: &mut [u8],
     scratch: &mut [u8],
 ) -> Result<(), NoRequest> {
-    let Due::Make(q) = dock.next(slot, data, scratch) else {
+    let Ok(Due::Make(q)) = dock.next(slot, data, scratch) else {
         return Err(NoRequest);
     };
     let mut at = q.offset.0;

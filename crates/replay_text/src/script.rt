@@ -39,14 +39,6 @@ pub struct Event {
     pub values: [u64; MOST],
 }
 
-// What a line says.
-#[derive(Clone, Copy)]
-pub enum Line {
-    Comment,
-    Event(Event),
-    Malformed(Flaw),
-}
-
 // An offset, and two numbers for each segment, of which there may be one more than a vector takes, so that a script can see it refused.
 const MOST: usize = 35;
 
@@ -196,13 +188,10 @@ fn read_event(line: &[u8]) -> Result<Event, Flaw> {
     Ok(event)
 }
 
-// What a line says: it is a comment where it is empty or starts with #.
-pub fn parse(line: &[u8]) -> Line {
+// What a line says: none for a comment, which is empty or starts with #.
+pub fn parse(line: &[u8]) -> Result<Option<Event>, Flaw> {
     if line.is_empty() || line.starts_with(b"#") {
-        return Line::Comment;
+        return Ok(None);
     }
-    match read_event(line) {
-        Ok(event) => Line::Event(event),
-        Err(flaw) => Line::Malformed(flaw),
-    }
+    read_event(line).map(Some)
 }

@@ -1,11 +1,9 @@
 // What is printed.
 use crate::marks::{Mark, Marks};
 use crate::script::{Flaw, Verb};
-use arithmetic::refusals::{Outcome, Refusal};
-use dock::begin::Begun;
+use arithmetic::refusals::Refusal;
 use dock::dock::{Dock, SLOTS};
 use dock::next::{Due, Piece};
-use dock::tell::Collected;
 use stages::state::{Kind, Request};
 use std::{fmt, io};
 use vectors::vector::Segment;
@@ -19,7 +17,7 @@ pub struct View<'a> {
 }
 
 impl View<'_> {
-    pub fn next(self, slot: usize) -> Due {
+    pub fn next(self, slot: usize) -> Result<Due, Refusal> {
         self.dock.next(slot, self.data, self.scratch)
     }
 
@@ -64,43 +62,43 @@ impl fmt::Display for Extent {
     }
 }
 
-// Where a piece lies: scratch 0+512
+// Where a piece lies, or why there is none: scratch 0+512
 #[derive(Clone, Copy)]
-struct Place(Piece);
+struct Place(Result<Piece, Refusal>);
 
 impl fmt::Display for Place {
     fn fmt<W: fmt::Write>(&self, f: &mut fmt::Formatter<W>) -> fmt::Result {
         match self.0 {
-            Piece::InData(s) => write!(f, "data {}", Extent::from(s)),
-            Piece::InScratch(s) => write!(f, "scratch {}", Extent::from(s)),
-            Piece::Refused(r) => write!(f, "{}", Reason(r)),
+            Ok(Piece::InData(s)) => write!(f, "data {}", Extent::from(s)),
+            Ok(Piece::InScratch(s)) => write!(f, "scratch {}", Extent::from(s)),
+            Err(r) => write!(f, "{}", Reason(r)),
         }
     }
 }
 
-pub fn refused(rt: &impl Print, r: Refusal) -> io::Result<()> {
+fn refused(rt: &impl Print, r: Refusal) -> io::Result<()> {
     print!(rt; " {}", Reason(r))
 }
 
-pub fn outcome(rt: &impl Print, o: Outcome) -> io::Result<()> {
+pub fn outcome(rt: &impl Print, o: Result<(), Refusal>) -> io::Result<()> {
     match o {
-        Outcome::Done => print!(rt; " done"),
-        Outcome::Refused(r) => refused(rt, r),
+        Ok(()) => print!(rt; " done"),
+        Err(r) => refused(rt, r),
     }
 }
 
-pub fn begun(rt: &impl Print, b: Begun) -> io::Result<()> {
+pub fn begun(rt: &impl Print, b: Result<Option<usize>, Refusal>) -> io::Result<()> {
     match b {
-        Begun::Done => print!(rt; " done"),
-        Begun::Admitted(slot) => print!(rt; " slot {slot}"),
-        Begun::Refused(r) => refused(rt, r),
+        Ok(None) => print!(rt; " done"),
+        Ok(Some(slot)) => print!(rt; " slot {slot}"),
+        Err(r) => refused(rt, r),
     }
 }
 
-pub fn collected(rt: &impl Print, c: Collected) -> io::Result<()> {
+pub fn collected(rt: &impl Print, c: Result<u8, Refusal>) -> io::Result<()> {
     match c {
-        Collected::Final(code) => print!(rt; " code {code}"),
-        Collected::Refused(r) => refused(rt, r),
+        Ok(code) => print!(rt; " code {code}"),
+        Err(r) => refused(rt, r),
     }
 }
 
@@ -157,18 +155,18 @@ fn request(rt: &impl Print, view: View, slot: usize, q: Request) -> io::Result<(
 }
 
 // What next answers for `slot`.
-pub fn due(rt: &impl Print, view: View, slot: usize, d: Due) -> io::Result<()> {
+pub fn due(rt: &impl Print, view: View, slot: usize, d: Result<Due, Refusal>) -> io::Result<()> {
     match d {
-        Due::Waiting => print!(rt; " waiting"),
-        Due::Make(q) => request(rt, view, slot, q),
-        Due::Answer(code) => print!(rt; " answer {code}"),
-        Due::Refused(r) => refused(rt, r),
+        Ok(Due::Waiting) => print!(rt; " waiting"),
+        Ok(Due::Make(q)) => request(rt, view, slot, q),
+        Ok(Due::Answer(code)) => print!(rt; " answer {code}"),
+        Err(r) => refused(rt, r),
     }
 }
 
 // Whether a request is newly due, or was out before. From here on it is shown.
-fn due_or_out(d: Due, slot: usize, marks: &mut Marks) -> &'static str {
-    let Due::Make(_) = d else {
+fn due_or_out(d: Result<Due, Refusal>, slot: usize, marks: &mut Marks) -> &'static str {
+    let Ok(Due::Make(_)) = d else {
         return "";
     };
     let is_new = marks.at(slot) == Mark::New;
@@ -176,15 +174,26 @@ fn due_or_out(d: Due, slot: usize, marks: &mut Marks) -> &'static str {
     if is_new { " due" } else { " out" }
 }
 
+// The line of the job in `slot`: whether its request is new, and what it needs now.
+fn job(
+    rt: &impl Print,
+    view: View,
+    slot: usize,
+    is_new: &str,
+    d: Result<Due, Refusal>,
+) -> io::Result<()> {
+    print!(rt; "  slot {slot}:{is_new}")?;
+    due(rt, view, slot, d)?;
+    println!(rt)
+}
+
 // What the job in `slot` needs now; nothing for a free slot.
 fn slot(rt: &impl Print, view: View, slot: usize, marks: &mut Marks) -> io::Result<()> {
     let d = view.next(slot);
-    if let Due::Refused(_) = d {
+    if d.is_err() {
         return Ok(());
     }
-    print!(rt; "  slot {slot}:{}", due_or_out(d, slot, marks))?;
-    due(rt, view, slot, d)?;
-    println!(rt)
+    job(rt, view, slot, due_or_out(d, slot, marks), d)
 }
 
 fn slots(rt: &impl Print, view: View, marks: &mut Marks) -> io::Result<()> {
@@ -201,11 +210,15 @@ fn checksum(bytes: &[u8]) -> u16 {
         .fold(0u16, |sum, b| sum.wrapping_add(u16::from(*b)))
 }
 
+fn checksums(rt: &impl Print, store: &[u8], data: &[u8]) -> io::Result<()> {
+    println!(rt; "  store {} data {}", checksum(store), checksum(data))
+}
+
 // After an event's answer: the line's end, every slot that has a job, and the checksums.
 pub fn state(rt: &impl Print, view: View, marks: &mut Marks, store: &[u8]) -> io::Result<()> {
     println!(rt)?;
     slots(rt, view, marks)?;
-    println!(rt; "  store {} data {}", checksum(store), checksum(view.data))
+    checksums(rt, store, view.data)
 }
 
 // n bytes of the store from `at` on, as hex; those past its end are left out.

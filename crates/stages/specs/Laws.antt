@@ -2,7 +2,7 @@
 -- keeps what it must; reads never enter a stage; a zero job never meets 206. Assumes nothing.
 use Rattle.std.proofs.Math.Path.{◌≡◌, refl}
 use Rattle.std.proofs.Common.{sym, ap, subst, ◌∙◌, inl, inr, ⊎_elim}
-use Rattle.std.specs.Prelude.{Bool, ◌||◌, not, ◌⊎◌, ℕ, ◌+◌, ◌-◌, ◌^◌, ◌<◌, ◌≤◌, leb, eqb}
+use Rattle.std.specs.Prelude.{Bool, ◌||◌, not, ◌⊎◌, ℕ, ◌+◌, ◌-◌, ◌^◌, ◌<◌, ◌≤◌, leb, eqb, Result, Ok, Err, Option, Some, None}
 use Rattle.std.proofs.Math.Bool.{true, false}
 use native.Mathlib.Omega.{arith}
 use Rattle.std.proofs.Math.Decide.{ℕ_discrete}
@@ -26,17 +26,12 @@ use Rattle.arithmetic.specs.declared.offsets.Range.{Range}
 use Rattle.arithmetic.specs.declared.settings.Alignments.{Alignments}
 use Rattle.arithmetic.specs.declared.settings.Settings.{Settings}
 use Rattle.arithmetic.specs.declared.padding.Span.{Span}
-use Rattle.arithmetic.specs.declared.padding.Padding.TheVariants.{Padded, Refused as NoPadding}
 use Rattle.arithmetic.specs.declared.padding.Reads.TheVariants.{Nothing as NoReads, Whole as ReadWhole, Head as ReadHead, Tail as ReadTail}
 use Rattle.arithmetic.specs.declared.padding.Reads.TheVariants.{HeadThenTail}
 use Rattle.arithmetic.specs.declared.padding.Transfer.{Transfer}
-use Rattle.arithmetic.specs.declared.padding.Transfer.TheVariants.{Direct, Bounced, Refused as NoTransfer}
+use Rattle.arithmetic.specs.declared.padding.Transfer.TheVariants.{Direct, Bounced}
 use Rattle.arithmetic.specs.declared.zeroes.ZeroCut.{ZeroCut}
-use Rattle.arithmetic.specs.declared.zeroes.ZeroCut.TheVariants.{Nothing as NoCut, Whole, Split, Refused as CutRefused}
-use Rattle.arithmetic.specs.declared.zeroes.DiscardCut.{DiscardCut}
-use Rattle.arithmetic.specs.declared.zeroes.DiscardCut.TheVariants.{Nothing as NoDiscard, Middle as DiscardMiddle}
-use Rattle.arithmetic.specs.declared.zeroes.DiscardCut.TheVariants.{Refused as DiscardRefused}
-use Rattle.arithmetic.specs.declared.zeroes.Chunk.TheVariants.{Nothing as NoChunk, Next, Refused as ChunkRefused}
+use Rattle.arithmetic.specs.declared.zeroes.ZeroCut.TheVariants.{Nothing as NoCut, Whole, Split}
 use Rattle.stages.specs.Stages.{size_of, direct_stage, first_of, second_of, padded_stage, first_phase, state_of, asked, bounced_phase}
 use Rattle.stages.specs.Stages.{vector_by, vector_plan, read_plan, write_plan, zeroes_by, zeroes_plan, zero_by, zero_job, zero_plan}
 use Rattle.stages.specs.Stages.{discard_by}
@@ -52,8 +47,6 @@ use Rattle.stages.specs.declared.state.Course.{Course}
 use Rattle.stages.specs.declared.state.Course.TheVariants.{Last, Middle, Head, Chunks}
 use Rattle.stages.specs.declared.state.Stage.{Stage}
 use Rattle.stages.specs.declared.state.State.{State}
-use Rattle.stages.specs.declared.plan.Plan.{Plan}
-use Rattle.stages.specs.declared.plan.Plan.TheVariants.{Done, Started, Refused}
 use Rattle.stages.specs.declared.told.Step.{Step}
 use Rattle.stages.specs.declared.told.Step.TheVariants.{Stays, Ends, Enters}
 
@@ -243,23 +236,25 @@ first_pending g = go (ltb 0 (size_of g.first)) (ltb 0 (size_of g.second))
     go false false = refl
 
 -- what a plan says of its state, if it starts
-abbrev pub Starts : (State → Type 0) → Plan → Type 0
-Starts P Done = Unit {0}
-Starts P (Started x) = P x
-Starts P (Refused r) = Unit {0}
+abbrev pub Starts : (State → Type 0) → Result (Option State) Refusal → Type 0
+Starts P (Ok None) = Unit {0}
+Starts P (Ok (Some x)) = P x
+Starts P (Err r) = Unit {0}
 
 -- past the test of 206, and past that of an empty job
-pub starts_within : (P : State → Type 0) (n b : ℕ) (p : Plan) → (n ≤ b → Starts P p) → Starts P (pick (leb n b) p (Refused TooLong))
+pub starts_within : (P : State → Type 0) (n b : ℕ) (p : Result (Option State) Refusal) → (n ≤ b → Starts P p)
+    → Starts P (pick (leb n b) p (Err TooLong))
 starts_within P n b p f = go (leb n b) refl
   where
-    go : (t : Bool) → leb n b ≡ t → Starts P (pick t p (Refused TooLong))
+    go : (t : Bool) → leb n b ≡ t → Starts P (pick t p (Err TooLong))
     go true e = f (leb-true _ _ e)
     go false e = tt
 
-pub starts_some : (P : State → Type 0) (n : ℕ) (p : Plan) → (0 < n → Starts P p) → Starts P (pick (eqb n 0) Done p)
+pub starts_some : (P : State → Type 0) (n : ℕ) (p : Result (Option State) Refusal) → (0 < n → Starts P p)
+    → Starts P (pick (eqb n 0) (Ok None) p)
 starts_some P n p f = go (eqb n 0) refl
   where
-    go : (t : Bool) → eqb n 0 ≡ t → Starts P (pick t Done p)
+    go : (t : Bool) → eqb n 0 ≡ t → Starts P (pick t (Ok None) p)
     go true e = tt
     go false e = let h = eqb-false n 0 e in f (omega (arith, h))
 
@@ -275,107 +270,109 @@ bounced_pending Discard g = first_pending g
 
 -- a plan over a vector, in a direct phase d or padded
 module _ (s : Settings) (j : Job) (d : Phase) (o : StoreOffset) (n : ℕ) where
-  vector_by_lem : is_pending d ≡ true → uses_bounce d ≡ false → 0 < n → (x : Transfer) → Transfers s.align o.0 n x
+  vector_by_lem : is_pending d ≡ true → uses_bounce d ≡ false → 0 < n → (x : Result Transfer Refusal) → Transfers s.align o.0 n x
       → Starts (Opens s j (asked o n)) (vector_by s j d o n x)
   unfolding Transfers
-  vector_by_lem e u p (Direct r) k = rw k.is (opens_direct s j (asked o n) _ _ (asked o n) d e (λ v. never (sym u ∙ v)) (omega arith)
+  vector_by_lem e u p (Ok (Direct r)) k = rw k.is (opens_direct s j (asked o n) _ _ (asked o n) d e (λ v. never (sym u ∙ v)) (omega arith)
       k.fits)
-  vector_by_lem e u p (Bounced x) k =
+  vector_by_lem e u p (Ok (Bounced x)) k =
       starts_within (Opens s j (asked o n)) x.length s.bounce _
       (λ h. opens_padded s j (asked o n) _ _ x (asked o n) _ k (size_asked o n) (bounced_pending j (padded_stage x (asked o n))) h p)
-  vector_by_lem e u p (NoTransfer r) k = tt
+  vector_by_lem e u p (Err r) k = tt
 
-  vector_opens : is_pending d ≡ true → uses_bounce d ≡ false → (t : Bool) (x : State) → vector_plan s j d o n t ≡ Started x →
+  vector_opens : is_pending d ≡ true → uses_bounce d ≡ false → (t : Bool) (x : State) → vector_plan s j d o n t ≡ (Ok (Some x)) →
       Opens s j (asked o n) x
   vector_opens e u t x q =
       rw q at (starts_some (Opens s j (asked o n)) n (vector_by s j d o n (transfer_of s.align o n t))
       (λ p. vector_by_lem e u p (transfer_of s.align o n t) (transfers s.align o n t)))
 
 module _ (s : Settings) (o : StoreOffset) (n : ℕ) where
-  pub read_opens : (t : Bool) (x : State) → read_plan s o n t ≡ Started x → Opens s Read (asked o n) x
+  pub read_opens : (t : Bool) (x : State) → read_plan s o n t ≡ (Ok (Some x)) → Opens s Read (asked o n) x
   unfolding read_plan
   read_opens = vector_opens s Read DirectRead o n refl refl
 
   -- a read starts in one of the phases that `read_ends` speaks of
-  phase_by : (x : Transfer) → Starts (λ y. (y.phase ≡ DirectRead) ⊎ (y.phase ≡ BouncedRead)) (vector_by s Read DirectRead o n x)
-  phase_by (Direct r) = inl refl
-  phase_by (Bounced x) = starts_within (λ y. (y.phase ≡ DirectRead) ⊎ (y.phase ≡ BouncedRead)) x.length s.bounce _ (λ h. inr refl)
-  phase_by (NoTransfer r) = tt
+  phase_by : (x : Result Transfer Refusal)
+      → Starts (λ y. (y.phase ≡ DirectRead) ⊎ (y.phase ≡ BouncedRead)) (vector_by s Read DirectRead o n x)
+  phase_by (Ok (Direct r)) = inl refl
+  phase_by (Ok (Bounced x)) = starts_within (λ y. (y.phase ≡ DirectRead) ⊎ (y.phase ≡ BouncedRead)) x.length s.bounce _ (λ h. inr refl)
+  phase_by (Err r) = tt
 
-  pub read_phase : (t : Bool) (x : State) → read_plan s o n t ≡ Started x → (x.phase ≡ DirectRead) ⊎ (x.phase ≡ BouncedRead)
+  pub read_phase : (t : Bool) (x : State) → read_plan s o n t ≡ (Ok (Some x)) → (x.phase ≡ DirectRead) ⊎ (x.phase ≡ BouncedRead)
   unfolding read_plan
   read_phase t x e =
       rw e at (starts_some (λ y. (y.phase ≡ DirectRead) ⊎ (y.phase ≡ BouncedRead)) n
       (vector_by s Read DirectRead o n (transfer_of s.align o n t)) (λ p. phase_by (transfer_of s.align o n t)))
 
-  pub write_opens : (t : Bool) (x : State) → write_plan s o n t ≡ Started x → Opens s Write (asked o n) x
+  pub write_opens : (t : Bool) (x : State) → write_plan s o n t ≡ (Ok (Some x)) → Opens s Write (asked o n) x
   unfolding write_plan
   write_opens = vector_opens s Write DirectWrite o n refl refl
 
 -- a write of zeroes over r, as a stage of the job j over w
 module _ (s : Settings) (j : Job) (w m : Range) (c : Course) (r : Range) where
-  abbrev zeroes_transfer : Transfer
+  abbrev zeroes_transfer : Result Transfer Refusal
   zeroes_transfer = transfer_of s.align r.start (size_of r) (is_multiple (size_of r) (length_align s.align))
 
-  sound_by : (x : Transfer) → Transfers s.align r.start.0 (size_of r) x →
+  sound_by : (x : Result Transfer Refusal) → Transfers s.align r.start.0 (size_of r) x →
       Starts (λ x. is_sound s.bounce x ≡ true) (zeroes_by s j w m c r x)
   unfolding Transfers
-  sound_by (Direct x) k = starts_within (λ x. is_sound s.bounce x ≡ true) (size_of r) s.bounce _
+  sound_by (Ok (Direct x)) k = starts_within (λ x. is_sound s.bounce x ≡ true) (size_of r) s.bounce _
       (λ h. stage_sound s.bounce _ (λ u. direct_lies s.bounce r h))
-  sound_by (Bounced x) k = starts_within (λ x. is_sound s.bounce x ≡ true) x.length s.bounce _
+  sound_by (Ok (Bounced x)) k = starts_within (λ x. is_sound s.bounce x ≡ true) x.length s.bounce _
       (λ h. stage_sound s.bounce _ (λ u. padded_lies s.bounce x r k refl h))
-  sound_by (NoTransfer x) k = tt
+  sound_by (Err x) k = tt
 
-  pub zeroes_sound : (x : State) → zeroes_plan s j w m c r ≡ Started x → is_sound s.bounce x ≡ true
+  pub zeroes_sound : (x : State) → zeroes_plan s j w m c r ≡ (Ok (Some x)) → is_sound s.bounce x ≡ true
   unfolding zeroes_plan
   zeroes_sound x e = rw e at (sound_by zeroes_transfer (transfers s.align r.start (size_of r) _))
 
-  zeroes_by_lem : 0 < size_of r → (x : Transfer) → Transfers s.align r.start.0 (size_of r) x →
+  zeroes_by_lem : 0 < size_of r → (x : Result Transfer Refusal) → Transfers s.align r.start.0 (size_of r) x →
       Starts (Opens s j w) (zeroes_by s j w m c r x)
   unfolding Transfers
-  zeroes_by_lem p (Direct x) k = starts_within (Opens s j w) (size_of r) s.bounce _
+  zeroes_by_lem p (Ok (Direct x)) k = starts_within (Opens s j w) (size_of r) s.bounce _
       (λ h. opens_direct s j w m c r BouncedWrite refl (λ u. h) p (omega (arith, k.fits)))
-  zeroes_by_lem p (Bounced x) k = starts_within (Opens s j w) x.length s.bounce _
+  zeroes_by_lem p (Ok (Bounced x)) k = starts_within (Opens s j w) x.length s.bounce _
       (λ h. opens_padded s j w m c x r _ k refl (first_pending (padded_stage x r)) h p)
-  zeroes_by_lem p (NoTransfer x) k = tt
+  zeroes_by_lem p (Err x) k = tt
 
   zeroes_start : 0 < size_of r → Starts (Opens s j w) (zeroes_plan s j w m c r)
   unfolding zeroes_plan
   zeroes_start p = zeroes_by_lem p zeroes_transfer (transfers s.align r.start (size_of r) _)
 
-  pub zeroes_opens : 0 < size_of r → (x : State) → zeroes_plan s j w m c r ≡ Started x → Opens s j w x
+  pub zeroes_opens : 0 < size_of r → (x : State) → zeroes_plan s j w m c r ≡ (Ok (Some x)) → Opens s j w x
   zeroes_opens p x e = rw e at (zeroes_start p)
 
 module _ (s : Settings) (o : StoreOffset) (n : ℕ) where
-  zero_by_lem : (t : Bool) (x : ZeroCut) → zero_cut_of s.align o n ≡ x
+  zero_by_lem : (t : Bool) (x : Result ZeroCut Refusal) → zero_cut_of s.align o n ≡ x
       → Starts (Opens s (zero_job t) (asked o n)) (zero_by s (zero_job t) o n x)
   unfolding cut_of has_middle
-  zero_by_lem t NoCut e = tt
-  zero_by_lem t (Whole r) e =
+  zero_by_lem t (Ok NoCut) e = tt
+  zero_by_lem t (Ok (Whole r)) e =
       let k = wholes s.align o n r e in
       rw k.is (zeroes_start s (zero_job t) (asked o n) (range_of 0 0) Last (asked o n) (omega (arith, k.some)))
-  zero_by_lem t (Split c) e =
+  zero_by_lem t (Ok (Split c)) e =
       let k = splits s.align o n c e in
       let l = ltb-true (middle_start s.align.zero o.0) (middle_end s.align.zero o.0 n) k.middles.some in
       rw k.is (opens_direct s (zero_job t) (asked o n) _ _ (cut_of s.align.zero o.0 n).middle ZeroRequest refl never
       (omega (arith, l)) (omega (arith, down_le (o.0 + n) s.align.zero, k.middles.sums.end)))
-  zero_by_lem t (CutRefused r) e = tt
+  zero_by_lem t (Err r) e = tt
 
-  pub zero_opens : (t : Bool) (x : State) → zero_plan s t o n ≡ Started x → Opens s (zero_job t) (asked o n) x
+  pub zero_opens : (t : Bool) (x : State) → zero_plan s t o n ≡ (Ok (Some x)) → Opens s (zero_job t) (asked o n) x
   unfolding zero_plan
   zero_opens t x e = rw e at (zero_by_lem t (zero_cut_of s.align o n) refl)
 
-  discard_by_lem : (x : DiscardCut) → discard_cut_of s.align o n ≡ x → Starts (Opens s Discard (asked o n)) (discard_by o n x)
+  discard_by_lem : (x : Result (Option Range) Refusal) → discard_cut_of s.align o n ≡ x
+      → Starts (Opens s Discard (asked o n)) (discard_by o n x)
   unfolding cut_of has_middle
-  discard_by_lem NoDiscard e = tt
-  discard_by_lem (DiscardMiddle r) e =
+  discard_by_lem (Ok None) e = tt
+  discard_by_lem (Ok (Some r)) e =
       let k = discards s.align o n r e in
       let l = ltb-true (middle_start s.align.discard o.0) (middle_end s.align.discard o.0 n) k.middles.some in
       rw k.is (opens_direct s Discard (asked o n) _ _ (cut_of s.align.discard o.0 n).middle DiscardRequest refl never
       (omega (arith, l)) (omega (arith, down_le (o.0 + n) s.align.discard, k.middles.sums.end)))
-  discard_by_lem (DiscardRefused r) e = tt
+  discard_by_lem (Err r) e = tt
 
-  pub discard_opens : (x : State) → discard_plan s o n ≡ Started x → Opens s Discard (asked o n) x
+  pub discard_opens : (x : State) → discard_plan s o n ≡ (Ok (Some x)) → Opens s Discard (asked o n) x
   unfolding discard_plan
   discard_opens x e = rw e at (discard_by_lem (discard_cut_of s.align o n) refl)
 
@@ -424,10 +421,10 @@ module _ (s : Settings) (x : State) where
     stage = refl;
   }
 
-  later_steps : (p : Plan) → Starts (Opens s x.job x.range) p → Steps s x (later_stage x p)
-  later_steps Done k = finishes 0
-  later_steps (Started y) k = k
-  later_steps (Refused r) k = finishes (number_of r)
+  later_steps : (p : Result (Option State) Refusal) → Starts (Opens s x.job x.range) p → Steps s x (later_stage x p)
+  later_steps (Ok None) k = finishes 0
+  later_steps (Ok (Some y)) k = k
+  later_steps (Err r) k = finishes (number_of r)
 
   zeroes_steps : (c : Course) (r : Range) → 0 < size_of r → Steps s x (zeroes_next s x c r)
   zeroes_steps c r p = later_steps (zeroes_plan s x.job x.range x.middle c r) (zeroes_start s x.job x.range x.middle c r p)
@@ -456,7 +453,7 @@ module _ (s : Settings) (x : State) where
   chunk_steps o = go (settings_fit s) (ltb o.0 x.range.end.0) refl refl
     where
       go : (f g : Bool) → settings_fit s ≡ f → ltb o.0 x.range.end.0 ≡ g
-          → Steps s x (chunk_by s x (pick f (pick g (Next (chunk_at s x o)) NoChunk) (ChunkRefused Unfit)))
+          → Steps s x (chunk_by s x (pick f (pick g (Ok (Some (chunk_at s x o))) (Ok None)) (Err Unfit)))
       go true true p q =
           let k = accepted s p in
           let l = ltb-true o.0 x.range.end.0 q in
@@ -537,12 +534,12 @@ module _ (s : Settings) (x : State) where
 -- ---- "206: padded length over the share": not met by a zero job, since the share is at least 2Z + 2L
 
 -- what a plan is refused for
-abbrev Refuses : Plan → Type 0
-Refuses Done = Unit {0}
-Refuses (Started x) = Unit {0}
-Refuses (Refused r) = r ≡ Overflow
+abbrev Refuses : Result (Option State) Refusal → Type 0
+Refuses (Ok None) = Unit {0}
+Refuses (Ok (Some x)) = Unit {0}
+Refuses (Err r) = r ≡ Overflow
 
-refused_for : (p : Plan) (r : Refusal) → Refuses p → p ≡ Refused r → r ≡ Overflow
+refused_for : (p : Result (Option State) Refusal) (r : Refusal) → Refuses p → p ≡ Err r → r ≡ Overflow
 refused_for p r k e = rw e at k
 
 module _ (s : Settings) (fit : settings_fit s ≡ true) (j : Job) (w m : Range) (c : Course) where
@@ -569,8 +566,8 @@ module _ (s : Settings) (fit : settings_fit s ≡ true) (j : Job) (w m : Range) 
       simp a (go q (fits (r.start.0 + n)) (is_direct R r.start.0 n (is_multiple n L)) (padding_fits R L r.start.0 n))
     where
       go : size_of r ≤ s.bounce → (x y z : Bool)
-          → Refuses (zeroes_by s j w m c r (pick x (pick y (Direct (range_of r.start.0 (r.start.0 + size_of r)))
-          (bounced (pick z (Padded (span_of R L r.start.0 (size_of r))) (NoPadding Overflow)))) (NoTransfer Overflow)))
+          → Refuses (zeroes_by s j w m c r (pick x (pick y (Ok (Direct (range_of r.start.0 (r.start.0 + size_of r))))
+          (bounced (pick z (Ok (span_of R L r.start.0 (size_of r))) (Err Overflow)))) (Err Overflow)))
       go q true true z = simp (le-leb (size_of r) s.bounce q) tt
       go q true false true = simp (le-leb (padded_length R L r.start.0 (size_of r)) s.bounce h) tt
       go q true false false = refl
@@ -580,11 +577,11 @@ module _ (s : Settings) (fit : settings_fit s ≡ true) (j : Job) (w m : Range) 
   abbrev Z : ℕ
   Z = s.align.zero
 
-  pub head_refused : (o : ℕ) (r : Refusal) → zeroes_plan s j w m c (range_of o (middle_start Z o)) ≡ Refused r → r ≡ Overflow
+  pub head_refused : (o : ℕ) (r : Refusal) → zeroes_plan s j w m c (range_of o (middle_start Z o)) ≡ Err r → r ≡ Overflow
   head_refused o r e = refused_for (zeroes_plan s j w m c (range_of o (middle_start Z o))) r
       (short_by (range_of o (middle_start Z o)) (head_pads s (accepted s fit) o)) e
 
-  pub tail_refused : (o n : ℕ) (r : Refusal) → zeroes_plan s j w m c (range_of (middle_end Z o n) (o + n)) ≡ Refused r → r ≡ Overflow
+  pub tail_refused : (o n : ℕ) (r : Refusal) → zeroes_plan s j w m c (range_of (middle_end Z o n) (o + n)) ≡ Err r → r ≡ Overflow
   tail_refused o n r e =
       refused_for (zeroes_plan s j w m c (range_of (middle_end Z o n) (o + n))) r
       (short_by (range_of (middle_end Z o n) (o + n)) (tail_pads s (accepted s fit) o n)) e
@@ -594,11 +591,11 @@ module _ (s : Settings) (fit : settings_fit s ≡ true) (j : Job) (w m : Range) 
       let z : n ≡ o + n - o = omega arith in
       short_by (range_of o (o + n)) (subst (λ (k : ℕ). padded_length R L o k ≤ s.bounce) z (whole_pads s (accepted s fit) o n h))
 
-  pub whole_refused : (o n : ℕ) → has_middle Z o n ≡ false → (r : Refusal) → zeroes_plan s j w m c (range_of o (o + n)) ≡ Refused r
+  pub whole_refused : (o n : ℕ) → has_middle Z o n ≡ false → (r : Refusal) → zeroes_plan s j w m c (range_of o (o + n)) ≡ Err r
       → r ≡ Overflow
   whole_refused o n h r e = refused_for (zeroes_plan s j w m c (range_of o (o + n))) r (whole_short o n h) e
 
-  pub chunk_refused : (o n : ℕ) (r : Refusal) → zeroes_plan s j w m c (range_of o (o + chunk_length R s.bounce o n)) ≡ Refused r
+  pub chunk_refused : (o n : ℕ) (r : Refusal) → zeroes_plan s j w m c (range_of o (o + chunk_length R s.bounce o n)) ≡ Err r
       → r ≡ Overflow
   chunk_refused o n r e =
       let k = chunk_length R s.bounce o n in
@@ -608,27 +605,28 @@ module _ (s : Settings) (fit : settings_fit s ≡ true) (j : Job) (w m : Range) 
 
 -- what the begin of a zero job is refused for
 module _ (s : Settings) (fit : settings_fit s ≡ true) (t : Bool) (o : StoreOffset) (n : ℕ) where
-  cut_refused : (r : Refusal) → zero_cut_of s.align o n ≡ CutRefused r → r ≡ Overflow
+  cut_refused : (r : Refusal) → zero_cut_of s.align o n ≡ Err r → r ≡ Overflow
   unfolding zero_cut_of settings_fit
   cut_refused r e =
       let a : alignments_fit s.align ≡ true = and_left (alignments_fit s.align) (bounce_fits s.align s.bounce) fit in
       go (eqb n 0) (cut_fits s.align.zero o.0 n) (has_middle s.align.zero o.0 n) (simp a at e)
     where
-      go : (y z w : Bool) → pick y NoCut (pick z (pick w (Split (cut_of s.align.zero o.0 n)) (Whole (range_of o.0 (o.0 + n))))
-          (CutRefused Overflow)) ≡ CutRefused r → r ≡ Overflow
+      go : (y z w : Bool)
+          → pick y (Ok NoCut) (pick z (pick w (Ok (Split (cut_of s.align.zero o.0 n))) (Ok (Whole (range_of o.0 (o.0 + n)))))
+          (Err Overflow)) ≡ Err r → r ≡ Overflow
       go true z w e = let z : ◌≡◌ {A = ℕ} 0 1 = cc in absurd (omega arith)
       go false true true e = let z : ◌≡◌ {A = ℕ} 0 1 = cc in absurd (omega arith)
       go false true false e = let z : ◌≡◌ {A = ℕ} 0 1 = cc in absurd (omega arith)
       go false false w e = cc
 
-  cut_by : (x : ZeroCut) → zero_cut_of s.align o n ≡ x → Refuses (zero_by s (zero_job t) o n x)
-  cut_by NoCut e = tt
-  cut_by (Whole r) e =
+  cut_by : (x : Result ZeroCut Refusal) → zero_cut_of s.align o n ≡ x → Refuses (zero_by s (zero_job t) o n x)
+  cut_by (Ok NoCut) e = tt
+  cut_by (Ok (Whole r)) e =
       let k = wholes s.align o n r e in
       rw k.is (whole_short s fit (zero_job t) (range_of o.0 (o.0 + n)) (range_of 0 0) Last o.0 n k.none)
-  cut_by (Split c) e = tt
-  cut_by (CutRefused r) e = cut_refused r e
+  cut_by (Ok (Split c)) e = tt
+  cut_by (Err r) e = cut_refused r e
 
-  pub zero_refused : (r : Refusal) → zero_plan s t o n ≡ Refused r → r ≡ Overflow
+  pub zero_refused : (r : Refusal) → zero_plan s t o n ≡ Err r → r ≡ Overflow
   unfolding zero_plan
   zero_refused r e = refused_for (zero_plan s t o n) r (cut_by (zero_cut_of s.align o n) refl) e

@@ -1,4 +1,5 @@
 -- A job's stages: document 01's "Requests of a padded write", "Reads", "Zeroes", "Discard" and "Events", for one job.
+use Rattle.std.specs.Prelude.{Result, Ok, Err, Option, Some, None}
 use Rattle.std.specs.Prelude.{Bool, true, false, ◌&&◌, ◌||◌, not, ℕ, ◌+◌, ◌-◌, ◌^◌, ◌<◌, ◌≤◌, ltb, leb, eqb}
 use Rattle.arithmetic.specs.Rounding.{pick, is_multiple}
 use Rattle.arithmetic.specs.Refusals.{number_of}
@@ -15,14 +16,9 @@ use Rattle.arithmetic.specs.declared.padding.Reads.{Reads}
 use Rattle.arithmetic.specs.declared.padding.Reads.TheVariants.{Nothing as NoReads, Whole as ReadWhole, Head as ReadHead, Tail as ReadTail}
 use Rattle.arithmetic.specs.declared.padding.Reads.TheVariants.{HeadThenTail}
 use Rattle.arithmetic.specs.declared.padding.Transfer.{Transfer}
-use Rattle.arithmetic.specs.declared.padding.Transfer.TheVariants.{Direct, Bounced, Refused as NoTransfer}
+use Rattle.arithmetic.specs.declared.padding.Transfer.TheVariants.{Direct, Bounced}
 use Rattle.arithmetic.specs.declared.zeroes.ZeroCut.{ZeroCut}
-use Rattle.arithmetic.specs.declared.zeroes.ZeroCut.TheVariants.{Nothing as NoCut, Whole, Split, Refused as CutRefused}
-use Rattle.arithmetic.specs.declared.zeroes.DiscardCut.{DiscardCut}
-use Rattle.arithmetic.specs.declared.zeroes.DiscardCut.TheVariants.{Nothing as NoDiscard, Middle as DiscardMiddle}
-use Rattle.arithmetic.specs.declared.zeroes.DiscardCut.TheVariants.{Refused as DiscardRefused}
-use Rattle.arithmetic.specs.declared.zeroes.Chunk.{Chunk}
-use Rattle.arithmetic.specs.declared.zeroes.Chunk.TheVariants.{Nothing as NoChunk, Next, Refused as ChunkRefused}
+use Rattle.arithmetic.specs.declared.zeroes.ZeroCut.TheVariants.{Nothing as NoCut, Whole, Split}
 use Rattle.stages.specs.declared.state.Job.{Job}
 use Rattle.stages.specs.declared.state.Job.TheVariants.{Read, Write, Zeroes, AllocatedZeroes, Discard}
 use Rattle.stages.specs.declared.state.Phase.{Phase}
@@ -36,10 +32,9 @@ use Rattle.stages.specs.declared.state.Kind.{Kind}
 use Rattle.stages.specs.declared.state.Kind.TheVariants.{Read as KRead, Write as KWrite, Zero as KZero}
 use Rattle.stages.specs.declared.state.Kind.TheVariants.{AllocatedZero as KAllocatedZero, Discard as KDiscard}
 use Rattle.stages.specs.declared.state.Request.{Request}
-use Rattle.stages.specs.declared.plan.Plan.{Plan}
-use Rattle.stages.specs.declared.plan.Plan.TheVariants.{Done, Started, Refused}
 use Rattle.stages.specs.declared.told.Step.{Step}
 use Rattle.stages.specs.declared.told.Step.TheVariants.{Stays, Ends, Enters}
+use Rattle.arithmetic.specs.declared.refusals.Refusal.{Refusal}
 
 -- how many bytes a range has
 abbrev pub size_of : Range → ℕ
@@ -97,8 +92,8 @@ abbrev pub state_of : Job → Range → Range → Course → Stage → Phase →
 state_of j r m c g ph = record { phase = ph; answer = 0; job = j; range = r; middle = m; course = c; stage = g }
 
 -- "206: padded length over the share"
-abbrev pub in_bounce : Settings → Span → Plan → Plan
-in_bounce s x p = pick (leb x.length s.bounce) p (Refused TooLong)
+abbrev pub in_bounce : Settings → Span → Result (Option State) Refusal → Result (Option State) Refusal
+in_bounce s x p = pick (leb x.length s.bounce) p (Err TooLong)
 
 abbrev pub asked : StoreOffset → ℕ → Range
 asked o n = range_of o.0 (o.0 + n)
@@ -112,54 +107,55 @@ bounced_phase AllocatedZeroes g = first_phase g
 bounced_phase Discard g = first_phase g
 
 -- a job over a vector of n bytes at o: direct in phase d, or padded
-abbrev pub vector_by : Settings → Job → Phase → StoreOffset → ℕ → Transfer → Plan
-vector_by s j d o n (Direct r) = Started (state_of j r (range_of 0 0) Last (direct_stage r) d)
-vector_by s j d o n (Bounced x) =
-    in_bounce s x (Started (state_of j (asked o n) (range_of 0 0) Last (padded_stage x (asked o n))
-    (bounced_phase j (padded_stage x (asked o n)))))
-vector_by s j d o n (NoTransfer r) = Refused r
+abbrev pub vector_by : Settings → Job → Phase → StoreOffset → ℕ → Result Transfer Refusal → Result (Option State) Refusal
+vector_by s j d o n (Ok (Direct r)) = Ok (Some (state_of j r (range_of 0 0) Last (direct_stage r) d))
+vector_by s j d o n (Ok (Bounced x)) =
+    in_bounce s x (Ok (Some (state_of j (asked o n) (range_of 0 0) Last (padded_stage x (asked o n))
+    (bounced_phase j (padded_stage x (asked o n))))))
+vector_by s j d o n (Err r) = Err r
 
-abbrev pub vector_plan : Settings → Job → Phase → StoreOffset → ℕ → Bool → Plan
-vector_plan s j d o n aligned = pick (eqb n 0) Done (vector_by s j d o n (transfer_of s.align o n aligned))
+abbrev pub vector_plan : Settings → Job → Phase → StoreOffset → ℕ → Bool → Result (Option State) Refusal
+vector_plan s j d o n aligned = pick (eqb n 0) (Ok None) (vector_by s j d o n (transfer_of s.align o n aligned))
 
 -- "Reads. Direct: one request into the pieces. Padded: one read of the padded range into the share"
-unfoldable pub read_plan : Settings → StoreOffset → ℕ → Bool → Plan
+unfoldable pub read_plan : Settings → StoreOffset → ℕ → Bool → Result (Option State) Refusal
 read_plan s o n aligned = vector_plan s Read DirectRead o n aligned
 
-unfoldable pub write_plan : Settings → StoreOffset → ℕ → Bool → Plan
+unfoldable pub write_plan : Settings → StoreOffset → ℕ → Bool → Result (Option State) Refusal
 write_plan s o n aligned = vector_plan s Write DirectWrite o n aligned
 
 -- a write of zeroes over r, from the bounce buffer: it starts at a multiple of M, so it is aligned where its length is a multiple of L
-abbrev pub zeroes_by : Settings → Job → Range → Range → Course → Range → Transfer → Plan
-zeroes_by s j whole m c r (Direct x) = pick (leb (size_of r) s.bounce) (Started (state_of j whole m c (direct_stage r) BouncedWrite))
-    (Refused TooLong)
-zeroes_by s j whole m c r (Bounced x) = in_bounce s x (Started (state_of j whole m c (padded_stage x r) (first_phase (padded_stage x r))))
-zeroes_by s j whole m c r (NoTransfer n) = Refused n
+abbrev pub zeroes_by : Settings → Job → Range → Range → Course → Range → Result Transfer Refusal → Result (Option State) Refusal
+zeroes_by s j whole m c r (Ok (Direct x)) = pick (leb (size_of r) s.bounce) (Ok (Some (state_of j whole m c (direct_stage r) BouncedWrite)))
+    (Err TooLong)
+zeroes_by s j whole m c r (Ok (Bounced x)) =
+    in_bounce s x (Ok (Some (state_of j whole m c (padded_stage x r) (first_phase (padded_stage x r)))))
+zeroes_by s j whole m c r (Err n) = Err n
 
-unfoldable pub zeroes_plan : Settings → Job → Range → Range → Course → Range → Plan
+unfoldable pub zeroes_plan : Settings → Job → Range → Range → Course → Range → Result (Option State) Refusal
 zeroes_plan s j whole m c r =
     zeroes_by s j whole m c r (transfer_of s.align r.start (size_of r) (is_multiple (size_of r) (length_align s.align)))
 
 -- "If end > start: one zero request between [..] Otherwise one write of zeroes over the whole."
-abbrev pub zero_by : Settings → Job → StoreOffset → ℕ → ZeroCut → Plan
-zero_by s j o n NoCut = Done
-zero_by s j o n (Whole r) = zeroes_plan s j r (range_of 0 0) Last r
-zero_by s j o n (Split c) = Started (state_of j (asked o n) c.middle Middle (direct_stage c.middle) ZeroRequest)
-zero_by s j o n (CutRefused r) = Refused r
+abbrev pub zero_by : Settings → Job → StoreOffset → ℕ → Result ZeroCut Refusal → Result (Option State) Refusal
+zero_by s j o n (Ok NoCut) = Ok None
+zero_by s j o n (Ok (Whole r)) = zeroes_plan s j r (range_of 0 0) Last r
+zero_by s j o n (Ok (Split c)) = Ok (Some (state_of j (asked o n) c.middle Middle (direct_stage c.middle) ZeroRequest))
+zero_by s j o n (Err r) = Err r
 
 abbrev pub zero_job : Bool → Job
 zero_job true = AllocatedZeroes
 zero_job false = Zeroes
 
-unfoldable pub zero_plan : Settings → Bool → StoreOffset → ℕ → Plan
+unfoldable pub zero_plan : Settings → Bool → StoreOffset → ℕ → Result (Option State) Refusal
 zero_plan s allocate o n = zero_by s (zero_job allocate) o n (zero_cut_of s.align o n)
 
-abbrev pub discard_by : StoreOffset → ℕ → DiscardCut → Plan
-discard_by o n NoDiscard = Done
-discard_by o n (DiscardMiddle r) = Started (state_of Discard (asked o n) (range_of 0 0) Last (direct_stage r) DiscardRequest)
-discard_by o n (DiscardRefused r) = Refused r
+abbrev pub discard_by : StoreOffset → ℕ → Result (Option Range) Refusal → Result (Option State) Refusal
+discard_by o n (Ok None) = Ok None
+discard_by o n (Ok (Some r)) = Ok (Some (state_of Discard (asked o n) (range_of 0 0) Last (direct_stage r) DiscardRequest))
+discard_by o n (Err r) = Err r
 
-unfoldable pub discard_plan : Settings → StoreOffset → ℕ → Plan
+unfoldable pub discard_plan : Settings → StoreOffset → ℕ → Result (Option State) Refusal
 discard_plan s o n = discard_by o n (discard_cut_of s.align o n)
 
 -- ---- what a told code leads to
@@ -188,19 +184,19 @@ ended_with a x = record {
 }
 
 -- "A 207 met by a later piece of a zero job ends it with 207"
-abbrev pub later_stage : State → Plan → Step
-later_stage x Done = Ends (ended_with 0 x)
-later_stage x (Started y) = Enters y
-later_stage x (Refused r) = Ends (ended_with (number_of r) x)
+abbrev pub later_stage : State → Result (Option State) Refusal → Step
+later_stage x (Ok None) = Ends (ended_with 0 x)
+later_stage x (Ok (Some y)) = Enters y
+later_stage x (Err r) = Ends (ended_with (number_of r) x)
 
 -- a write of zeroes over r as the job's next stage
 abbrev pub zeroes_next : Settings → State → Course → Range → Step
 zeroes_next s x c r = later_stage x (zeroes_plan s x.job x.range x.middle c r)
 
-abbrev pub chunk_by : Settings → State → Chunk → Step
-chunk_by s x NoChunk = Ends (ended_with 0 x)
-chunk_by s x (Next r) = zeroes_next s x Chunks r
-chunk_by s x (ChunkRefused r) = Ends (ended_with (number_of r) x)
+abbrev pub chunk_by : Settings → State → Result (Option Range) Refusal → Step
+chunk_by s x (Ok None) = Ends (ended_with 0 x)
+chunk_by s x (Ok (Some r)) = zeroes_next s x Chunks r
+chunk_by s x (Err r) = Ends (ended_with (number_of r) x)
 
 -- the next chunk of `write_full_zeroes`, from o on
 unfoldable pub chunk_next : Settings → State → StoreOffset → Step

@@ -1,5 +1,5 @@
 -- What a transfer, a cut and a chunk say that are not refused, as far as stages use it. Assumes nothing.
-use Rattle.std.specs.Prelude.{◌≡◌, refl, Bool, true, false, ℕ, ◌+◌, ◌^◌, ◌<◌, eqb}
+use Rattle.std.specs.Prelude.{◌≡◌, refl, Bool, true, false, ℕ, ◌+◌, ◌^◌, ◌<◌, eqb, Ok, Err, Some, None}
 use Rattle.std.proofs.Common.{arith}
 use Rattle.std.proofs.lemmas.Bool.{eqb-false}
 use Rattle.arithmetic.specs.Rounding.{pick}
@@ -17,16 +17,14 @@ use Rattle.arithmetic.specs.declared.padding.Span.{Span}
 use Rattle.arithmetic.specs.declared.padding.Transfer.TheVariants.{Direct, Bounced}
 use Rattle.arithmetic.specs.declared.padding.Reads.TheVariants.{Nothing as NoReads, Whole as ReadWhole, Head, Tail, HeadThenTail}
 use Rattle.arithmetic.specs.declared.zeroes.Cut.{Cut}
-use Rattle.arithmetic.specs.declared.zeroes.ZeroCut.TheVariants.{Nothing as NoCut, Whole, Split, Refused as CutRefused}
-use Rattle.arithmetic.specs.declared.zeroes.DiscardCut.TheVariants.{Nothing as NoDiscard, Middle as DiscardMiddle}
-use Rattle.arithmetic.specs.declared.zeroes.DiscardCut.TheVariants.{Refused as DiscardRefused}
+use Rattle.arithmetic.specs.declared.zeroes.ZeroCut.TheVariants.{Nothing as NoCut, Whole, Split}
 use Rattle.stages.specs.Stages.{Holds}
 
-pub direct : (a : Alignments) (o : StoreOffset) (n : ℕ) (t : Bool) (r : Range) → transfer_of a o n t ≡ Direct r → Directs a o.0 n r
+pub direct : (a : Alignments) (o : StoreOffset) (n : ℕ) (t : Bool) (r : Range) → transfer_of a o n t ≡ (Ok (Direct r)) → Directs a o.0 n r
 unfolding Transfers
 direct a o n t r e = rw e at (transfers a o n t)
 
-pub bounced : (a : Alignments) (o : StoreOffset) (n : ℕ) (t : Bool) (x : Span) → transfer_of a o n t ≡ Bounced x → Spans a o.0 n x
+pub bounced : (a : Alignments) (o : StoreOffset) (n : ℕ) (t : Bool) (x : Span) → transfer_of a o n t ≡ (Ok (Bounced x)) → Spans a o.0 n x
 unfolding Transfers
 bounced a o n t x e = rw e at (transfers a o n t)
 
@@ -49,13 +47,13 @@ pub record Splits (a : Alignments) (o n : ℕ) (c : Cut) : Type 0 where
   pub middles : Middles a.zero o n
   pub is : c ≡ cut_of a.zero o n
 
-pub splits : (a : Alignments) (o : StoreOffset) (n : ℕ) (c : Cut) → zero_cut_of a o n ≡ Split c → Splits a o.0 n c
+pub splits : (a : Alignments) (o : StoreOffset) (n : ℕ) (c : Cut) → zero_cut_of a o n ≡ (Ok (Split c)) → Splits a o.0 n c
 unfolding zero_cut_of
 splits a o n c e = go (alignments_fit a) (eqb n 0) (cut_fits a.zero o.0 n) (has_middle a.zero o.0 n) refl refl e
   where
     go : (x y z w : Bool) → cut_fits a.zero o.0 n ≡ z → has_middle a.zero o.0 n ≡ w
-        → pick x (pick y NoCut (pick z (pick w (Split (cut_of a.zero o.0 n)) (Whole (range_of o.0 (o.0 + n))))
-        (CutRefused Overflow))) (CutRefused Unfit) ≡ Split c
+        → pick x (pick y (Ok NoCut) (pick z (pick w (Ok (Split (cut_of a.zero o.0 n))) (Ok (Whole (range_of o.0 (o.0 + n)))))
+        (Err Overflow))) (Err Unfit) ≡ Ok (Split c)
         → Splits a o.0 n c
     go true false true true p q e = record { middles = record { sums = cut_sums _ _ _ p; some = q }; is = cc }
     go true false true false p q e = let z : ◌≡◌ {A = ℕ} 0 1 = cc in absurd (omega arith)
@@ -70,13 +68,13 @@ pub record Wholes (a : Alignments) (o n : ℕ) (r : Range) : Type 0 where
   pub some : 0 < n
   pub is : r ≡ range_of o (o + n)
 
-pub wholes : (a : Alignments) (o : StoreOffset) (n : ℕ) (r : Range) → zero_cut_of a o n ≡ Whole r → Wholes a o.0 n r
+pub wholes : (a : Alignments) (o : StoreOffset) (n : ℕ) (r : Range) → zero_cut_of a o n ≡ (Ok (Whole r)) → Wholes a o.0 n r
 unfolding zero_cut_of
 wholes a o n r e = go (alignments_fit a) (eqb n 0) (cut_fits a.zero o.0 n) (has_middle a.zero o.0 n) refl refl refl e
   where
     go : (x y z w : Bool) → eqb n 0 ≡ y → cut_fits a.zero o.0 n ≡ z → has_middle a.zero o.0 n ≡ w
-        → pick x (pick y NoCut (pick z (pick w (Split (cut_of a.zero o.0 n)) (Whole (range_of o.0 (o.0 + n))))
-        (CutRefused Overflow))) (CutRefused Unfit) ≡ Whole r
+        → pick x (pick y (Ok NoCut) (pick z (pick w (Ok (Split (cut_of a.zero o.0 n))) (Ok (Whole (range_of o.0 (o.0 + n)))))
+        (Err Overflow))) (Err Unfit) ≡ Ok (Whole r)
         → Wholes a o.0 n r
     go true false true false i p q e = record {
       sums = cut_sums _ _ _ p;
@@ -94,13 +92,13 @@ pub record Discards (a : Alignments) (o n : ℕ) (r : Range) : Type 0 where
   pub middles : Middles a.discard o n
   pub is : r ≡ (cut_of a.discard o n).middle
 
-pub discards : (a : Alignments) (o : StoreOffset) (n : ℕ) (r : Range) → discard_cut_of a o n ≡ DiscardMiddle r → Discards a o.0 n r
+pub discards : (a : Alignments) (o : StoreOffset) (n : ℕ) (r : Range) → discard_cut_of a o n ≡ (Ok (Some r)) → Discards a o.0 n r
 unfolding discard_cut_of
 discards a o n r e = go (alignments_fit a) (cut_fits a.discard o.0 n) (has_middle a.discard o.0 n) refl refl e
   where
     go : (x z w : Bool) → cut_fits a.discard o.0 n ≡ z → has_middle a.discard o.0 n ≡ w
-        → pick x (pick z (pick w (DiscardMiddle (cut_of a.discard o.0 n).middle) NoDiscard) (DiscardRefused Overflow))
-        (DiscardRefused Unfit) ≡ DiscardMiddle r
+        → pick x (pick z (pick w (Ok (Some (cut_of a.discard o.0 n).middle)) (Ok None)) (Err Overflow))
+        (Err Unfit) ≡ Ok (Some r)
         → Discards a o.0 n r
     go true true true p q e = record { middles = record { sums = cut_sums _ _ _ p; some = q }; is = cc }
     go true true false p q e = let z : ◌≡◌ {A = ℕ} 0 1 = cc in absurd (omega arith)

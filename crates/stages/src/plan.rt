@@ -6,19 +6,11 @@ ghost use Rattle.stages.specs.Stages.{vector_plan, read_plan, write_plan, zeroes
 ghost use Rattle.arithmetic.specs.Padding.{reads_of};
 
 use crate::state::{Course, Job, Phase, Stage, State, nowhere, size};
-use arithmetic::offsets::{BufferOffset, OnStore, Range, StoreOffset, is_multiple};
+use arithmetic::offsets::{BufferOffset, Range, StoreOffset, is_multiple};
 use arithmetic::padding::{Reads, Span, Transfer, plan_transfer};
 use arithmetic::refusals::Refusal;
 use arithmetic::settings::Settings;
-use arithmetic::zeroes::{DiscardCut, ZeroCut, discard_cut, zero_cut};
-
-// What a job begins with: nothing to do, its first stage, or a refusal.
-#[derive(Clone, Copy)]
-pub enum Plan {
-    Done,
-    Started(State),
-    Refused(Refusal),
-}
+use arithmetic::zeroes::{ZeroCut, discard_cut, zero_cut};
 
 #[tactic(auto, unfolding(crate::specs::Stages::direct_stage))]
 fn direct_stage(r: Range) -> Stage
@@ -39,7 +31,7 @@ fn first_bytes(s: Span, end: BufferOffset) -> Range
     requires { s.start.0 + end.0 < 2 ^ 64 }
     ensures { result ≡ range_of s.start.0 (s.start.0 + end.0) }
 {
-    let OnStore::At(end) = end.on_store(s.start) else {
+    let Ok(end) = end.on_store(s.start) else {
         return nowhere();
     };
     Range {
@@ -59,7 +51,8 @@ fn last_bytes(s: Span, length: u64) -> Range
     }
 }
 
-// What a padded write reads first: all, or its head.
+// What a padded write reads first: all, or its head. That a span `Holds` is asked here and below, and is no invariant of `Span`, whose
+// definition (`span_of`) makes spans of any numbers.
 fn first_read(s: Span) -> Range
     requires { Holds s }
     ensures { result ≡ first_of s (reads_of s) }
@@ -120,10 +113,10 @@ fn first_phase(g: Stage) -> Phase
 }
 
 // A job in its first stage; `middle` and `course` are those of a zero job.
-fn start(job: Job, range: Range, middle: Range, course: Course, stage: Stage, phase: Phase) -> Plan
-    ensures { result ≡ Plan.Started (state_of job range middle course stage phase) }
+fn start(job: Job, range: Range, middle: Range, course: Course, stage: Stage, phase: Phase) -> State
+    ensures { result ≡ state_of job range middle course stage phase }
 {
-    Plan::Started(State {
+    State {
         phase,
         answer: 0,
         job,
@@ -131,7 +124,7 @@ fn start(job: Job, range: Range, middle: Range, course: Course, stage: Stage, ph
         middle,
         course,
         stage,
-    })
+    }
 }
 
 // The n bytes at `offset`.
@@ -155,7 +148,8 @@ fn bounced_phase(job: Job, g: Stage) -> Phase
     first_phase(g)
 }
 
-// A job over a vector of n bytes at `offset`, aligned or not: direct in the phase `direct`, or padded.
+// A job over a vector of n bytes at `offset`, aligned or not: direct in the phase `direct`, or padded. Here and in `plan_zero_write` the
+// padding's answer is taken apart by `let .. else`, as document 01 has it.
 fn plan_vector(
     settings: Settings,
     job: Job,
@@ -163,31 +157,34 @@ fn plan_vector(
     offset: StoreOffset,
     n: u64,
     aligned: bool,
-) -> Plan
+) -> Result<Option<State>, Refusal>
     ensures { result ≡ vector_plan settings job direct offset n aligned }
 {
     if n == 0 {
-        return Plan::Done;
+        return Ok(None);
     }
-    let transfer = plan_transfer(offset, n, aligned, settings.align);
-    if let Transfer::Direct(r) = transfer {
-        return start(job, r, nowhere(), Course::Last, direct_stage(r), direct);
-    }
+    let transfer = plan_transfer(offset, n, aligned, settings.align)?;
+    let range = asked_range(offset, n);
     let Transfer::Bounced(span) = transfer else {
-        return Plan::Refused(transfer.refusal());
+        let stage = direct_stage(range);
+        return Ok(Some(start(job, range, nowhere(), Course::Last, stage, direct)));
     };
     if settings.bounce < span.length {
-        return Plan::Refused(Refusal::TooLong);
+        return Err(Refusal::TooLong);
     }
-    let range = asked_range(offset, n);
     let stage = padded_stage(span, range);
     let phase = bounced_phase(job, stage);
-    start(job, range, nowhere(), Course::Last, stage, phase)
+    Ok(Some(start(job, range, nowhere(), Course::Last, stage, phase)))
 }
 
 // A read of n bytes at `offset` into a vector that is or is not aligned.
 #[tactic(auto, unfolding(crate::specs::Stages::read_plan))]
-pub fn plan_read(settings: Settings, offset: StoreOffset, n: u64, aligned: bool) -> Plan
+pub fn plan_read(
+    settings: Settings,
+    offset: StoreOffset,
+    n: u64,
+    aligned: bool,
+) -> Result<Option<State>, Refusal>
     ensures { result ≡ read_plan settings offset n aligned }
 {
     plan_vector(settings, Job::Read, Phase::DirectRead, offset, n, aligned)
@@ -195,7 +192,12 @@ pub fn plan_read(settings: Settings, offset: StoreOffset, n: u64, aligned: bool)
 
 // A write of n bytes at `offset` from a vector that is or is not aligned.
 #[tactic(auto, unfolding(crate::specs::Stages::write_plan))]
-pub fn plan_write(settings: Settings, offset: StoreOffset, n: u64, aligned: bool) -> Plan
+pub fn plan_write(
+    settings: Settings,
+    offset: StoreOffset,
+    n: u64,
+    aligned: bool,
+) -> Result<Option<State>, Refusal>
     ensures { result ≡ write_plan settings offset n aligned }
 {
     plan_vector(settings, Job::Write, Phase::DirectWrite, offset, n, aligned)
@@ -216,26 +218,29 @@ impl State {
     // A write of zeroes over `part` as the next stage of a zero job. The bounce buffer starts at a multiple of M, so the write is
     // aligned where its length is a multiple of L.
     #[tactic(auto, unfolding(crate::specs::Stages::zeroes_plan))]
-    pub fn plan_zero_write(self, settings: Settings, course: Course, part: Range) -> Plan
+    pub fn plan_zero_write(
+        self,
+        settings: Settings,
+        course: Course,
+        part: Range,
+    ) -> Result<Option<State>, Refusal>
         ensures { result ≡ zeroes_plan settings self.job self.range self.middle course part }
     {
         let align = settings.align;
         let n = size(part);
-        let transfer = plan_transfer(part.start, n, is_multiple(n, align.length_align()), align);
-        if let Transfer::Direct(_) = transfer {
-            if settings.bounce < n {
-                return Plan::Refused(Refusal::TooLong);
-            }
-            return Plan::Started(self.set_stage(course, direct_stage(part), Phase::BouncedWrite));
-        }
+        let aligned = is_multiple(n, align.length_align());
+        let transfer = plan_transfer(part.start, n, aligned, align)?;
         let Transfer::Bounced(s) = transfer else {
-            return Plan::Refused(transfer.refusal());
+            if settings.bounce < n {
+                return Err(Refusal::TooLong);
+            }
+            return Ok(Some(self.set_stage(course, direct_stage(part), Phase::BouncedWrite)));
         };
         if settings.bounce < s.length {
-            return Plan::Refused(Refusal::TooLong);
+            return Err(Refusal::TooLong);
         }
         let stage = padded_stage(s, part);
-        Plan::Started(self.set_stage(course, stage, first_phase(stage)))
+        Ok(Some(self.set_stage(course, stage, first_phase(stage))))
     }
 }
 
@@ -251,57 +256,59 @@ pub fn zero_job(allocate: bool) -> Job
 
 // Zeroes over n bytes at `offset`, plain or allocating.
 #[tactic(auto, unfolding(crate::specs::Stages::zero_plan))]
-pub fn plan_zeroes(settings: Settings, allocate: bool, offset: StoreOffset, n: u64) -> Plan
+pub fn plan_zeroes(
+    settings: Settings,
+    allocate: bool,
+    offset: StoreOffset,
+    n: u64,
+) -> Result<Option<State>, Refusal>
     ensures { result ≡ zero_plan settings allocate offset n }
 {
     let job = zero_job(allocate);
-    match zero_cut(offset, n, settings.align) {
-        ZeroCut::Nothing => Plan::Done,
+    match zero_cut(offset, n, settings.align)? {
+        ZeroCut::Nothing => Ok(None),
         ZeroCut::Whole(r) => {
-            let x = State {
-                phase: Phase::Free,
-                answer: 0,
-                job,
-                range: r,
-                middle: nowhere(),
-                course: Course::Last,
-                stage: direct_stage(r),
-            };
+            let stage = direct_stage(r);
+            let x = start(job, r, nowhere(), Course::Last, stage, Phase::Free);
             x.plan_zero_write(settings, Course::Last, r)
         }
         ZeroCut::Split(c) => {
             let range = asked_range(offset, n);
-            start(
+            let stage = direct_stage(c.middle);
+            Ok(Some(start(
                 job,
                 range,
                 c.middle,
                 Course::Middle,
-                direct_stage(c.middle),
+                stage,
                 Phase::ZeroRequest,
-            )
+            )))
         }
-        ZeroCut::Refused(r) => Plan::Refused(r),
     }
 }
 
 // A discard of n bytes at `offset`.
 #[tactic(auto, unfolding(crate::specs::Stages::discard_plan))]
-pub fn plan_discard(settings: Settings, offset: StoreOffset, n: u64) -> Plan
+pub fn plan_discard(
+    settings: Settings,
+    offset: StoreOffset,
+    n: u64,
+) -> Result<Option<State>, Refusal>
     ensures { result ≡ discard_plan settings offset n }
 {
-    match discard_cut(offset, n, settings.align) {
-        DiscardCut::Nothing => Plan::Done,
-        DiscardCut::Middle(r) => {
+    match discard_cut(offset, n, settings.align)? {
+        None => Ok(None),
+        Some(r) => {
             let range = asked_range(offset, n);
-            start(
+            let stage = direct_stage(r);
+            Ok(Some(start(
                 Job::Discard,
                 range,
                 nowhere(),
                 Course::Last,
-                direct_stage(r),
+                stage,
                 Phase::DiscardRequest,
-            )
+            )))
         }
-        DiscardCut::Refused(r) => Plan::Refused(r),
     }
 }

@@ -5,7 +5,7 @@ ghost use Rattle.stages.specs.Stages.{size_of, is_free, has_ended, is_blocking, 
 ghost use Rattle.stages.specs.Stages.{request};
 ghost use Rattle.stages.specs.Stages.{request_of};
 
-use arithmetic::offsets::{BufferOffset, InBuffer, Range, StoreOffset};
+use arithmetic::offsets::{BufferOffset, Range, StoreOffset};
 
 // What a job was begun as.
 #[derive(Clone, Copy, PartialEq, Eq)]
@@ -170,7 +170,7 @@ impl Stage {
     pub fn second_at(self) -> BufferOffset
         ensures { result ≡ buffer_at (second_at self) }
     {
-        let InBuffer::At(place) = self.second.start.in_buffer(self.request.start) else {
+        let Ok(place) = self.second.start.in_buffer(self.request.start) else {
             return BufferOffset(0); // a stage without one
         };
         place

@@ -5,11 +5,11 @@ ghost use Rattle.stages.specs.Stages.{size_of, in_phase, ended_with, later_stage
 ghost use Rattle.stages.specs.Stages.{stage_done};
 ghost use Rattle.stages.specs.Stages.{done_next, unsupported_next};
 
-use crate::plan::Plan;
 use crate::state::{Course, Phase, State, size};
 use arithmetic::offsets::{Range, StoreOffset};
+use arithmetic::refusals::Refusal;
 use arithmetic::settings::Settings;
-use arithmetic::zeroes::{Chunk, next_chunk};
+use arithmetic::zeroes::next_chunk;
 
 // The job goes on in its stage, ends, or enters its next stage.
 #[derive(Clone, Copy)]
@@ -45,13 +45,13 @@ impl State {
     }
 
     // A later stage: a refusal, 207 among them, is the job's final answer.
-    fn enter_later(self, plan: Plan) -> Step
+    fn enter_later(self, plan: Result<Option<State>, Refusal>) -> Step
         ensures { result ≡ later_stage self plan }
     {
         match plan {
-            Plan::Done => self.ends(0),
-            Plan::Started(next) => Step::Enters(next),
-            Plan::Refused(r) => self.ends(r.number()),
+            Ok(None) => self.ends(0),
+            Ok(Some(next)) => Step::Enters(next),
+            Err(r) => self.ends(r.number()),
         }
     }
 
@@ -71,9 +71,9 @@ impl State {
             end: self.range.end,
         };
         match next_chunk(rest, settings) {
-            Chunk::Nothing => self.ends(0),
-            Chunk::Next(part) => self.write_zeroes(settings, Course::Chunks, part),
-            Chunk::Refused(r) => self.ends(r.number()),
+            Ok(None) => self.ends(0),
+            Ok(Some(part)) => self.write_zeroes(settings, Course::Chunks, part),
+            Err(r) => self.ends(r.number()),
         }
     }
 

@@ -6,8 +6,6 @@ use Rattle.arithmetic.specs.Settings.{alignments, alignments_fit}
 use Rattle.arithmetic.specs.declared.refusals.Refusal.{Refusal}
 use Rattle.arithmetic.specs.declared.refusals.Refusal.TheVariants.{Unfit, Table as BadTable, Row as BadRow}
 use Rattle.arithmetic.specs.declared.settings.Alignments.{Alignments}
-use Rattle.arithmetic.specs.declared.settings.Profile.{Profile}
-use Rattle.arithmetic.specs.declared.settings.Profile.TheVariants.{Of, Refused as NoProfile}
 use Rattle.records.specs.Records.{little_endian, start_of, Form, end, broken, entry, form_of}
 use Rattle.records.specs.declared.Header.{Header}
 use Rattle.records.specs.declared.Broken.{Broken}
@@ -93,5 +91,5 @@ abbrev pub rows_of : Table → List Alignments
 rows_of t = take t.count t.rows
 
 -- "201 [..] drive row unfit", as for the built-in rows: past the last
-unfoldable pub profile_in : Table → ℕ → Profile
-profile_in t i = pick (ltb i (length (rows_of t))) (Of (get_or (rows_of t) i no_row)) (NoProfile Unfit)
+unfoldable pub profile_in : Table → ℕ → Result Alignments Refusal
+profile_in t i = pick (ltb i (length (rows_of t))) (Ok (get_or (rows_of t) i no_row)) (Err Unfit)

@@ -12,7 +12,6 @@ use Rattle.arithmetic.specs.Settings.{alignments_fit}
 use Rattle.arithmetic.specs.declared.refusals.Refusal.{Refusal}
 use Rattle.arithmetic.specs.declared.refusals.Refusal.TheVariants.{Unfit, Table as BadTable, Row as BadRow}
 use Rattle.arithmetic.specs.declared.settings.Alignments.{Alignments}
-use Rattle.arithmetic.specs.declared.settings.Profile.TheVariants.{Of, Refused as NoProfile}
 use Rattle.records.specs.Records.{Form, end, broken, entry, form_of}
 use Rattle.tables.specs.Tables.{row_of, entry_of, Rows, these, refused, before, with_entry, rows_from, table_of, no_row, table_with}
 use Rattle.tables.specs.Tables.{load_of, table_in}
@@ -120,12 +119,12 @@ table_sound bytes rs e = sound_from 0 (form_of bytes) rs (omega arith) e
 
 -- ---- a row by its index
 
-pub past_last : (t : Table) (i : ℕ) → (t.count ≤ i) ⊎ (length t.rows ≤ i) → profile_in t i ≡ NoProfile Unfit
+pub past_last : (t : Table) (i : ℕ) → (t.count ≤ i) ⊎ (length t.rows ≤ i) → profile_in t i ≡ Err Unfit
 unfolding profile_in
 past_last t i (inl h) = rw (le-ltb i (length (rows_of t)) (rw length-take (omega arith)))
 past_last t i (inr h) = rw (le-ltb i (length (rows_of t)) (rw length-take (omega arith)))
 
-pub row_there : (t : Table) (i : ℕ) → i < t.count → i < length t.rows → profile_in t i ≡ Of (get_or t.rows i no_row)
+pub row_there : (t : Table) (i : ℕ) → i < t.count → i < length t.rows → profile_in t i ≡ Ok (get_or t.rows i no_row)
 unfolding profile_in
 row_there t i h l =
     rw (lt-ltb i (length (rows_of t)) (rw length-take (omega arith)), get_or-take t.count t.rows i no_row h)
@@ -143,12 +142,12 @@ module _ (bytes : List ℕ) (rs : List Alignments) (e : table_of bytes ≡ these
       (length-append rs (replicate (64 - length rs) no_row) ∙ rw (length-replicate (64 - length rs) no_row) (omega (arith, s.most)))
 
   -- row i of the loaded table is row i of the file, and past the last there is none
-  pub loaded_row : (i : ℕ) → i < length rs → profile_in (table_in (load_of bytes)) i ≡ Of (get_or rs i no_row)
+  pub loaded_row : (i : ℕ) → i < length rs → profile_in (table_in (load_of bytes)) i ≡ Ok (get_or rs i no_row)
   loaded_row i h =
       let l : length (rs ++ replicate (64 - length rs) no_row) ≡ 64 = rw loaded_with at loaded_long in
       let s = table_sound bytes rs e in
       rw loaded_with (row_there (table_with rs) i h (omega (arith, l, s.most)))
-      ∙ ap Of (get_or-append rs (replicate (64 - length rs) no_row) no_row i h)
+      ∙ ap Ok (get_or-append rs (replicate (64 - length rs) no_row) no_row i h)
 
-  pub loaded_past : (i : ℕ) → length rs ≤ i → profile_in (table_in (load_of bytes)) i ≡ NoProfile Unfit
+  pub loaded_past : (i : ℕ) → length rs ≤ i → profile_in (table_in (load_of bytes)) i ≡ Err Unfit
   loaded_past i h = rw loaded_with (past_last (table_with rs) i (inl h))

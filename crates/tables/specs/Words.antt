@@ -3,8 +3,6 @@ use Rattle.std.specs.Prelude.{◌≡◌, Result, Ok, Err, List, [], ◌∷◌, �
 use Rattle.arithmetic.specs.Rows.{rows}
 use Rattle.arithmetic.specs.Settings.{alignments}
 use Rattle.arithmetic.specs.declared.refusals.Refusal.{Refusal}
-use Rattle.arithmetic.specs.declared.refusals.Outcome.{Outcome}
-use Rattle.arithmetic.specs.declared.refusals.Outcome.TheVariants.{Done, Refused}
 use Rattle.arithmetic.specs.declared.settings.Alignments.{Alignments}
 use Rattle.tables.specs.declared.table.Table.{Table}
 
@@ -27,9 +25,9 @@ words_after (Ok t) words = table_words t
 words_after (Err r) words = words
 
 -- and what it answers
-abbrev pub outcome_of : Result Table Refusal → Outcome
-outcome_of (Ok t) = Done
-outcome_of (Err r) = Refused r
+abbrev pub outcome_of : Result Table Refusal → Result (Unit {0}) Refusal
+outcome_of (Ok t) = Ok tt
+outcome_of (Err r) = Err r
 
-abbrev pub LoadsIn : Result Table Refusal → Outcome → List ℕ → List ℕ → Type 0
+abbrev pub LoadsIn : Result Table Refusal → Result (Unit {0}) Refusal → List ℕ → List ℕ → Type 0
 LoadsIn l r before after = (r ≡ outcome_of l) × (after ≡ words_after l before)

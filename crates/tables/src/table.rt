@@ -4,7 +4,7 @@ ghost use Rattle.records.specs.Records.{little_endian};
 ghost use Rattle.tables.specs.Tables.{row_of, entry_of, next_of, load_of, profile_in};
 
 use arithmetic::refusals::Refusal;
-use arithmetic::settings::{Alignments, Profile};
+use arithmetic::settings::Alignments;
 use records::{Header, first_record, u32_of};
 
 // The first `count` rows count. An array and a length beside it: there is no heap, and the words of a table (`table_from`) have any count.
@@ -39,7 +39,7 @@ fn number_at(body: &[u8], at: usize) -> u64
     u32_of(body[at], body[at + 1], body[at + 2], body[at + 3])
 }
 
-// The alignments of a row's body.
+// The alignments of a row's body: a slice and no `&[u8; 16]`, since `read_entry` tests the length for its refusal.
 fn read_row(body: &[u8]) -> Alignments
     requires { length body.now ≡ 16 }
     ensures { result ≡ row_of body.now }
@@ -102,15 +102,15 @@ pub fn load(bytes: &[u8]) -> Result<Table, Refusal>
 
 impl Table {
     // A row by its index, as a drive profile; past the count 201.
-    pub fn row(self, index: usize) -> Profile
+    pub fn row(self, index: usize) -> Result<Alignments, Refusal>
         ensures { result ≡ profile_in self index }
     {
         if self.count <= index {
-            return Profile::Refused(Refusal::Unfit);
+            return Err(Refusal::Unfit);
         }
         if MOST_ROWS <= index {
-            return Profile::Refused(Refusal::Unfit);
+            return Err(Refusal::Unfit);
         }
-        Profile::Of(self.rows[index])
+        Ok(self.rows[index])
     }
 }

@@ -4,8 +4,8 @@ ghost use Rattle.tables.specs.Tables.{load_of, profile_in};
 ghost use Rattle.tables.specs.Words.{table_from, table_words, LoadsIn};
 
 use crate::table::{MOST_ROWS, Table, load};
-use arithmetic::refusals::{Outcome, Refusal};
-use arithmetic::settings::{Alignments, Profile};
+use arithmetic::refusals::Refusal;
+use arithmetic::settings::Alignments;
 
 // Write a table over all words: by index, since of rows that `as_chunks_mut` lends the library does not say what they become. A row's four
 // words are named here and in `row_of`: `From` for `Alignments` could only stand in the crate that has the type.
@@ -20,31 +20,26 @@ fn put_table(words: &mut [u64; 257], t: Table)
 }
 
 // The table of the bytes into the words; refused (211, 212) before a word is written.
-pub fn load_words(table: &mut [u64; 257], bytes: &[u8]) -> Outcome
+pub fn load_words(table: &mut [u64; 257], bytes: &[u8]) -> Result<(), Refusal>
     ensures { LoadsIn (load_of bytes.now) result table.old table.new }
 {
-    match load(bytes) {
-        Ok(loaded) => {
-            put_table(table, loaded);
-            Outcome::Done
-        }
-        Err(r) => Outcome::Refused(r),
-    }
+    put_table(table, load(bytes)?);
+    Ok(())
 }
 
 // A row by its index, as a drive profile; past the count 201.
-pub fn row_of(table: &[u64; 257], index: usize) -> Profile
+pub fn row_of(table: &[u64; 257], index: usize) -> Result<Alignments, Refusal>
     ensures { result ≡ profile_in (table_from table.now) index }
 {
     if MOST_ROWS <= index {
-        return Profile::Refused(Refusal::Unfit);
+        return Err(Refusal::Unfit);
     }
     if table[0] <= index as u64 {
-        return Profile::Refused(Refusal::Unfit);
+        return Err(Refusal::Unfit);
     }
     let (rows, _) = table[1..].as_chunks::<4>();
     let [mem, req, zero, discard] = rows[index];
-    Profile::Of(Alignments {
+    Ok(Alignments {
         mem,
         req,
         zero,

@@ -1,8 +1,8 @@
 -- The theorem, applied to the example's list.
+use Rattle.std.specs.Prelude.{Ok}
 use mathlib.Core.Path.{◌≡◌, refl}
 use mathlib.Core.Bool.{true}
 use lib.ListN.{length}
-use Rattle.arithmetic.specs.declared.refusals.Outcome.TheVariants.{Done}
 use Rattle.dock.specs.Dock.{open_of, lent_fits}
 use Rattle.dock.specs.Computing.{computing}
 use Rattle.theorem_lists.specs.Histories.{Claim}
@@ -11,7 +11,7 @@ use Rattle.theorem_lists.specs.Example.{settings, buffers, world, plain, whole_l
 use Rattle.theorem_lists.proofs.Example.{example}
 use Rattle.theorem_lists.proofs.Theorem.{every_list}
 
-pub opens : (open_of settings buffers).outcome ≡ Done
+pub opens : (open_of settings buffers).outcome ≡ Ok tt
 unfolding computing
 opens = refl
 

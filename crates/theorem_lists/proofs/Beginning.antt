@@ -1,9 +1,10 @@
 -- A begin that gets a slot keeps the invariant: the new job's bytes are those of the rules, and the others are left as they are. Assumes nothing.
+use Rattle.std.specs.Prelude.{Option, Some, None}
+use Rattle.std.specs.Prelude.{Ok}
 use mathlib.Core.Path.{◌≡◌, refl, sym, ap, ◌∙◌}
 use mathlib.Core.Bool.{Bool, true, false, ◌&&◌, ◌||◌, not}
 use mathlib.Core.Logic.{◌⊎◌, inr, ⊎_elim, ◌≢◌}
 use mathlib.Core.List.{List, []}
-use mathlib.Core.Option.{Option, none, some}
 use Prim.Native.Nat.{ℕ, ◌+◌, ◌-◌, ◌*◌, ◌<◌, ◌≤◌}
 use native.Mathlib.Omega.{arith}
 use lib.Dec.{eqb}
@@ -14,7 +15,6 @@ use Rattle.arithmetic.specs.Rounding.{pick}
 use Rattle.arithmetic.specs.Loops.{any_below, any_here}
 use Rattle.arithmetic.specs.SettingsLaws.{and_left, and_right}
 use Rattle.arithmetic.specs.Content.{Bytes}
-use Rattle.arithmetic.specs.declared.refusals.Outcome.TheVariants.{Done}
 use Rattle.vectors.specs.Vectors.{segments_of, bytes_of, overlap_of, self_overlap_of, is_valid, copies, put}
 use Rattle.vectors.specs.ByteLaws.{bytes_length}
 use Rattle.vectors.specs.SegmentLaws.{valid}
@@ -79,7 +79,7 @@ module _ (n p : ℕ) (x : State) (v : IoVector) (memory scratch : List ℕ) (fit
   unfolding filled
   filled_none e = go (is_bounced_write x.phase) e
     where
-      go : (t : Bool) → t ≡ false → (pick t (merged_at (p * n + x.stage.head.0) (size_of x.stage.asked) x.job v memory scratch) (record { scratch = scratch; outcome = Done })).scratch ≡ scratch
+      go : (t : Bool) → t ≡ false → (pick t (merged_at (p * n + x.stage.head.0) (size_of x.stage.asked) x.job v memory scratch) (record { scratch = scratch; outcome = (Ok tt) })).scratch ≡ scratch
       go true e = never (sym e)
       go false e = refl
 
@@ -88,7 +88,7 @@ module _ (n p : ℕ) (x : State) (v : IoVector) (memory scratch : List ℕ) (fit
   filled_put e = go (is_bounced_write x.phase) (is_write_job x.job) e refl
     where
       go : (t w : Bool) → t ≡ true → is_write_job x.job ≡ w
-          → (pick t (merged_at (p * n + x.stage.head.0) (size_of x.stage.asked) x.job v memory scratch) (record { scratch = scratch; outcome = Done })).scratch
+          → (pick t (merged_at (p * n + x.stage.head.0) (size_of x.stage.asked) x.job v memory scratch) (record { scratch = scratch; outcome = (Ok (tt {0})) })).scratch
           ≡ put scratch (p * n + x.stage.head.0) (source_of x.job v (size_of x.stage.asked) memory)
       go true true e u = simp (u, fits u)
       go true false e u = simp u
@@ -158,15 +158,15 @@ bounced_puts x DiscardRequest p k e = never e
 -- a stage as it opens, its share filled where it reads nothing
 pub opened_fact : (s : Bytes) (memory : List ℕ) (sh : ℕ → ℕ) (x : State) (v : IoVector) (j : Tracked) → Geo x.stage → Unread x.phase x.stage → is_pending x.phase ≡ true
     → (is_bounced_write x.phase ≡ true → (i : ℕ) → i < size_of x.stage.asked → sh (x.stage.head.0 + i) ≡ new_bytes x.job x.stage.asked.start.0 j.bytes (x.stage.asked.start.0 + i))
-    → Fact x.phase s memory sh x v none j
+    → Fact x.phase s memory sh x v None j
 opened_fact s memory sh x v j g u p f = by x.phase refl u p f
   where
-    no : {A : Type 0} → ◌≡◌ {A = Option ℕ} none (some 0) → A
+    no : {A : Type 0} → ◌≡◌ {A = Option ℕ} None (Some 0) → A
     no e = let z : ◌≡◌ {A = ℕ} 0 1 = cc in absurd (omega arith)
 
     by : (ph : Phase) → x.phase ≡ ph → Unread ph x.stage → is_pending ph ≡ true
         → (is_bounced_write ph ≡ true → (i : ℕ) → i < size_of x.stage.asked → sh (x.stage.head.0 + i) ≡ new_bytes x.job x.stage.asked.start.0 j.bytes (x.stage.asked.start.0 + i))
-        → Fact ph s memory sh x v none j
+        → Fact ph s memory sh x v None j
     by Free e u p f = tt
     by Ended e u p f = never p
     by DirectRead e u p f = λ c. no c
@@ -199,7 +199,7 @@ module _ (w : World) (m : Plain) (I : Inv w m) (ask : Asked) (v : IoVector) (x :
   begun = called w (admitted d p x v w.memory w.scratch).dock w.memory (admitted d p x v w.memory w.scratch).scratch
 
   abbrev entered : Plain
-  entered = put_job m p (some job)
+  entered = put_job m p (Some job)
 
   long : length w.memory ≡ d.buffers.«data».length
   long = data_long d.buffers (length w.memory) (length w.scratch) I.long
@@ -207,7 +207,7 @@ module _ (w : World) (m : Plain) (I : Inv w m) (ask : Asked) (v : IoVector) (x :
   was_free : is_free (state_at d p).phase ≡ true
   was_free = lowest_free d.states (rw I.held.states h)
 
-  not_carried : w.carried p ≡ none
+  not_carried : w.carried p ≡ None
   not_carried = (I.slots p h).idle (free_idle (state_at d p).phase was_free)
 
   is_x : state_at begun.dock p ≡ x
@@ -222,7 +222,7 @@ module _ (w : World) (m : Plain) (I : Inv w m) (ask : Asked) (v : IoVector) (x :
   inside : uses_bounce x.phase ≡ true → x.stage.head.0 + size_of x.stage.asked ≤ d.settings.bounce
   inside u = (within d.settings.bounce x k.ready.sound u).whole
 
-  flies : Flight d.settings w.store w.memory (share begun.scratch d.settings.bounce p) x v none (waits_of p begun.dock.blockers) job
+  flies : Flight d.settings w.store w.memory (share begun.scratch d.settings.bounce p) x v None (waits_of p begun.dock.blockers) job
   flies = record {
     stands = refl;
     asked = k.asked;
@@ -241,7 +241,7 @@ module _ (w : World) (m : Plain) (I : Inv w m) (ask : Asked) (v : IoVector) (x :
   own : SlotInv begun entered p
   own = record {
     idle = λ e. never (sym (rw is_x at e) ∙ k.ready.pending);
-    tracks = λ f. record { j = job; is = set_same m.jobs p (some job); flight = rw (is_x, is_v, not_carried) flies };
+    tracks = λ f. record { j = job; is = set_same m.jobs p (Some job); flight = rw (is_x, is_v, not_carried) flies };
   }
 
   -- 203 was not met
@@ -274,7 +274,7 @@ module _ (w : World) (m : Plain) (I : Inv w m) (ask : Asked) (v : IoVector) (x :
   begun_inv =
       renewed_inv w begun m entered I p h refl refl refl refl
       (λ q n. get_or-set_other d.states p q x no_state n) (λ q n. get_or-set_other d.vectors p q v no_vector n)
-      (λ q n. refl) (λ q n. set_other m.jobs p q (some job) n)
+      (λ q n. refl) (λ q n. set_other m.jobs p q (Some job) n)
       (λ q g n f u. refl) (λ q i n l. fill_other d.settings.bounce p h x v w.memory w.scratch (room w m I) inside fits q i n l)
       (λ q g n a b c i l. refl)
       (λ q g n. enter_waits d.blockers I.held.rank I.held.clock I.held.blockers p q h g n x (free_there d I.held v w.memory w.scratch long x k.ready h))

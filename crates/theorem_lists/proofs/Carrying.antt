@@ -1,9 +1,10 @@
 -- A request that is carried out keeps the invariant: on both sides the same bytes change, a read's share or segments hold what it yielded, and no other slot is touched. Assumes nothing.
+use Rattle.std.specs.Prelude.{Option, Some, None}
+use Rattle.std.specs.Prelude.{Result, Ok, Err}
 use mathlib.Core.Path.{◌≡◌, refl, sym, ap, ◌∙◌}
 use mathlib.Core.Bool.{Bool, true, false, ◌||◌}
 use mathlib.Core.Logic.{⊎_elim, ◌≢◌}
 use mathlib.Core.List.{List, [], ◌∷◌, ◌++◌}
-use mathlib.Core.Option.{Option, none, some}
 use Prim.Native.Nat.{ℕ, zero, suc, ◌+◌, ◌<◌, ◌≤◌}
 use native.Mathlib.Omega.{arith}
 use lib.Dec.{ltb}
@@ -30,7 +31,7 @@ use Rattle.stages.specs.declared.state.State.{State}
 use Rattle.dock.specs.Dock.{state_at, vector_at, lent_fits, is_out_by, is_out, share_at, is_read_job}
 use Rattle.dock.specs.Begin.{is_write_job}
 use Rattle.dock.specs.Next.{next_of, in_data, in_scratch, piece_by, piece_of, part_of}
-use Rattle.dock.specs.declared.next.Due.TheVariants.{Waiting, Make, Answer, Refused as NotDue}
+use Rattle.dock.specs.declared.next.Due.TheVariants.{Waiting, Make, Answer}
 use Rattle.dock.specs.declared.next.Piece.{Piece}
 use Rattle.dock.specs.declared.next.Piece.TheVariants.{InData, InScratch}
 use Rattle.stages.specs.Laws.{never}
@@ -43,18 +44,19 @@ use Rattle.theorem_lists.proofs.Progress.{Before}
 use Rattle.theorem_lists.proofs.Invariant.{share, Fact}
 use Rattle.theorem_lists.proofs.World.{Taken, Tracks, Inv}
 use Rattle.theorem_lists.proofs.Renewing.{set_same, set_other, renewed_inv}
+use Rattle.arithmetic.specs.declared.refusals.Refusal.{Refusal}
 
 -- ---- which request is out
 
 pub record Out (w : World) (p : ℕ) (q : Request) : Type 0 where
   pub slot : p < 8
-  pub once : w.carried p ≡ none
+  pub once : w.carried p ≡ None
   pub pending : is_pending (state_at w.dock p).phase ≡ true
   pub free : waits_of p w.dock.blockers ≡ false
   pub is : q ≡ request_of (state_at w.dock p) (vector_at w.dock p).count
 
 module _ (w : World) (p : ℕ) (q : Request) where
-  pub out_of : out_in w p ≡ some q → Out w p q
+  pub out_of : out_in w p ≡ Some q → Out w p q
   unfolding next_of
   out_of e =
       go (w.carried p) (lent_fits w.dock.buffers (length w.memory) (length w.scratch)) (ltb p 8) (is_free (state_at w.dock p).phase) (has_ended (state_at w.dock p).phase) (waits_of p w.dock.blockers)
@@ -66,25 +68,25 @@ module _ (w : World) (p : ℕ) (q : Request) where
       r : Request
       r = request_of (state_at w.dock p) (vector_at w.dock p).count
 
-      clash : {A : Type 0} → ◌≡◌ {A = Option Request} none (some q) → A
+      clash : {A : Type 0} → ◌≡◌ {A = Option Request} None (Some q) → A
       clash e = let z : ◌≡◌ {A = ℕ} 0 1 = cc in absurd (omega arith)
 
       go : (o : Option ℕ) (a b c f g : Bool) → w.carried p ≡ o → ltb p 8 ≡ b → is_free x.phase ≡ c → has_ended x.phase ≡ f → waits_of p w.dock.blockers ≡ g
-          → unless o (made (pick a (pick b (pick c (NotDue Slot) (pick f (Answer x.answer) (pick g Waiting (Make r)))) (NotDue Slot)) (NotDue Buffer))) ≡ some q → Out w p q
-      go (some n) a b c f g i k l m n' e = clash e
-      go none false b c f g i k l m n e = clash e
-      go none true false c f g i k l m n e = clash e
-      go none true true true f g i k l m n e = clash e
-      go none true true false true g i k l m n e = clash e
-      go none true true false false true i k l m n e = clash e
-      go none true true false false false i k l m n e = record { slot = ltb-true p 8 k; once = i; pending = rw (l, m); free = n; is = cc }
+          → unless o (made (pick a (pick b (pick c (Err Slot) (pick f (Ok (Answer x.answer)) (pick g (Ok Waiting) (Ok (Make r))))) (Err Slot)) (Err Buffer))) ≡ Some q → Out w p q
+      go (Some n) a b c f g i k l m n' e = clash e
+      go None false b c f g i k l m n e = clash e
+      go None true false c f g i k l m n e = clash e
+      go None true true true f g i k l m n e = clash e
+      go None true true false true g i k l m n e = clash e
+      go None true true false false true i k l m n e = clash e
+      go None true true false false false i k l m n e = record { slot = ltb-true p 8 k; once = i; pending = rw (l, m); free = n; is = cc }
 
 -- ---- its pieces
 
 -- k segments of a vector, in order, as pieces of the data
-abbrev pub data_pieces : List Segment → ℕ → List Piece
+abbrev pub data_pieces : List Segment → ℕ → List (Result Piece Refusal)
 data_pieces l zero = []
-data_pieces l (suc k) = InData (get_or l 0 noSegment) ∷ data_pieces (drop 1 l) k
+data_pieces l (suc k) = (Ok (InData (get_or l 0 noSegment))) ∷ data_pieces (drop 1 l) k
 
 pub landed_data : (k : ℕ) (l : List Segment) (bs memory scratch : List ℕ) → landed (data_pieces l k) bs memory scratch ≡ record { memory = scatter_of memory (take k l) bs; scratch = scratch }
 unfolding landed scatter_of put
@@ -113,19 +115,19 @@ module _ (w : World) (m : Plain) (I : Inv w m) (p : ℕ) (q : Request) (O : Out 
 
   -- a piece of the share
   pub scratch_piece : (ph : Phase) (a n : ℕ) → x.phase ≡ ph → ((i k : ℕ) → piece_by ph (share_at w.dock p) i k x v ≡ in_scratch i a n) → 0 < n
-      → pieces_from w.dock p (length w.memory) (length w.scratch) 0 1 ≡ InScratch (segment a n) ∷ []
+      → pieces_from w.dock p (length w.memory) (length w.scratch) 0 1 ≡ (Ok (InScratch (segment a n))) ∷ []
   unfolding pieces_from
-  scratch_piece ph a n e f h = ap (λ (t : Piece). t ∷ []) (piece_is 0 ∙ ap (λ (k : Phase). piece_by k (share_at w.dock p) 0 (length w.memory) x v) e ∙ f 0 (length w.memory) ∙ some)
+  scratch_piece ph a n e f h = ap (λ (t : Result Piece Refusal). t ∷ []) (piece_is 0 ∙ ap (λ (k : Phase). piece_by k (share_at w.dock p) 0 (length w.memory) x v) e ∙ f 0 (length w.memory) ∙ Some)
     where
-      some : in_scratch 0 a n ≡ InScratch (segment a n)
-      some = simp (lt-ltb 0 n h)
+      Some : in_scratch 0 a n ≡ Ok (InScratch (segment a n))
+      Some = simp (lt-ltb 0 n h)
 
   -- the segments of the vector
   module _ (ph : Phase) (e : x.phase ≡ ph) (f : (i k : ℕ) → piece_by ph (share_at w.dock p) i k x v ≡ in_data i k v) (g : is_valid (length w.memory) v ≡ true) where
-    found : (i : ℕ) → i < v.count → in_data i (length w.memory) v ≡ InData (get_or v.segments i noSegment)
+    found : (i : ℕ) → i < v.count → in_data i (length w.memory) v ≡ Ok (InData (get_or v.segments i noSegment))
     found i h = simp (g, lt-ltb i v.count h)
 
-    one : (i : ℕ) → i < v.count → piece_of w.dock p i (length w.memory) (length w.scratch) ≡ InData (get_or v.segments i noSegment)
+    one : (i : ℕ) → i < v.count → piece_of w.dock p i (length w.memory) (length w.scratch) ≡ Ok (InData (get_or v.segments i noSegment))
     one i h = piece_is i ∙ ap (λ (k : Phase). piece_by k (share_at w.dock p) i (length w.memory) x v) e ∙ f i (length w.memory) ∙ found i h
 
     from : (k i : ℕ) → i + k ≤ v.count → pieces_from w.dock p (length w.memory) (length w.scratch) i k ≡ data_pieces (drop i v.segments) k
@@ -136,7 +138,7 @@ module _ (w : World) (m : Plain) (I : Inv w m) (p : ℕ) (q : Request) (O : Out 
         let y : i + 1 ≡ suc i = omega arith in
         let first : get_or v.segments i noSegment ≡ get_or (drop i v.segments) 0 noSegment = ap (λ (n : ℕ). get_or v.segments n noSegment) (sym z) ∙ sym (get_or-drop i v.segments 0 noSegment) in
         let rest : drop (suc i) v.segments ≡ drop 1 (drop i v.segments) = ap (λ (n : ℕ). drop n v.segments) (sym y) ∙ sym (drop-drop 1 i v.segments) in
-        let a = one i (omega arith) ∙ ap InData first in
+        let a = one i (omega arith) ∙ ap (λ y. Ok (InData y)) first in
         let b = from k (suc i) (omega arith) ∙ ap (λ (l : List Segment). data_pieces l k) rest in
         λ t. a t ∷ b t
 
@@ -160,7 +162,7 @@ module _ (w : World) (m : Plain) (I : Inv w m) (p : ℕ) (h : p < 8) (pending : 
   after = acted w p code store' memory' scratch'
 
   abbrev stepped : Plain
-  stepped = put_job (put_bytes m bytes') p (some job')
+  stepped = put_job (put_bytes m bytes') p (Some job')
 
   pub carry_inv : ((y : ℕ) → put_by T.j.steps y ≡ true → put_by steps' y ≡ true)
       → ((q : ℕ) → q < 8 → q ≢ p → Taken w.dock q → has_vector (state_at w.dock q).job ≡ true → bytes_of memory' (segments_of (vector_at w.dock q)) ≡ bytes_of w.memory (segments_of (vector_at w.dock q)))
@@ -169,19 +171,19 @@ module _ (w : World) (m : Plain) (I : Inv w m) (p : ℕ) (h : p < 8) (pending : 
       → store' ((state_at w.dock q).stage.request.start.0 + i) ≡ w.store ((state_at w.dock q).stage.request.start.0 + i))
       → lent_fits w.dock.buffers (length memory') (length scratch') ≡ true → ((y : ℕ) → store' y ≡ bytes' y)
       → (is_write_job (state_at w.dock p).job ≡ true → bytes_of memory' (segments_of (vector_at w.dock p)) ≡ T.j.bytes)
-      → Fact (state_at w.dock p).phase store' memory' (share scratch' w.dock.settings.bounce p) (state_at w.dock p) (vector_at w.dock p) (some code) job'
+      → Fact (state_at w.dock p).phase store' memory' (share scratch' w.dock.settings.bounce p) (state_at w.dock p) (vector_at w.dock p) (Some code) job'
       → Inv after stepped
   carry_inv grows data-same share-same store_same long same source fact =
-      renewed_inv w after m stepped I p h refl refl refl refl (λ q n. refl) (λ q n. refl) (λ q n. set_other w.carried p q (some code) n) (λ q n. set_other m.jobs p q (some job') n)
+      renewed_inv w after m stepped I p h refl refl refl refl (λ q n. refl) (λ q n. refl) (λ q n. set_other w.carried p q (Some code) n) (λ q n. set_other m.jobs p q (Some job') n)
       data-same share-same store_same (λ q g n a. a) I.held long same
       (record {
         idle = λ e. never (sym e ∙ pending);
         tracks = λ f.
             record {
               j = job';
-              is = set_same m.jobs p (some job');
+              is = set_same m.jobs p (Some job');
               flight =
-                  rw (set_same w.carried p (some code))
+                  rw (set_same w.carried p (Some code))
                   (record {
                     stands = T.flight.stands;
                     asked = T.flight.asked;

@@ -1,4 +1,5 @@
 -- Where the bytes of a stage lie: every byte of a padded range beside the asked one is read, a stage as it opens has read nothing, and what its asked range is of the job's. Assumes nothing.
+use Rattle.std.specs.Prelude.{Result, Ok, Err, Option, Some, None}
 use mathlib.Core.Path.{◌≡◌, refl, sym}
 use mathlib.Core.Bool.{Bool, true, false}
 use mathlib.Core.Logic.{◌⊎◌, inl, inr, ⊎_elim}
@@ -23,11 +24,9 @@ use Rattle.arithmetic.specs.declared.settings.Settings.{Settings}
 use Rattle.arithmetic.specs.declared.padding.Span.{Span}
 use Rattle.arithmetic.specs.declared.padding.Reads.TheVariants.{Nothing as NoReads, Whole as ReadWhole, Head as ReadHead, Tail as ReadTail, HeadThenTail}
 use Rattle.arithmetic.specs.declared.padding.Transfer.{Transfer}
-use Rattle.arithmetic.specs.declared.padding.Transfer.TheVariants.{Direct, Bounced, Refused as NoTransfer}
+use Rattle.arithmetic.specs.declared.padding.Transfer.TheVariants.{Direct, Bounced}
 use Rattle.arithmetic.specs.declared.zeroes.ZeroCut.{ZeroCut}
-use Rattle.arithmetic.specs.declared.zeroes.ZeroCut.TheVariants.{Nothing as NoCut, Whole, Split, Refused as CutRefused}
-use Rattle.arithmetic.specs.declared.zeroes.DiscardCut.{DiscardCut}
-use Rattle.arithmetic.specs.declared.zeroes.DiscardCut.TheVariants.{Nothing as NoDiscard, Middle as DiscardMiddle, Refused as DiscardRefused}
+use Rattle.arithmetic.specs.declared.zeroes.ZeroCut.TheVariants.{Nothing as NoCut, Whole, Split}
 use Rattle.stages.specs.Stages.{size_of, direct_stage, first_of, second_of, padded_stage, first_phase, asked, bounced_phase, vector_by, read_plan, write_plan, zeroes_by, zeroes_plan, zero_job, zero_by, zero_plan, discard_by, discard_plan, second_at}
 use Rattle.stages.specs.Laws.{Starts, starts_within, starts_some, never}
 use Rattle.stages.specs.Transfers.{splits}
@@ -40,6 +39,7 @@ use Rattle.stages.specs.declared.state.Course.TheVariants.{Last, Middle, Head, C
 use Rattle.stages.specs.declared.state.Stage.{Stage}
 use Rattle.stages.specs.declared.state.State.{State}
 use Rattle.theorem_lists.specs.Courses.{is_discard_job}
+use Rattle.arithmetic.specs.declared.refusals.Refusal.{Refusal}
 
 -- ---- what is read of a padded range
 
@@ -192,10 +192,10 @@ module _ (s : Settings) (fit : settings_fit s ≡ true) where
   bounced_as_asked Discard g = first_as_asked g
 
   -- a job over a vector, direct in the phase ph
-  vector_by_lem : (j : Job) (ph : Phase) → ((g : Stage) → Unread ph g) → ((g : Stage) → g.asked ≡ g.request → AsAsked ph g) → (o : StoreOffset) (n : ℕ) (x : Transfer) → Transfers s.align o.0 n x → Starts Shaped (vector_by s j ph o n x)
+  vector_by_lem : (j : Job) (ph : Phase) → ((g : Stage) → Unread ph g) → ((g : Stage) → g.asked ≡ g.request → AsAsked ph g) → (o : StoreOffset) (n : ℕ) (x : Result Transfer Refusal) → Transfers s.align o.0 n x → Starts Shaped (vector_by s j ph o n x)
   unfolding Transfers direct_stage padded_stage
-  vector_by_lem j ph u a o n (Direct r) k = record { geo = geo_direct r; unread = u (direct_stage r); as_asked = a (direct_stage r) refl; zoned = λ d. (omega arith, refl) }
-  vector_by_lem j ph u a o n (Bounced x) k =
+  vector_by_lem j ph u a o n (Ok (Direct r)) k = record { geo = geo_direct r; unread = u (direct_stage r); as_asked = a (direct_stage r) refl; zoned = λ d. (omega arith, refl) }
+  vector_by_lem j ph u a o n (Ok (Bounced x)) k =
       starts_within Shaped x.length s.bounce _ (λ h.
       record {
         geo = geo_padded s.align n x (asked o n) positive k (omega arith);
@@ -203,7 +203,7 @@ module _ (s : Settings) (fit : settings_fit s ≡ true) where
         as_asked = bounced_as_asked j (padded_stage x (asked o n));
         zoned = λ d. (omega arith, refl);
       })
-  vector_by_lem j ph u a o n (NoTransfer r) k = tt
+  vector_by_lem j ph u a o n (Err r) k = tt
 
   pub read_shaped : (o : StoreOffset) (n : ℕ) (t : Bool) → Starts Shaped (read_plan s o n t)
   unfolding read_plan
@@ -215,28 +215,28 @@ module _ (s : Settings) (fit : settings_fit s ≡ true) where
 
   -- a write of zeroes over r, where r stands so in the job's range w
   module _ (j : Job) (w m : Range) (c : Course) (r : Range) (z : Zone c r w m) where
-    zeroes_by_lem : (x : Transfer) → Transfers s.align r.start.0 (size_of r) x → Starts Shaped (zeroes_by s j w m c r x)
+    zeroes_by_lem : (x : Result Transfer Refusal) → Transfers s.align r.start.0 (size_of r) x → Starts Shaped (zeroes_by s j w m c r x)
     unfolding Transfers direct_stage padded_stage
-    zeroes_by_lem (Direct x) k = starts_within Shaped (size_of r) s.bounce _ (λ h. record { geo = geo_direct r; unread = (refl, refl); as_asked = tt; zoned = λ d. z })
-    zeroes_by_lem (Bounced x) k =
+    zeroes_by_lem (Ok (Direct x)) k = starts_within Shaped (size_of r) s.bounce _ (λ h. record { geo = geo_direct r; unread = (refl, refl); as_asked = tt; zoned = λ d. z })
+    zeroes_by_lem (Ok (Bounced x)) k =
         starts_within Shaped x.length s.bounce _ (λ h.
         record { geo = geo_padded s.align (size_of r) x r positive k refl; unread = first_unread (padded_stage x r); as_asked = first_as_asked (padded_stage x r); zoned = λ d. z })
-    zeroes_by_lem (NoTransfer x) k = tt
+    zeroes_by_lem (Err x) k = tt
 
     pub zeroes_shaped : Starts Shaped (zeroes_plan s j w m c r)
     unfolding zeroes_plan
     zeroes_shaped = zeroes_by_lem (transfer_of s.align r.start (size_of r) (is_multiple (size_of r) (length_align s.align))) (transfers s.align r.start (size_of r) _)
 
-  zero_by_lem : (t : Bool) (o : StoreOffset) (n : ℕ) (x : ZeroCut) → zero_cut_of s.align o n ≡ x → Starts Shaped (zero_by s (zero_job t) o n x)
+  zero_by_lem : (t : Bool) (o : StoreOffset) (n : ℕ) (x : Result ZeroCut Refusal) → zero_cut_of s.align o n ≡ x → Starts Shaped (zero_by s (zero_job t) o n x)
   unfolding cut_of has_middle direct_stage
-  zero_by_lem t o n NoCut e = tt
-  zero_by_lem t o n (Whole r) e = zeroes_shaped (zero_job t) r (range_of 0 0) Last r (omega arith, refl)
-  zero_by_lem t o n (Split c) e =
+  zero_by_lem t o n (Ok NoCut) e = tt
+  zero_by_lem t o n (Ok (Whole r)) e = zeroes_shaped (zero_job t) r (range_of 0 0) Last r (omega arith, refl)
+  zero_by_lem t o n (Ok (Split c)) e =
       let k = splits s.align o n c e in
       let l = ltb-true (middle_start s.align.zero o.0) (middle_end s.align.zero o.0 n) k.middles.some in
       let q = tiled s.align.zero o.0 n (accepted s fit).align.zero.positive in
       rw k.is (record { geo = geo_direct (cut_of s.align.zero o.0 n).middle; unread = tt; as_asked = refl; zoned = λ d. (refl, q.head_ordered, omega (arith, l), q.tail_ordered) })
-  zero_by_lem t o n (CutRefused r) e = tt
+  zero_by_lem t o n (Err r) e = tt
 
   pub zero_shaped : (t : Bool) (o : StoreOffset) (n : ℕ) → Starts Shaped (zero_plan s t o n)
   unfolding zero_plan
@@ -246,10 +246,10 @@ module _ (s : Settings) (fit : settings_fit s ≡ true) where
   unfolding direct_stage
   direct_asked r = refl
 
-  discard_by_lem : (o : StoreOffset) (n : ℕ) (x : DiscardCut) → Starts Shaped (discard_by o n x)
-  discard_by_lem o n NoDiscard = tt
-  discard_by_lem o n (DiscardMiddle r) = record { geo = geo_direct r; unread = tt; as_asked = direct_asked r; zoned = λ d. never (sym d) }
-  discard_by_lem o n (DiscardRefused r) = tt
+  discard_by_lem : (o : StoreOffset) (n : ℕ) (x : Result (Option Range) Refusal) → Starts Shaped (discard_by o n x)
+  discard_by_lem o n (Ok None) = tt
+  discard_by_lem o n (Ok (Some r)) = record { geo = geo_direct r; unread = tt; as_asked = direct_asked r; zoned = λ d. never (sym d) }
+  discard_by_lem o n (Err r) = tt
 
   pub discard_shaped : (o : StoreOffset) (n : ℕ) → Starts Shaped (discard_plan s o n)
   unfolding discard_plan

@@ -1,9 +1,9 @@
 -- What holds of the two sides after every list of events: of each slot by itself, by which request is out; and that it stays where only other slots change. Assumes nothing.
+use Rattle.std.specs.Prelude.{Option, Some, None}
 use mathlib.Core.Path.{◌≡◌, refl, sym, ap, ◌∙◌}
 use mathlib.Core.Bool.{Bool, true, false, ◌&&◌}
 use mathlib.Core.Logic.{⊎_elim}
 use mathlib.Core.List.{List}
-use mathlib.Core.Option.{Option, none, some}
 use Prim.Native.Nat.{ℕ, ◌+◌, ◌*◌, ◌<◌, ◌≤◌}
 use native.Mathlib.Omega.{arith}
 use lib.Dec.{leb}
@@ -50,20 +50,20 @@ Fetched s sh x i = sh i ≡ s (x.stage.request.start.0 + i)
 abbrev pub Fact : Phase → Bytes → List ℕ → (ℕ → ℕ) → State → IoVector → Option ℕ → Tracked → Type 0
 Fact Free s memory sh x v car j = Unit {0}
 Fact Ended s memory sh x v car j = x.answer ≡ 0 → OwedBy x.job x.range v j memory
-Fact DirectRead s memory sh x v car j = car ≡ some 0 → OwedBy Read x.range v j memory
+Fact DirectRead s memory sh x v car j = car ≡ Some 0 → OwedBy Read x.range v j memory
 Fact BouncedRead s memory sh x v car j =
-    car ≡ some 0 → (bs : List ℕ) × Among (yielded x.range bs) j.steps × (length bs ≡ size_of x.stage.asked)
+    car ≡ Some 0 → (bs : List ℕ) × Among (yielded x.range bs) j.steps × (length bs ≡ size_of x.stage.asked)
     × ((i : ℕ) → i < size_of x.stage.asked → sh (x.stage.head.0 + i) ≡ get_or bs i 0)
-Fact FirstRead s memory sh x v car j = car ≡ some 0 → (i : ℕ) → i < size_of x.stage.first → Fetched s sh x i
+Fact FirstRead s memory sh x v car j = car ≡ Some 0 → (i : ℕ) → i < size_of x.stage.first → Fetched s sh x i
 Fact SecondRead s memory sh x v car j =
-    (car ≡ none → (i : ℕ) → i < size_of x.stage.first → Fetched s sh x i)
-    × (car ≡ some 0 → (i : ℕ) → i < size_of x.stage.request → ReadBy x.stage i → Fetched s sh x i)
+    (car ≡ None → (i : ℕ) → i < size_of x.stage.first → Fetched s sh x i)
+    × (car ≡ Some 0 → (i : ℕ) → i < size_of x.stage.request → ReadBy x.stage i → Fetched s sh x i)
 Fact BouncedWrite s memory sh x v car j =
     ((i : ℕ) → i < size_of x.stage.asked → sh (x.stage.head.0 + i) ≡ new_bytes x.job x.stage.asked.start.0 j.bytes (x.stage.asked.start.0 + i))
     × ((i : ℕ) → i < size_of x.stage.request → Beside x.stage i → Fetched s sh x i)
-    × (car ≡ some 0 → Wrote x j)
-Fact DirectWrite s memory sh x v car j = car ≡ some 0 → Wrote x j
-Fact ZeroRequest s memory sh x v car j = car ≡ some 0 → Among (zeroed x.stage.request 0) j.steps
+    × (car ≡ Some 0 → Wrote x j)
+Fact DirectWrite s memory sh x v car j = car ≡ Some 0 → Wrote x j
+Fact ZeroRequest s memory sh x v car j = car ≡ Some 0 → Among (zeroed x.stage.request 0) j.steps
 Fact DiscardRequest s memory sh x v car j = Unit {0}
 
 -- the job x with the vector v is what was asked
@@ -86,11 +86,11 @@ pub record Flight (t : Settings) (s : Bytes) (memory : List ℕ) (sh : ℕ → �
   pub before : is_pending x.phase ≡ true → is_zero_job x.job ≡ true → Before x.course x.stage.asked x.range x.middle j.steps
   pub fact : Fact x.phase s memory sh x v car j
   -- a job that waits has no request carried out, and has read nothing
-  pub fresh : wait ≡ true → (car ≡ none) × Unread x.phase x.stage
+  pub fresh : wait ≡ true → (car ≡ None) × Unread x.phase x.stage
 
 -- ---- where others change
 
-some_none : {A : Type 0} (c : Option ℕ) (n : ℕ) → c ≡ none → c ≡ some n → A
+some_none : {A : Type 0} (c : Option ℕ) (n : ℕ) → c ≡ None → c ≡ Some n → A
 some_none c n e f = let z : ◌≡◌ {A = ℕ} 0 1 = cc in absurd (omega arith)
 
 pub no_padding : (g : Stage) → Geo g → size_of g.first ≡ 0 → size_of g.second ≡ 0 → (i : ℕ) → i < size_of g.request → Beside g i → ⊥

@@ -1,5 +1,6 @@
 -- The theorem on every list, from a dock that was opened by a row of a loaded table; and applied to the example's list, from a dock opened by
 -- the only row of a table.
+use Rattle.std.specs.Prelude.{Ok}
 use mathlib.Core.Path.{◌≡◌, refl, sym, ap, subst, ◌∙◌}
 use mathlib.Core.Bool.{true}
 use mathlib.Core.List.{List, [], ◌∷◌}
@@ -7,7 +8,6 @@ use Prim.Native.Nat.{ℕ, zero, suc, ◌<◌}
 use native.Mathlib.Omega.{arith}
 use lib.ListN.{length, get_or}
 use Rattle.arithmetic.specs.Settings.{alignments_fit}
-use Rattle.arithmetic.specs.declared.refusals.Outcome.TheVariants.{Done}
 use Rattle.arithmetic.specs.declared.settings.Alignments.{Alignments}
 use Rattle.tables.specs.Tables.{these, table_of, no_row}
 use Rattle.tables.specs.Writing.{table_bytes, table_written}
@@ -38,7 +38,7 @@ fits (suc i) h = absurd (omega (arith, h))
 pub loads : table_of (table_bytes rows) ≡ these rows
 loads = table_written rows (record { some = omega arith; most = omega arith; fit = fits })
 
-as_named : (by_row (table_bytes rows) rows loads 0 settings.bounce buffers).outcome ≡ Done
+as_named : (by_row (table_bytes rows) rows loads 0 settings.bounce buffers).outcome ≡ Ok tt
 as_named = ap (λ (o : Opened). o.outcome) (opens_as (table_bytes rows) rows loads 0 settings.bounce buffers (omega arith)) ∙ opens
 
 -- the example's list is lawful from this dock too

@@ -1,4 +1,5 @@
 -- What a zero job has put so far: each stage's bytes join those before it, and where it ends with 0 its whole range is put. Assumes nothing.
+use Rattle.std.specs.Prelude.{Result, Ok, Err, Option, Some, None}
 use mathlib.Core.Path.{◌≡◌, refl, sym, subst}
 use mathlib.Core.Bool.{Bool, true, false}
 use mathlib.Core.List.{List}
@@ -20,8 +21,7 @@ use Rattle.arithmetic.specs.declared.offsets.StoreOffset.{StoreOffset}
 use Rattle.arithmetic.specs.declared.offsets.Range.{Range}
 use Rattle.arithmetic.specs.declared.settings.Settings.{Settings}
 use Rattle.arithmetic.specs.declared.padding.Transfer.{Transfer}
-use Rattle.arithmetic.specs.declared.padding.Transfer.TheVariants.{Direct, Bounced, Refused as NoTransfer}
-use Rattle.arithmetic.specs.declared.zeroes.Chunk.TheVariants.{Nothing as NoChunk, Next, Refused as ChunkRefused}
+use Rattle.arithmetic.specs.declared.padding.Transfer.TheVariants.{Direct, Bounced}
 use Rattle.stages.specs.Laws.{never}
 use Rattle.stages.specs.Stages.{size_of, direct_stage, padded_stage, first_phase, state_of, zeroes_by, zeroes_plan, ended_with, later_stage, zeroes_next, chunk_by, chunk_next, tail_next, head_next, stage_done}
 use Rattle.stages.specs.declared.state.Job.{Job}
@@ -29,8 +29,6 @@ use Rattle.stages.specs.declared.state.Phase.TheVariants.{BouncedWrite}
 use Rattle.stages.specs.declared.state.Course.{Course}
 use Rattle.stages.specs.declared.state.Course.TheVariants.{Last, Middle, Head, Chunks}
 use Rattle.stages.specs.declared.state.State.{State}
-use Rattle.stages.specs.declared.plan.Plan.{Plan}
-use Rattle.stages.specs.declared.plan.Plan.TheVariants.{Done, Started, Refused}
 use Rattle.stages.specs.declared.told.Step.{Step}
 use Rattle.stages.specs.declared.told.Step.TheVariants.{Stays, Ends, Enters}
 use Rattle.theorem_lists.specs.PlainStore.{Did}
@@ -71,38 +69,38 @@ refused_some : (r : Refusal) {A : Type 0} → number_of r ≡ 0 → A
 refused_some r e = absurd (omega (arith, refusal_some r))
 
 -- a plan that is refused or starts a stage
-abbrev pub Opening : (State → Type 0) → Plan → Type 0
-Opening P Done = ⊥
-Opening P (Started x) = P x
-Opening P (Refused r) = Unit {0}
+abbrev pub Opening : (State → Type 0) → Result (Option State) Refusal → Type 0
+Opening P (Ok None) = ⊥
+Opening P (Ok (Some x)) = P x
+Opening P (Err r) = Unit {0}
 
 module _ (s : Settings) (fit : settings_fit s ≡ true) (ds : List Did) where
   module _ (j : Job) (w m : Range) (c : Course) (r : Range) (z : Zone c r w m) (b : Before c r w m ds) where
-    zeroes_by_lem : (x : Transfer) → ((y : State) → zeroes_by s j w m c r x ≡ Started y → Shaped y) → Opening (Follows ds) (zeroes_by s j w m c r x)
+    zeroes_by_lem : (x : Result Transfer Refusal) → ((y : State) → zeroes_by s j w m c r x ≡ (Ok (Some y)) → Shaped y) → Opening (Follows ds) (zeroes_by s j w m c r x)
     unfolding direct_stage padded_stage
-    zeroes_by_lem (Direct x) f = shape (leb (size_of r) s.bounce) f
+    zeroes_by_lem (Ok (Direct x)) f = shape (leb (size_of r) s.bounce) f
       where
-        shape : (t : Bool) → ((y : State) → pick t (Started (state_of j w m c (direct_stage r) BouncedWrite)) (Refused TooLong) ≡ Started y → Shaped y)
-            → Opening (Follows ds) (pick t (Started (state_of j w m c (direct_stage r) BouncedWrite)) (Refused TooLong))
+        shape : (t : Bool) → ((y : State) → pick t (Ok (Some (state_of j w m c (direct_stage r) BouncedWrite))) (Err TooLong) ≡ (Ok (Some y)) → Shaped y)
+            → Opening (Follows ds) (pick t (Ok (Some (state_of j w m c (direct_stage r) BouncedWrite))) (Err TooLong))
         shape true f = record { shaped = f _ refl; before = b }
         shape false f = tt
-    zeroes_by_lem (Bounced x) f = shape (leb x.length s.bounce) f
+    zeroes_by_lem (Ok (Bounced x)) f = shape (leb x.length s.bounce) f
       where
-        shape : (t : Bool) → ((y : State) → pick t (Started (state_of j w m c (padded_stage x r) (first_phase (padded_stage x r)))) (Refused TooLong) ≡ Started y → Shaped y)
-            → Opening (Follows ds) (pick t (Started (state_of j w m c (padded_stage x r) (first_phase (padded_stage x r)))) (Refused TooLong))
+        shape : (t : Bool) → ((y : State) → pick t (Ok (Some (state_of j w m c (padded_stage x r) (first_phase (padded_stage x r))))) (Err TooLong) ≡ (Ok (Some y)) → Shaped y)
+            → Opening (Follows ds) (pick t (Ok (Some (state_of j w m c (padded_stage x r) (first_phase (padded_stage x r))))) (Err TooLong))
         shape true f = record { shaped = f _ refl; before = b }
         shape false f = tt
-    zeroes_by_lem (NoTransfer x) f = tt
+    zeroes_by_lem (Err x) f = tt
 
     pub zeroes_follow : Opening (Follows ds) (zeroes_plan s j w m c r)
     unfolding zeroes_plan
     zeroes_follow = zeroes_by_lem (transfer_of s.align r.start (size_of r) (is_multiple (size_of r) (length_align s.align))) (λ y e. rw e at (zeroes_shaped s fit j w m c r z))
 
   module _ (x : State) where
-    later_goes : (p : Plan) → Opening (Follows ds) p → Goes ds x (later_stage x p)
-    later_goes Done k = absurd k
-    later_goes (Started y) k = k
-    later_goes (Refused r) k = λ e. refused_some r e
+    later_goes : (p : Result (Option State) Refusal) → Opening (Follows ds) p → Goes ds x (later_stage x p)
+    later_goes (Ok None) k = absurd k
+    later_goes (Ok (Some y)) k = k
+    later_goes (Err r) k = λ e. refused_some r e
 
     next_goes : (c : Course) (r : Range) → Zone c r x.range x.middle → Before c r x.range x.middle ds → Goes ds x (zeroes_next s x c r)
     next_goes c r z b = later_goes (zeroes_plan s x.job x.range x.middle c r) (zeroes_follow x.job x.range x.middle c r z b)
@@ -115,7 +113,7 @@ module _ (s : Settings) (fit : settings_fit s ≡ true) (ds : List Did) where
         n : ℕ
         n = chunk_length s.align.req s.bounce o.0 (x.range.end.0 - o.0)
 
-        go : (a b : Bool) → a ≡ true → ltb o.0 x.range.end.0 ≡ b → Goes ds x (chunk_by s x (pick a (pick b (Next (range_of o.0 (o.0 + n))) NoChunk) (ChunkRefused Unfit)))
+        go : (a b : Bool) → a ≡ true → ltb o.0 x.range.end.0 ≡ b → Goes ds x (chunk_by s x (pick a (pick b (Ok (Some (range_of o.0 (o.0 + n)))) (Ok None)) (Err Unfit)))
         go true true e g =
             let l = ltb-true o.0 x.range.end.0 g in
             let k = chunk_within s.align.req s.bounce o.0 x.range.end.0 in

@@ -1,9 +1,10 @@
 -- An event that changes one slot keeps the invariant where that slot has it anew; and so it holds at opening and is kept by collect. Assumes nothing.
+use Rattle.std.specs.Prelude.{None}
+use Rattle.std.specs.Prelude.{Ok}
 use mathlib.Core.Path.{◌≡◌, refl, sym, ap, ◌∙◌, subst}
 use mathlib.Core.Bool.{true, false, ◌||◌, or-true}
 use mathlib.Core.Logic.{◌≢◌}
 use mathlib.Core.List.{List, []}
-use mathlib.Core.Option.{none}
 use Prim.Native.Nat.{ℕ, ◌+◌, ◌<◌}
 use native.Mathlib.Decide.{ℕ_discrete}
 use lib.ListN.{length, get_or-replicate}
@@ -11,7 +12,6 @@ use lib.Seq.{get_or-set_same, get_or-set_other}
 use borrow.Author.Tests.{eq-eqb, ne_eqb}
 use Rattle.arithmetic.specs.Settings.{opening_of}
 use Rattle.arithmetic.specs.Content.{Bytes}
-use Rattle.arithmetic.specs.declared.refusals.Outcome.TheVariants.{Done}
 use Rattle.arithmetic.specs.declared.settings.Settings.{Settings}
 use Rattle.arithmetic.specs.declared.settings.Buffers.{Buffers}
 use Rattle.vectors.specs.Vectors.{segments_of, bytes_of, overlap_of, self_overlap_of, vector_of}
@@ -106,7 +106,7 @@ fresh_free : (s : Settings) (b : Buffers) (p : ℕ) → p < 8 → is_free (state
 unfolding fresh vacant
 fresh_free s b p h = ap (λ (x : State). is_free x.phase) (get_or-replicate 8 p vacant no_state h)
 
-pub opened_inv : (s : Settings) (b : Buffers) (content : Bytes) (memory scratch : List ℕ) → opening_of s b ≡ Done → lent_fits b (length memory) (length scratch) ≡ true
+pub opened_inv : (s : Settings) (b : Buffers) (content : Bytes) (memory scratch : List ℕ) → opening_of s b ≡ (Ok tt) → lent_fits b (length memory) (length scratch) ≡ true
     → Inv (opened s b content memory scratch) (plain_opened s b content)
 unfolding fresh open_of
 opened_inv s b content memory scratch e l = record {
@@ -139,7 +139,7 @@ module _ (w : World) (m : Plain) (I : Inv w m) (p : ℕ) (h : p < 8) (e : has_en
   freed = called w (with_job w.dock p w.dock.blockers vacant (vector_of [])) w.memory w.scratch
 
   abbrev removed : Plain
-  removed = put_job m p none
+  removed = put_job m p None
 
   now_free : is_free (state_at freed.dock p).phase ≡ true
   unfolding vacant
@@ -149,7 +149,7 @@ module _ (w : World) (m : Plain) (I : Inv w m) (p : ℕ) (h : p < 8) (e : has_en
   freed_inv =
       renewed_inv w freed m removed I p h refl refl refl refl
       (λ q n. get_or-set_other w.dock.states p q vacant no_state n) (λ q n. get_or-set_other w.dock.vectors p q (vector_of []) no_vector n)
-      (λ q n. refl) (λ q n. set_other m.jobs p q none n)
+      (λ q n. refl) (λ q n. set_other m.jobs p q None n)
       (λ q g n f u. refl) (λ q i n k. refl) (λ q g n a b c i k. refl) (λ q g n a. a)
       (freed_held w.dock I.held p h e) I.long I.same
       (record { idle = λ f. (I.slots p h).idle (ended_idle (state_at w.dock p).phase e); tracks = λ f. never (sym f ∙ now_free) })

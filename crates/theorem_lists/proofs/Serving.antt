@@ -1,9 +1,10 @@
 -- Each request, carried out with any code, does on the real store and on the plain byte store the same; by which request is out. Assumes nothing.
+use Rattle.std.specs.Prelude.{Option, Some, None}
+use Rattle.std.specs.Prelude.{Result, Ok}
 use mathlib.Core.Path.{◌≡◌, refl, sym, ap, ◌∙◌, subst}
 use mathlib.Core.Bool.{Bool, true, false, ◌&&◌}
 use mathlib.Core.Logic.{◌⊎◌, inl, inr, ⊎_elim, ◌≢◌}
 use mathlib.Core.List.{List, [], ◌∷◌, ◌++◌}
-use mathlib.Core.Option.{Option, none, some}
 use Prim.Native.Nat.{ℕ, zero, suc, ◌+◌, ◌-◌, ◌*◌, ◌<◌, ◌≤◌}
 use native.Mathlib.Omega.{arith}
 use native.Mathlib.Decide.{dec_lt}
@@ -50,6 +51,7 @@ use Rattle.theorem_lists.proofs.Geometry.{Beside, ReadBy, AsAsked}
 use Rattle.theorem_lists.proofs.Invariant.{share, Fact, within}
 use Rattle.theorem_lists.proofs.World.{Taken, Tracks, Inv, room, segments_lie, shared_overlap}
 use Rattle.theorem_lists.proofs.Carrying.{Out, scratch_piece, landed_data, gathered_data, data_pieces_lem, carry_inv}
+use Rattle.arithmetic.specs.declared.refusals.Refusal.{Refusal}
 
 -- ---- bytes of a range
 
@@ -77,7 +79,7 @@ unfolding changed
 both_in s t r g which a b y i k e f = rw (i, k, e, f)
 
 -- n bytes of the scratch as a write's only piece
-handed_is : (memory scratch : List ℕ) (a n : ℕ) → a + n ≤ length scratch → gathered (InScratch (segment a n) ∷ []) memory scratch ≡ take n (drop a scratch) ++ []
+handed_is : (memory scratch : List ℕ) (a n : ℕ) → a + n ≤ length scratch → gathered ((Ok (InScratch (segment a n))) ∷ []) memory scratch ≡ take n (drop a scratch) ++ []
 unfolding gathered part_of
 handed_is memory scratch a n h = simp (le-leb (a + n) (length scratch) h)
 
@@ -92,10 +94,10 @@ range_is r h = let e : r.start.0 + size_of r ≡ r.end.0 = omega arith in ap (λ
 yields_is : (code : ℕ) (c : Choice) (s : Bytes) → code ≡ 0 → yields code c s ≡ s
 yields_is code c s e = simp (eq-eqb code 0 e)
 
-code_is : (code : ℕ) → ◌≡◌ {A = Option ℕ} (some code) (some 0) → code ≡ 0
+code_is : (code : ℕ) → ◌≡◌ {A = Option ℕ} (Some code) (Some 0) → code ≡ 0
 code_is code e = cc
 
-no_code : {A : Type 0} (code : ℕ) → ◌≡◌ {A = Option ℕ} (some code) none → A
+no_code : {A : Type 0} (code : ℕ) → ◌≡◌ {A = Option ℕ} (Some code) None → A
 no_code code e = let z : ◌≡◌ {A = ℕ} 0 1 = cc in absurd (omega arith)
 
 window_same : (s t : Bytes) (o n : ℕ) → ((y : ℕ) → s y ≡ t y) → window s o n ≡ window t o n
@@ -125,7 +127,7 @@ stored_zero Zeroes r code c l s = refl
 stored_zero AllocatedZeroes r code c l s = refl
 stored_zero Discard r code c l s = refl
 
-fetched_zero : (j : Job) (q : Request) (ps : List Piece) (code : ℕ) (c : Choice) (s : Bytes) (memory scratch : List ℕ) → fetched (zero_kind j) q ps code c s memory scratch ≡ record { memory = memory; scratch = scratch }
+fetched_zero : (j : Job) (q : Request) (ps : List (Result Piece Refusal)) (code : ℕ) (c : Choice) (s : Bytes) (memory scratch : List ℕ) → fetched (zero_kind j) q ps code c s memory scratch ≡ record { memory = memory; scratch = scratch }
 fetched_zero Read q ps code c s memory scratch = refl
 fetched_zero Write q ps code c s memory scratch = refl
 fetched_zero Zeroes q ps code c s memory scratch = refl
@@ -133,7 +135,7 @@ fetched_zero AllocatedZeroes q ps code c s memory scratch = refl
 fetched_zero Discard q ps code c s memory scratch = refl
 
 -- the plain byte store's step is that of the state in which its job stands
-carried_is : (m : Plain) (p code : ℕ) (c : Choice) (t : Settings) (j : Tracked) (x : State) (ph : Phase) → m.jobs p ≡ some j → m.settings ≡ t → standing t j.first j.codes ≡ x → x.phase ≡ ph
+carried_is : (m : Plain) (p code : ℕ) (c : Choice) (t : Settings) (j : Tracked) (x : State) (ph : Phase) → m.jobs p ≡ Some j → m.settings ≡ t → standing t j.first j.codes ≡ x → x.phase ≡ ph
     → carried_by (m.jobs p) m p code c
     ≡ after_step m p (step_by ph code c x m.bytes j)
 unfolding carried_out
@@ -205,7 +207,7 @@ module _ (w : World) (m : Plain) (I : Inv w m) (p : ℕ) (q : Request) (O : Out 
 
   -- ---- a read into the share, of the range r, from a on
 
-  module _ (r : Range) (a : ℕ) (is : q ≡ request KRead r 1) (pieces : pieces_from w.dock p (length w.memory) (length w.scratch) 0 1 ≡ InScratch (segment (p * N + a) (size_of r)) ∷ []) (fits : a + size_of r ≤ N) where
+  module _ (r : Range) (a : ℕ) (is : q ≡ request KRead r 1) (pieces : pieces_from w.dock p (length w.memory) (length w.scratch) 0 1 ≡ (Ok (InScratch (segment (p * N + a) (size_of r)))) ∷ []) (fits : a + size_of r ≤ N) where
     abbrev bs : List ℕ
     bs = window (yields code c w.store) r.start.0 (size_of r)
 
@@ -222,7 +224,7 @@ module _ (w : World) (m : Plain) (I : Inv w m) (p : ℕ) (q : Request) (O : Out 
     unfolding landed
     share_world =
         ap (λ (k : Request). carries_out w p code c k) is
-        ∙ ap (λ (ps : List Piece). acted w p code w.store (landed ps bs w.memory w.scratch).memory (landed ps bs w.memory w.scratch).scratch) pieces
+        ∙ ap (λ (ps : List (Result Piece Refusal)). acted w p code w.store (landed ps bs w.memory w.scratch).memory (landed ps bs w.memory w.scratch).scratch) pieces
         ∙ ap (λ (l : List ℕ). acted w p code w.store w.memory (put w.scratch (p * N + a) l)) whole
       where
         whole : take (size_of r) bs ≡ bs
@@ -242,10 +244,10 @@ module _ (w : World) (m : Plain) (I : Inv w m) (p : ℕ) (q : Request) (O : Out 
     read_off i o = share_put_off w.scratch N p a bs O.slot (room w m I) inside i (⊎_elim (λ k. inl k) (λ k. inr (omega (arith, bs_long))) o)
 
     share_inv : (steps' : List Did) → ((y : ℕ) → put_by T.j.steps y ≡ true → put_by steps' y ≡ true)
-        → Fact x.phase w.store w.memory (share scratch' N p) x v (some code) (with_steps T.j steps')
-        → Inv (carries_out w p code c q) (put_job m p (some (with_steps T.j steps')))
+        → Fact x.phase w.store w.memory (share scratch' N p) x v (Some code) (with_steps T.j steps')
+        → Inv (carries_out w p code c q) (put_job m p (Some (with_steps T.j steps')))
     share_inv steps' grows fact =
-        subst (λ (z : World). Inv z (put_job m p (some (with_steps T.j steps')))) (sym share_world)
+        subst (λ (z : World). Inv z (put_job m p (Some (with_steps T.j steps')))) (sym share_world)
         (carry_inv w m I p O.slot O.pending O.free T code w.store w.memory scratch' m.bytes steps' grows
         (λ o g n f u. refl) (λ o i n k. share_put_other w.scratch N p a bs O.slot (room w m I) inside o i (λ z. n (sym z)) k) (λ o g n f s b i k. refl)
         (rw (share_put_length w.scratch N p a bs O.slot (room w m I) inside) I.long) I.same T.flight.source fact)
@@ -258,8 +260,8 @@ module _ (w : World) (m : Plain) (I : Inv w m) (p : ℕ) (q : Request) (O : Out 
   unfolding is_regular
   second_some e = let k = S.regular in ltb-true 0 (size_of x.stage.second) (and_right (suits SecondRead x.course x.job) _ (rw e at k))
 
-  at_start : (n : ℕ) → pieces_from w.dock p (length w.memory) (length w.scratch) 0 1 ≡ InScratch (segment (p * N) n) ∷ [] → pieces_from w.dock p (length w.memory) (length w.scratch) 0 1 ≡ InScratch (segment (p * N + 0) n) ∷ []
-  at_start n e = let z : p * N ≡ p * N + 0 = omega arith in e ∙ ap (λ (k : ℕ). InScratch (segment k n) ∷ []) z
+  at_start : (n : ℕ) → pieces_from w.dock p (length w.memory) (length w.scratch) 0 1 ≡ (Ok (InScratch (segment (p * N) n))) ∷ [] → pieces_from w.dock p (length w.memory) (length w.scratch) 0 1 ≡ (Ok (InScratch (segment (p * N + 0) n))) ∷ []
+  at_start n e = let z : p * N ≡ p * N + 0 = omega arith in e ∙ ap (λ (k : ℕ). (Ok (InScratch (segment k n))) ∷ []) z
 
   carry_first : x.phase ≡ FirstRead → Inv (carries_out w p code c q) (carried_by (m.jobs p) m p code c)
   carry_first e =
@@ -270,7 +272,7 @@ module _ (w : World) (m : Plain) (I : Inv w m) (p : ℕ) (q : Request) (O : Out 
       let fits : 0 + size_of r ≤ N = omega (arith, k) in
       subst (λ (z : Plain). Inv (carries_out w p code c q) z) (sym (plain_is FirstRead e))
       (share_inv r 0 (request_is FirstRead e) pieces fits T.j.steps (λ y k. k)
-      (subst (λ (ph : Phase). Fact ph w.store w.memory (share (put w.scratch (p * N + 0) (window (yields code c w.store) r.start.0 (size_of r))) N p) x v (some code) T.j) (sym e)
+      (subst (λ (ph : Phase). Fact ph w.store w.memory (share (put w.scratch (p * N + 0) (window (yields code c w.store) r.start.0 (size_of r))) N p) x v (Some code) T.j) (sym e)
       (λ z i h.
       let o : i ≡ 0 + i = omega arith in
       ap (λ (k : ℕ). share (put w.scratch (p * N + 0) (window (yields code c w.store) r.start.0 (size_of r))) N p k) o
@@ -280,7 +282,7 @@ module _ (w : World) (m : Plain) (I : Inv w m) (p : ℕ) (q : Request) (O : Out 
   carry_second e =
       subst (λ (z : Plain). Inv (carries_out w p code c q) z) (sym (plain_is SecondRead e))
       (share_inv r b is pieces fits T.j.steps (λ y k. k)
-      (subst (λ (ph : Phase). Fact ph w.store w.memory (share (put w.scratch (p * N + b) (window (yields code c w.store) r.start.0 (size_of r))) N p) x v (some code) T.j) (sym e)
+      (subst (λ (ph : Phase). Fact ph w.store w.memory (share (put w.scratch (p * N + b) (window (yields code c w.store) r.start.0 (size_of r))) N p) x v (Some code) T.j) (sym e)
       ((λ z. no_code code z), λ z i h k. at_byte (code_is code z) i h k)))
     where
       r : Range
@@ -295,7 +297,7 @@ module _ (w : World) (m : Plain) (I : Inv w m) (p : ℕ) (q : Request) (O : Out 
       more : 0 < size_of x.stage.second
       more = second_some e
 
-      pieces : pieces_from w.dock p (length w.memory) (length w.scratch) 0 1 ≡ InScratch (segment (p * N + second_at x.stage) (size_of x.stage.second)) ∷ []
+      pieces : pieces_from w.dock p (length w.memory) (length w.scratch) 0 1 ≡ (Ok (InScratch (segment (p * N + second_at x.stage) (size_of x.stage.second)))) ∷ []
       pieces = scratch_piece w m I p q O SecondRead (p * N + second_at x.stage) (size_of x.stage.second) e (λ i k. refl) more
 
       fits : second_at x.stage + size_of x.stage.second ≤ N
@@ -339,7 +341,7 @@ module _ (w : World) (m : Plain) (I : Inv w m) (p : ℕ) (q : Request) (O : Out 
       is : q ≡ request KRead x.stage.request 1
       is = request_is BouncedRead e
 
-      pieces : pieces_from w.dock p (length w.memory) (length w.scratch) 0 1 ≡ InScratch (segment (p * N + 0) (size_of x.stage.request)) ∷ []
+      pieces : pieces_from w.dock p (length w.memory) (length w.scratch) 0 1 ≡ (Ok (InScratch (segment (p * N + 0) (size_of x.stage.request)))) ∷ []
       pieces = at_start (size_of x.stage.request) (scratch_piece w m I p q O BouncedRead (p * N) (size_of x.stage.request) e (λ i k. refl) (omega (arith, place.some)))
 
       fits : 0 + size_of x.stage.request ≤ N
@@ -367,11 +369,11 @@ module _ (w : World) (m : Plain) (I : Inv w m) (p : ℕ) (q : Request) (O : Out 
           → Inv (carries_out w p code c q) (after_step m p (pick t (record { bytes = m.bytes; job = with_step T.j (yielded g ys) }) (no_step m.bytes T.j)))
       go true z =
           share_inv r 0 is pieces fits (yielded g ys ∷ T.j.steps) (λ y k. k)
-          (subst (λ (ph : Phase). Fact ph w.store w.memory sh x v (some code) (with_step T.j (yielded g ys))) (sym e)
+          (subst (λ (ph : Phase). Fact ph w.store w.memory sh x v (Some code) (with_step T.j (yielded g ys))) (sym e)
           (λ k. (ys, subst (λ (o : Range). Among (yielded o ys) (yielded g ys ∷ T.j.steps)) (sym range_same) here, window_length m.bytes g.start.0 (size_of g), λ i h. byte (code_is code k) i h)))
       go false z =
           share_inv r 0 is pieces fits T.j.steps (λ y k. k)
-          (subst (λ (ph : Phase). Fact ph w.store w.memory sh x v (some code) T.j) (sym e) (λ k. never (sym z ∙ eq-eqb code 0 (code_is code k))))
+          (subst (λ (ph : Phase). Fact ph w.store w.memory sh x v (Some code) T.j) (sym e) (λ k. never (sym z ∙ eq-eqb code 0 (code_is code k))))
 
   -- ---- a read into the segments
 
@@ -417,7 +419,7 @@ module _ (w : World) (m : Plain) (I : Inv w m) (p : ℕ) (q : Request) (O : Out 
       world : carries_out w p code c q ≡ acted w p code w.store memory' w.scratch
       world =
           ap (λ (k : Request). carries_out w p code c k) (request_is DirectRead e)
-          ∙ ap (λ (ps : List Piece). acted w p code w.store (landed ps got w.memory w.scratch).memory (landed ps got w.memory w.scratch).scratch)
+          ∙ ap (λ (ps : List (Result Piece Refusal)). acted w p code w.store (landed ps got w.memory w.scratch).memory (landed ps got w.memory w.scratch).scratch)
           (data_pieces_lem w m I p q O DirectRead e (λ i k. refl) (valid_vector has))
           ∙ ap (λ (b : Buffered). acted w p code w.store b.memory b.scratch) (landed_data v.count v.segments got w.memory w.scratch)
 
@@ -437,8 +439,8 @@ module _ (w : World) (m : Plain) (I : Inv w m) (p : ℕ) (q : Request) (O : Out 
       holds = gather_scatter w.memory (segments_of v) got lie (I.alone p O.slot taken reads) size
 
       inv : (steps' : List Did) → ((y : ℕ) → put_by T.j.steps y ≡ true → put_by steps' y ≡ true)
-          → (◌≡◌ {A = Option ℕ} (some code) (some 0) → OwedBy Read x.range v (with_steps T.j steps') memory')
-          → Inv (acted w p code w.store memory' w.scratch) (put_job m p (some (with_steps T.j steps')))
+          → (◌≡◌ {A = Option ℕ} (Some code) (Some 0) → OwedBy Read x.range v (with_steps T.j steps') memory')
+          → Inv (acted w p code w.store memory' w.scratch) (put_job m p (Some (with_steps T.j steps')))
       inv steps' grows owed =
           carry_inv w m I p O.slot O.pending O.free T code w.store memory' w.scratch m.bytes steps' grows
           (λ o k n f u.
@@ -446,7 +448,7 @@ module _ (w : World) (m : Plain) (I : Inv w m) (p : ℕ) (q : Request) (O : Out 
           (overlap_sym (segments_of (vector_at w.dock o)) (segments_of v) ∙ I.apart p o O.slot k (λ z. n (sym z)) taken f reads))
           (λ o i n k. refl) (λ o k n f s b i l. refl) (rw (scatter_length w.memory (segments_of v) got lie) I.long) I.same
           (λ u. never (sym (read_no_write x.job reads) ∙ u))
-          (subst (λ (ph : Phase). Fact ph w.store memory' (share w.scratch N p) x v (some code) (with_steps T.j steps')) (sym e) owed)
+          (subst (λ (ph : Phase). Fact ph w.store memory' (share w.scratch N p) x v (Some code) (with_steps T.j steps')) (sym e) owed)
 
       go : (t : Bool) → eqb code 0 ≡ t → Inv (acted w p code w.store memory' w.scratch) (plainly t)
       go true z = inv (yielded g ys ∷ T.j.steps) (λ y k. k) (λ k. (ys, subst (λ (o : Range). Among (yielded o ys) (yielded g ys ∷ T.j.steps)) (sym range_same) here, holds ∙ same_bytes (code_is code k)))
@@ -465,8 +467,8 @@ module _ (w : World) (m : Plain) (I : Inv w m) (p : ℕ) (q : Request) (O : Out 
 
   -- a change in the request's range, tracked as one step
   put_inv : is_blocking x.phase ≡ true → (test : ℕ → Bool) (new bytes' : Bytes) (d : Did) → ((y : ℕ) → changed w.store x.stage.request test new y ≡ bytes' y)
-      → Fact x.phase (changed w.store x.stage.request test new) w.memory (share w.scratch N p) x v (some code) (with_step T.j d)
-      → Inv (writing (changed w.store x.stage.request test new)) (put_job (put_bytes m bytes') p (some (with_step T.j d)))
+      → Fact x.phase (changed w.store x.stage.request test new) w.memory (share w.scratch N p) x v (Some code) (with_step T.j d)
+      → Inv (writing (changed w.store x.stage.request test new)) (put_job (put_bytes m bytes') p (Some (with_step T.j d)))
   put_inv b test new bytes' d same fact =
       carry_inv w m I p O.slot O.pending O.free T code (changed w.store x.stage.request test new) w.memory w.scratch bytes' (d ∷ T.j.steps) (λ y k. put_more d T.j.steps y k)
       (λ o g n f u. refl) (λ o i n k. refl) (λ o g n f s k i l. others_stay b test new o g n f s k i l) I.long same T.flight.source fact
@@ -475,14 +477,14 @@ module _ (w : World) (m : Plain) (I : Inv w m) (p : ℕ) (q : Request) (O : Out 
   carry_zero e =
       subst (λ (z : Plain). Inv (carries_out w p code c q) z) (sym (plain_is ZeroRequest e)) (subst (λ (z : World). Inv z plainly) (sym world)
       (put_inv (ap is_blocking e) which (λ y. 0) (changed m.bytes r which (λ y. 0)) (zeroed r code) (λ y. changed_same w.store m.bytes r which (λ y. 0) (λ y. 0) y (I.same y) (λ k. refl))
-      (subst (λ (ph : Phase). Fact ph (changed w.store r which (λ y. 0)) w.memory (share w.scratch N p) x v (some code) (with_step T.j (zeroed r code))) (sym e)
+      (subst (λ (ph : Phase). Fact ph (changed w.store r which (λ y. 0)) w.memory (share w.scratch N p) x v (Some code) (with_step T.j (zeroed r code))) (sym e)
       (λ k. subst (λ (n : ℕ). Among (zeroed r n) (zeroed r code ∷ T.j.steps)) (code_is code k) here))))
     where
       r : Range
       r = x.stage.request
 
       plainly : Plain
-      plainly = put_job (put_bytes m (changed m.bytes r which (λ y. 0))) p (some (with_step T.j (zeroed r code)))
+      plainly = put_job (put_bytes m (changed m.bytes r which (λ y. 0))) p (Some (with_step T.j (zeroed r code)))
 
       world : carries_out w p code c q ≡ writing (changed w.store r which (λ y. 0))
       world =
@@ -497,13 +499,13 @@ module _ (w : World) (m : Plain) (I : Inv w m) (p : ℕ) (q : Request) (O : Out 
   carry_discard e =
       subst (λ (z : Plain). Inv (carries_out w p code c q) z) (sym (plain_is DiscardRequest e)) (subst (λ (z : World). Inv z plainly) (sym world)
       (put_inv (ap is_blocking e) (λ y. true) c.left (changed m.bytes r (λ y. true) c.left) (discarded r) (λ y. changed_same w.store m.bytes r (λ y. true) c.left c.left y (I.same y) (λ k. refl))
-      (subst (λ (ph : Phase). Fact ph (changed w.store r (λ y. true) c.left) w.memory (share w.scratch N p) x v (some code) (with_step T.j (discarded r))) (sym e) tt)))
+      (subst (λ (ph : Phase). Fact ph (changed w.store r (λ y. true) c.left) w.memory (share w.scratch N p) x v (Some code) (with_step T.j (discarded r))) (sym e) tt)))
     where
       r : Range
       r = x.stage.request
 
       plainly : Plain
-      plainly = put_job (put_bytes m (changed m.bytes r (λ y. true) c.left)) p (some (with_step T.j (discarded r)))
+      plainly = put_job (put_bytes m (changed m.bytes r (λ y. true) c.left)) p (Some (with_step T.j (discarded r)))
 
       world : carries_out w p code c q ≡ writing (changed w.store r (λ y. true) c.left)
       world =
@@ -519,7 +521,7 @@ module _ (w : World) (m : Plain) (I : Inv w m) (p : ℕ) (q : Request) (O : Out 
   carry_direct_write e =
       subst (λ (z : Plain). Inv (carries_out w p code c q) z) (sym (plain_is DirectWrite e)) (subst (λ (z : World). Inv z plainly) (sym world)
       (put_inv (ap is_blocking e) which new (changed m.bytes x.stage.asked which new) (wrote x.stage.asked code new) same
-      (subst (λ (ph : Phase). Fact ph (changed w.store x.stage.request which new) w.memory (share w.scratch N p) x v (some code) (with_step T.j (wrote x.stage.asked code new))) (sym e)
+      (subst (λ (ph : Phase). Fact ph (changed w.store x.stage.request which new) w.memory (share w.scratch N p) x v (Some code) (with_step T.j (wrote x.stage.asked code new))) (sym e)
       (λ k. subst (λ (n : ℕ). Among (wrote x.stage.asked n new) (wrote x.stage.asked code new ∷ T.j.steps)) (code_is code k) here))))
     where
       r : Range
@@ -535,11 +537,11 @@ module _ (w : World) (m : Plain) (I : Inv w m) (p : ℕ) (q : Request) (O : Out 
       has = write_vector x.job writes
 
       plainly : Plain
-      plainly = put_job (put_bytes m (changed m.bytes x.stage.asked which new)) p (some (with_step T.j (wrote x.stage.asked code new)))
+      plainly = put_job (put_bytes m (changed m.bytes x.stage.asked which new)) p (Some (with_step T.j (wrote x.stage.asked code new)))
 
       payload : gathered (pieces_from w.dock p (length w.memory) (length w.scratch) 0 v.count) w.memory w.scratch ≡ T.j.bytes
       payload =
-          ap (λ (ps : List Piece). gathered ps w.memory w.scratch) (data_pieces_lem w m I p q O DirectWrite e (λ i k. refl) (valid_vector has))
+          ap (λ (ps : List (Result Piece Refusal)). gathered ps w.memory w.scratch) (data_pieces_lem w m I p q O DirectWrite e (λ i k. refl) (valid_vector has))
           ∙ gathered_data v.count v.segments w.memory w.scratch (segments_lie w m I p O.slot taken has) ∙ T.flight.source writes
 
       is_new_lem : laid_at r.start.0 T.j.bytes ≡ new
@@ -559,7 +561,7 @@ module _ (w : World) (m : Plain) (I : Inv w m) (p : ℕ) (q : Request) (O : Out 
   carry_bounced_write e =
       subst (λ (z : Plain). Inv (carries_out w p code c q) z) (sym (plain_is BouncedWrite e)) (subst (λ (z : World). Inv z plainly) (sym world)
       (put_inv (ap is_blocking e) which laid (changed m.bytes g which new) (wrote g code new) same
-      (subst (λ (ph : Phase). Fact ph (changed w.store r which laid) w.memory (share w.scratch N p) x v (some code) (with_step T.j (wrote g code new))) (sym e)
+      (subst (λ (ph : Phase). Fact ph (changed w.store r which laid) w.memory (share w.scratch N p) x v (Some code) (with_step T.j (wrote g code new))) (sym e)
       (old.0, (λ i h b. old.1 i h b ∙ sym (still i h b)), λ k. subst (λ (n : ℕ). Among (wrote g n new) (wrote g code new ∷ T.j.steps)) (code_is code k) here))))
     where
       r : Range
@@ -569,7 +571,7 @@ module _ (w : World) (m : Plain) (I : Inv w m) (p : ℕ) (q : Request) (O : Out 
       g = x.stage.asked
 
       plainly : Plain
-      plainly = put_job (put_bytes m (changed m.bytes g which new)) p (some (with_step T.j (wrote g code new)))
+      plainly = put_job (put_bytes m (changed m.bytes g which new)) p (Some (with_step T.j (wrote g code new)))
 
       old : Fact BouncedWrite w.store w.memory (share w.scratch N p) x v (w.carried p) T.j
       old = subst (λ (ph : Phase). Fact ph w.store w.memory (share w.scratch N p) x v (w.carried p) T.j) e T.flight.fact
@@ -586,7 +588,7 @@ module _ (w : World) (m : Plain) (I : Inv w m) (p : ℕ) (q : Request) (O : Out 
       roomy : p * N + size_of x.stage.request ≤ length w.scratch
       roomy = omega (arith, share_room N p (length w.scratch) O.slot (room w m I), sized)
 
-      handed : gathered (InScratch (segment (p * N) (size_of r)) ∷ []) w.memory w.scratch ≡ payload
+      handed : gathered ((Ok (InScratch (segment (p * N) (size_of r)))) ∷ []) w.memory w.scratch ≡ payload
       handed = handed_is w.memory w.scratch (p * N) (size_of r) roomy
 
       -- byte i of what is written is that of the share
@@ -598,7 +600,7 @@ module _ (w : World) (m : Plain) (I : Inv w m) (p : ℕ) (q : Request) (O : Out 
       world : carries_out w p code c q ≡ writing (changed w.store r which laid)
       world =
           ap (λ (k : Request). carries_out w p code c k) (request_is BouncedWrite e)
-          ∙ ap (λ (ps : List Piece). writing (changed w.store (range_of r.start.0 (r.start.0 + size_of r)) which (laid_at r.start.0 (gathered ps w.memory w.scratch))))
+          ∙ ap (λ (ps : List (Result Piece Refusal)). writing (changed w.store (range_of r.start.0 (r.start.0 + size_of r)) which (laid_at r.start.0 (gathered ps w.memory w.scratch))))
           (scratch_piece w m I p q O BouncedWrite (p * N) (size_of r) e (λ i k. refl) (omega (arith, place.some)))
           ∙ ap (λ (l : List ℕ). writing (changed w.store (range_of r.start.0 (r.start.0 + size_of r)) which (laid_at r.start.0 l))) handed
           ∙ ap (λ (k : Range). writing (changed w.store k which laid)) (range_is r ordered)

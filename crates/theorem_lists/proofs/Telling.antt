@@ -1,9 +1,10 @@
 -- An accepted tell keeps the invariant, whatever its code leads to. Assumes nothing.
+use Rattle.std.specs.Prelude.{Option}
+use Rattle.std.specs.Prelude.{Result, Ok, Err, Some, None}
 use mathlib.Core.Path.{◌≡◌, refl, sym, ap, ◌∙◌, subst}
 use mathlib.Core.Bool.{Bool, true, false, ◌&&◌, ◌||◌}
 use mathlib.Core.Logic.{◌⊎◌, inl, inr, ⊎_elim, ◌≢◌}
 use mathlib.Core.List.{List, ◌∷◌}
-use mathlib.Core.Option.{Option, none, some}
 use Prim.Native.Nat.{ℕ, ◌+◌, ◌-◌, ◌*◌, ◌<◌, ◌≤◌}
 use native.Mathlib.Omega.{arith}
 use native.Mathlib.Decide.{dec_lt}
@@ -16,12 +17,9 @@ use Rattle.arithmetic.specs.SettingsLaws.{and_left, and_right, opened}
 use Rattle.arithmetic.specs.Settings.{settings_fit}
 use Rattle.arithmetic.specs.Zeroes.{chunk_of}
 use Rattle.arithmetic.specs.Content.{Bytes, list_ext}
-use Rattle.arithmetic.specs.declared.zeroes.Chunk.{Chunk}
-use Rattle.arithmetic.specs.declared.zeroes.Chunk.TheVariants.{Nothing as NoChunk, Next, Refused as ChunkRefused}
 use Rattle.arithmetic.specs.declared.offsets.StoreOffset.{StoreOffset}
 use Rattle.arithmetic.specs.declared.offsets.Range.{Range}
 use Rattle.arithmetic.specs.declared.settings.Settings.{Settings}
-use Rattle.arithmetic.specs.declared.refusals.Outcome.TheVariants.{Done}
 use Rattle.vectors.specs.Vectors.{size_of as sizeOfAll, lies_in, all_segments, segments_of, bytes_of, scatter_of, copies, overlap_of}
 use Rattle.vectors.specs.SegmentLaws.{valid}
 use Rattle.vectors.specs.ByteLaws.{scatter_length, scatter_others, gather_scatter}
@@ -37,8 +35,6 @@ use Rattle.stages.specs.declared.state.Phase.TheVariants.{Free, Ended, DirectRea
 use Rattle.stages.specs.declared.state.Course.{Course}
 use Rattle.stages.specs.declared.state.Course.TheVariants.{Last, Middle, Head, Chunks}
 use Rattle.stages.specs.declared.state.State.{State}
-use Rattle.stages.specs.declared.plan.Plan.{Plan}
-use Rattle.stages.specs.declared.plan.Plan.TheVariants.{Done as NothingToDo, Started, Refused as PlanRefused}
 use Rattle.stages.specs.declared.told.Step.{Step}
 use Rattle.stages.specs.declared.told.Step.TheVariants.{Stays, Ends, Enters}
 use Rattle.dock.specs.Dock.{no_state, no_vector, vacant, state_at, vector_at, lent_fits, is_read_job}
@@ -58,6 +54,7 @@ use Rattle.theorem_lists.proofs.Invariant.{share, Fact, asked_on, Flight, within
 use Rattle.theorem_lists.proofs.World.{Taken, Tracks, SlotInv, Inv, room, segments_lie, leave_waits, enter_waits}
 use Rattle.theorem_lists.proofs.Renewing.{set_same, set_other, renewed_inv}
 use Rattle.theorem_lists.proofs.Beginning.{source_long, fill_length, fill_other, fill_own, filled_none, filled_put, bounced_puts, opened_fact}
+use Rattle.arithmetic.specs.declared.refusals.Refusal.{Refusal}
 
 -- ---- jobs and their steps
 
@@ -129,15 +126,15 @@ no_stay (Stays y) = false
 no_stay (Ends y) = true
 no_stay (Enters y) = true
 
-later_on : (x : State) (p : Plan) → no_stay (later_stage x p) ≡ true
-later_on x NothingToDo = refl
-later_on x (Started y) = refl
-later_on x (PlanRefused r) = refl
+later_on : (x : State) (p : Result (Option State) Refusal) → no_stay (later_stage x p) ≡ true
+later_on x (Ok None) = refl
+later_on x (Ok (Some y)) = refl
+later_on x (Err r) = refl
 
-chunk_by_on : (s : Settings) (x : State) (k : Chunk) → no_stay (chunk_by s x k) ≡ true
-chunk_by_on s x NoChunk = refl
-chunk_by_on s x (Next r) = later_on x (zeroes_plan s x.job x.range x.middle Chunks r)
-chunk_by_on s x (ChunkRefused r) = refl
+chunk_by_on : (s : Settings) (x : State) (k : Result (Option Range) Refusal) → no_stay (chunk_by s x k) ≡ true
+chunk_by_on s x (Ok None) = refl
+chunk_by_on s x (Ok (Some r)) = later_on x (zeroes_plan s x.job x.range x.middle Chunks r)
+chunk_by_on s x (Err r) = refl
 
 chunk_goes_on : (s : Settings) (x : State) (o : StoreOffset) → no_stay (chunk_next s x o) ≡ true
 unfolding chunk_next
@@ -163,7 +160,7 @@ done_goes_on s x Chunks = chunk_goes_on s x x.stage.asked.end
 
 -- ---- the slot whose request is told
 
-module _ (w : World) (m : Plain) (I : Inv w m) (p : ℕ) (h : p < 8) (pending : is_pending (state_at w.dock p).phase ≡ true) (free : waits_of p w.dock.blockers ≡ false) (code : ℕ) (carried : w.carried p ≡ some code) where
+module _ (w : World) (m : Plain) (I : Inv w m) (p : ℕ) (h : p < 8) (pending : is_pending (state_at w.dock p).phase ≡ true) (free : waits_of p w.dock.blockers ≡ false) (code : ℕ) (carried : w.carried p ≡ Some code) where
   abbrev x : State
   x = state_at w.dock p
 
@@ -195,8 +192,8 @@ module _ (w : World) (m : Plain) (I : Inv w m) (p : ℕ) (h : p < 8) (pending : 
   job' = with_code T.j code
 
   -- the fact of the phase
-  fact_at : (ph : Phase) → x.phase ≡ ph → code ≡ 0 → Fact ph w.store w.memory (share w.scratch N p) x v (some 0) T.j
-  fact_at ph e z = subst (λ (k : Phase). Fact k w.store w.memory (share w.scratch N p) x v (some 0) T.j) e (subst (λ (o : Option ℕ). Fact x.phase w.store w.memory (share w.scratch N p) x v o T.j) (carried ∙ ap some z) T.flight.fact)
+  fact_at : (ph : Phase) → x.phase ≡ ph → code ≡ 0 → Fact ph w.store w.memory (share w.scratch N p) x v (Some 0) T.j
+  fact_at ph e z = subst (λ (k : Phase). Fact k w.store w.memory (share w.scratch N p) x v (Some 0) T.j) e (subst (λ (o : Option ℕ). Fact x.phase w.store w.memory (share w.scratch N p) x v o T.j) (carried ∙ ap Some z) T.flight.fact)
 
   -- ---- what a code leads to
 
@@ -207,7 +204,7 @@ module _ (w : World) (m : Plain) (I : Inv w m) (p : ℕ) (h : p < 8) (pending : 
   filling y = (filled (p * N) y v w.memory w.scratch).scratch
 
   abbrev Good : Step → Type 0
-  Good (Stays y) = AsAsked y.phase y.stage × Fact y.phase w.store w.memory (share (filling y) N p) y v none job'
+  Good (Stays y) = AsAsked y.phase y.stage × Fact y.phase w.store w.memory (share (filling y) N p) y v None job'
   Good (Ends y) = y.answer ≡ 0 → OwedBy x.job x.range v job' handing
   Good (Enters y) = Follows T.j.steps y
 
@@ -215,7 +212,7 @@ module _ (w : World) (m : Plain) (I : Inv w m) (p : ℕ) (h : p < 8) (pending : 
   unfolding handed
   not_handed e = go (is_bounced_read x.phase) (eqb code 0) e
     where
-      go : (t c : Bool) → t ≡ false → (pick (t && c) (copied_at (p * N + x.stage.head.0) (size_of x.stage.asked) v w.memory w.scratch) (record { memory = w.memory; outcome = Done })).memory ≡ w.memory
+      go : (t c : Bool) → t ≡ false → (pick (t && c) (copied_at (p * N + x.stage.head.0) (size_of x.stage.asked) v w.memory w.scratch) (record { memory = w.memory; outcome = (Ok tt) })).memory ≡ w.memory
       go true c e = never (sym e)
       go false c e = refl
 
@@ -226,7 +223,7 @@ module _ (w : World) (m : Plain) (I : Inv w m) (p : ℕ) (h : p < 8) (pending : 
   unfolding handed copied_at
   is_handed e z u = go (is_bounced_read x.phase) (eqb code 0) e (eq-eqb code 0 z)
     where
-      go : (t c : Bool) → t ≡ true → c ≡ true → (pick (t && c) (copied_at (p * N + x.stage.head.0) (size_of x.stage.asked) v w.memory w.scratch) (record { memory = w.memory; outcome = Done })).memory
+      go : (t c : Bool) → t ≡ true → c ≡ true → (pick (t && c) (copied_at (p * N + x.stage.head.0) (size_of x.stage.asked) v w.memory w.scratch) (record { memory = w.memory; outcome = (Ok tt) })).memory
           ≡ scatter_of w.memory (segments_of v) (take (size_of x.stage.asked) (drop (p * N + x.stage.head.0) w.scratch))
       go true true e f = simp (has_bytes u)
       go true false e f = never f
@@ -362,7 +359,7 @@ module _ (w : World) (m : Plain) (I : Inv w m) (p : ℕ) (h : p < 8) (pending : 
       inside : x.stage.head.0 + size_of x.stage.asked ≤ N
       inside = (within N x S.sound u).whole
 
-      none_some : {A : Type 0} → ◌≡◌ {A = Option ℕ} none (some 0) → A
+      none_some : {A : Type 0} → ◌≡◌ {A = Option ℕ} None (Some 0) → A
       none_some e = let z : ◌≡◌ {A = ℕ} 0 1 = cc in absurd (omega arith)
 
       src : List ℕ
@@ -396,7 +393,7 @@ module _ (w : World) (m : Plain) (I : Inv w m) (p : ℕ) (h : p < 8) (pending : 
   good_first : x.phase ≡ FirstRead → code ≡ 0 → (t : Bool) → ltb 0 (size_of x.stage.second) ≡ t → Good (Stays (in_phase (pick t SecondRead BouncedWrite) x))
   good_first e z true k = (tt, ((λ c i l. ap (λ (t : List ℕ). share t N p i) (filled_none N p (in_phase SecondRead x) v w.memory w.scratch fits refl) ∙ fact_at FirstRead e z refl i l), λ c. none_some c))
     where
-      none_some : {A : Type 0} → ◌≡◌ {A = Option ℕ} none (some 0) → A
+      none_some : {A : Type 0} → ◌≡◌ {A = Option ℕ} None (Some 0) → A
       none_some e = let z : ◌≡◌ {A = ℕ} 0 1 = cc in absurd (omega arith)
   good_first e z false k =
       good_filled (ap uses_bounce e) (regular_written FirstRead e (λ k. k)) (λ i l b.
@@ -446,7 +443,7 @@ module _ (w : World) (m : Plain) (I : Inv w m) (p : ℕ) (h : p < 8) (pending : 
   told_world t = answered w p (after w.dock p x code w.memory w.scratch t).dock (after w.dock p x code w.memory w.scratch t).memory (after w.dock p x code w.memory w.scratch t).scratch
 
   abbrev told_plain : Plain
-  told_plain = put_job m p (some job')
+  told_plain = put_job m p (Some job')
 
   stands : (t : Step) → told_of w.dock.settings x code ≡ t → standing w.dock.settings T.j.first (code ∷ T.j.codes) ≡ state_of_step t
   stands t e = ap (λ (y : State). state_of_step (told_of w.dock.settings y code)) T.flight.stands ∙ ap state_of_step e
@@ -471,7 +468,7 @@ module _ (w : World) (m : Plain) (I : Inv w m) (p : ℕ) (h : p < 8) (pending : 
       (wait_less : (q : ℕ) → q < 8 → q ≢ p → waits_of q (after w.dock p x code w.memory w.scratch t).dock.blockers ≡ true → waits_of q w.dock.blockers ≡ true)
       (held : Held (after w.dock p x code w.memory w.scratch t).dock)
       (fits-lent : lent_fits w.dock.buffers (length (after w.dock p x code w.memory w.scratch t).memory) (length (after w.dock p x code w.memory w.scratch t).scratch) ≡ true)
-      (flies : Flight w.dock.settings w.store (after w.dock p x code w.memory w.scratch t).memory (share (after w.dock p x code w.memory w.scratch t).scratch N p) y v none (waits_of p (after w.dock p x code w.memory w.scratch t).dock.blockers) job') where
+      (flies : Flight w.dock.settings w.store (after w.dock p x code w.memory w.scratch t).memory (share (after w.dock p x code w.memory w.scratch t).scratch N p) y v None (waits_of p (after w.dock p x code w.memory w.scratch t).dock.blockers) job') where
     is_y : state_at (told_world t).dock p ≡ y
     is_y = ap (λ (l : List State). get_or l p no_state) states ∙ state_own y
 
@@ -480,14 +477,14 @@ module _ (w : World) (m : Plain) (I : Inv w m) (p : ℕ) (h : p < 8) (pending : 
 
     slot_inv : SlotInv (told_world t) told_plain p
     slot_inv = record {
-      idle = λ f. set_same w.carried p none;
-      tracks = λ f. record { j = job'; is = set_same m.jobs p (some job'); flight = rw (settings, is_y, is_v p, set_same w.carried p none) flies };
+      idle = λ f. set_same w.carried p None;
+      tracks = λ f. record { j = job'; is = set_same m.jobs p (Some job'); flight = rw (settings, is_y, is_v p, set_same w.carried p None) flies };
     }
 
     told_step : Inv (told_world t) told_plain
     told_step =
         renewed_inv w (told_world t) m told_plain I p h settings buffers refl refl
-        (λ q n. ap (λ (l : List State). get_or l q no_state) states ∙ state_other y q n) (λ q n. is_v q) (λ q n. set_other w.carried p q none n) (λ q n. set_other m.jobs p q (some job') n)
+        (λ q n. ap (λ (l : List State). get_or l q no_state) states ∙ state_other y q n) (λ q n. is_v q) (λ q n. set_other w.carried p q None n) (λ q n. set_other m.jobs p q (Some job') n)
         data-same share-same (λ q g n a b k i l. refl) wait_less held fits-lent I.same slot_inv
         (λ q g n f u r. rw (is_v p) (still_apart y same-job q g n u (rw is_y at r)))
         (λ f r. rw (is_v p) (I.alone p h taken (subst (λ (k : Job). is_read_job k ≡ true) same-job (rw is_y at r))))
@@ -528,7 +525,7 @@ module _ (w : World) (m : Plain) (I : Inv w m) (p : ℕ) (h : p < 8) (pending : 
   unfolding handed
   handed_late e = go (is_bounced_read x.phase) (eqb code 0) e
     where
-      go : (t c : Bool) → c ≡ false → (pick (t && c) (copied_at (p * N + x.stage.head.0) (size_of x.stage.asked) v w.memory w.scratch) (record { memory = w.memory; outcome = Done })).memory ≡ w.memory
+      go : (t c : Bool) → c ≡ false → (pick (t && c) (copied_at (p * N + x.stage.head.0) (size_of x.stage.asked) v w.memory w.scratch) (record { memory = w.memory; outcome = (Ok tt) })).memory ≡ w.memory
       go true true e = never (sym e)
       go true false e = refl
       go false c e = refl
@@ -562,7 +559,7 @@ module _ (w : World) (m : Plain) (I : Inv w m) (p : ℕ) (h : p < 8) (pending : 
         zoned = λ a. never (sym (ap is_pending F.phase) ∙ a);
         as_asked = rw F.phase tt;
         before = λ a. never (sym (ap is_pending F.phase) ∙ a);
-        fact = subst (λ (ph : Phase). Fact ph w.store handing (share w.scratch N p) y v none job') (sym F.phase) (λ a. subst (λ (o : Job). OwedBy o y.range v job' handing) (sym F.job) (subst (λ (r : Range). OwedBy x.job r v job' handing) (sym F.range) (k a)));
+        fact = subst (λ (ph : Phase). Fact ph w.store handing (share w.scratch N p) y v None job') (sym F.phase) (λ a. subst (λ (o : Job). OwedBy o y.range v job' handing) (sym F.job) (subst (λ (r : Range). OwedBy x.job r v job' handing) (sym F.range) (k a)));
         fresh = λ a. (refl, rw F.phase tt);
       })
     where

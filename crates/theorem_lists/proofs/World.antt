@@ -1,9 +1,10 @@
 -- The invariant of the two sides, slot by slot and pair by pair; that a slot keeps it where others change; that lending other data keeps it; and who waits as others enter and leave. Assumes nothing.
+use Rattle.std.specs.Prelude.{Option, Some, None}
+use Rattle.std.specs.Prelude.{Ok}
 use mathlib.Core.Path.{◌≡◌, refl, sym, ap, ◌∙◌, subst}
 use mathlib.Core.Bool.{Bool, true, false}
 use mathlib.Core.Logic.{◌≢◌}
 use mathlib.Core.List.{List}
-use mathlib.Core.Option.{Option, none, some}
 use Prim.Native.Nat.{ℕ, ◌+◌, ◌*◌, ◌<◌, ◌≤◌}
 use native.Mathlib.Omega.{arith}
 use native.Mathlib.Decide.{ℕ_discrete}
@@ -15,7 +16,6 @@ use Rattle.arithmetic.specs.SettingsLaws.{and_left, and_right, opened}
 use Rattle.arithmetic.specs.Content.{in_range}
 use Rattle.arithmetic.specs.declared.settings.Buffers.{Buffers}
 use Rattle.arithmetic.specs.declared.offsets.Range.{Range}
-use Rattle.arithmetic.specs.declared.refusals.Outcome.TheVariants.{Done}
 use Rattle.vectors.specs.Vectors.{lies_in, all_segments, segments_of, bytes_of, overlap_of, self_overlap_of}
 use Rattle.vectors.specs.Places.{covered}
 use Rattle.vectors.specs.SegmentLaws.{valid}
@@ -46,12 +46,12 @@ Taken d p = is_free (state_at d p).phase ≡ false
 -- the slot's job, as the plain byte store tracks it
 pub record Tracks (w : World) (m : Plain) (p : ℕ) : Type 0 where
   pub j : Tracked
-  pub is : m.jobs p ≡ some j
+  pub is : m.jobs p ≡ Some j
   pub flight : Flight w.dock.settings w.store w.memory (share w.scratch w.dock.settings.bounce p) (state_at w.dock p) (vector_at w.dock p) (w.carried p) (waits_of p w.dock.blockers) j
 
 pub record SlotInv (w : World) (m : Plain) (p : ℕ) : Type 0 where
   -- where no request is out or waited for, none was carried out
-  pub idle : is_pending (state_at w.dock p).phase ≡ false → w.carried p ≡ none
+  pub idle : is_pending (state_at w.dock p).phase ≡ false → w.carried p ≡ None
   pub tracks : Taken w.dock p → Tracks w m p
 
 pub record Inv (w : World) (m : Plain) : Type 0 where
@@ -169,7 +169,7 @@ module _ (b : Blockers) (rank : ℕ → ℕ) (clock : ℕ) (R : Reached b rank c
             | no k ↦ waits_here b q r o.1 noted (sym (ap is_entered (entered_other (strength y.stage.strong) p (blocked_of y.stage) b r k)) ∙ o.3)
           ]
 
-      go : (t : Bool) → waits_of q (pick t (entered_of (strength y.stage.strong) p (blocked_of y.stage) b) (record { blockers = b; outcome = Done })).blockers ≡ true → waits_of q b ≡ true
+      go : (t : Bool) → waits_of q (pick t (entered_of (strength y.stage.strong) p (blocked_of y.stage) b) (record { blockers = b; outcome = (Ok tt) })).blockers ≡ true → waits_of q b ≡ true
       go true e = found e
       go false e = e
 
@@ -190,7 +190,7 @@ module _ (b : Blockers) (rank : ℕ → ℕ) (clock : ℕ) (R : Reached b rank c
             | no k ↦ waits_here b q r o.1 (sym (left_notes p b q r n k) ∙ o.2) (sym (ap present (left_kind p b r k)) ∙ o.3)
           ]
 
-      go : (t : Bool) → is_blocking y.phase ≡ t → waits_of q (pick t (left_of p b) (record { blockers = b; outcome = Done })).blockers ≡ true → waits_of q b ≡ true
+      go : (t : Bool) → is_blocking y.phase ≡ t → waits_of q (pick t (left_of p b) (record { blockers = b; outcome = (Ok tt) })).blockers ≡ true → waits_of q b ≡ true
       go true t e = found (v ∙ t) e
       go false t e = e
 

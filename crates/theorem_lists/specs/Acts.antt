@@ -1,9 +1,9 @@
 -- Lists of events in which every call is lent the buffers as they are, or a begin buffers that do not fit: each such list is lawful where
 -- its tells hand in the codes of their carries. Assumes nothing.
+use Rattle.std.specs.Prelude.{Option, Some, None}
 use Rattle.std.specs.Prelude.{◌≡◌, refl, Bool, true, false, ◌&&◌, not, List, [], ◌∷◌, ◌++◌, ℕ, eqb}
 use Rattle.std.proofs.Common.{sym, ap, ◌∙◌, eqb-true}
 use Rattle.std.proofs.lemmas.Bool.{false≢true}
-use Rattle.std.proofs.Math.Option.{Option, none, some}
 use Rattle.arithmetic.specs.Refusals.{is_done}
 use Rattle.arithmetic.specs.SettingsLaws.{and_left, and_right}
 use Rattle.arithmetic.specs.Content.{changed, window}
@@ -49,8 +49,8 @@ run w m (a ∷ rest) = run (step w (event_of w a)) (plain_step m (fed w (event_o
 -- ---- which acts a state allows
 
 abbrev pub is_code : Option ℕ → ℕ → Bool
-is_code none code = false
-is_code (some c) code = eqb c code
+is_code None code = false
+is_code (Some c) code = eqb c code
 
 -- a tell that is accepted hands in the code of its carry
 abbrev pub matches : Bool → Bool → Bool
@@ -72,8 +72,8 @@ lent_own : (w : World) (m : Plain) → LentOf w m (own w)
 lent_own w m e = (refl, λ p k c. refl)
 
 code_of : (o : Option ℕ) (code : ℕ) → is_code o code ≡ true → CodeOf o code
-code_of none code e = absurd (false≢true e)
-code_of (some c) code e = eqb-true c code e
+code_of None code e = absurd (false≢true e)
+code_of (Some c) code e = eqb-true c code e
 
 -- other buffers may be lent where they do not fit: 205
 lent_other : (w : World) (m : Plain) (l : Lends) → not (fits_lent w l) ≡ true → LentOf w m l

@@ -1,11 +1,9 @@
 -- Begin, tell and collect keep `Held`, and on a dock that has it none of their inner steps is refused. Assumes nothing.
-use Rattle.std.specs.Prelude.{◌≡◌, Bool, true, false, ◌&&◌, List, [], ℕ, ◌+◌, ◌<◌, eqb, length, set}
+use Rattle.std.specs.Prelude.{◌≡◌, Bool, true, false, ◌&&◌, List, [], ℕ, ◌+◌, ◌<◌, eqb, length, set, Result, Ok, Err, Option, Some, None}
 use Rattle.std.proofs.Math.Path.{refl}
 use Rattle.std.proofs.Common.{sym, ap, ◌∙◌, arith, length-set, get_or-set_same, get_or-set_other, eq-eqb}
 use Rattle.arithmetic.specs.Rounding.{pick}
 use Rattle.arithmetic.specs.SettingsLaws.{and_right}
-use Rattle.arithmetic.specs.declared.refusals.Outcome.{Outcome}
-use Rattle.arithmetic.specs.declared.refusals.Outcome.TheVariants.{Done}
 use Rattle.arithmetic.specs.declared.offsets.StoreOffset.{StoreOffset}
 use Rattle.arithmetic.specs.declared.offsets.Range.{Range}
 use Rattle.arithmetic.specs.declared.settings.Settings.{Settings}
@@ -24,8 +22,6 @@ use Rattle.stages.specs.declared.state.Phase.{Phase}
 use Rattle.stages.specs.declared.state.Phase.TheVariants.{Free, Ended, DirectRead, BouncedRead, FirstRead, SecondRead, BouncedWrite}
 use Rattle.stages.specs.declared.state.Phase.TheVariants.{DirectWrite, ZeroRequest, DiscardRequest}
 use Rattle.stages.specs.declared.state.State.{State}
-use Rattle.stages.specs.declared.plan.Plan.{Plan}
-use Rattle.stages.specs.declared.plan.Plan.TheVariants.{Done as NothingToDo, Started, Refused as PlanRefused}
 use Rattle.stages.specs.declared.told.Step.{Step}
 use Rattle.stages.specs.declared.told.Step.TheVariants.{Stays, Ends, Enters}
 use Rattle.dock.specs.Dock.{no_vector, vacant, state_at, vector_at, share_at, is_read_job, first_free}
@@ -35,11 +31,11 @@ use Rattle.dock.specs.Tell.{blockers_without, copied_at, is_bounced_read, handed
 use Rattle.dock.specs.Tell.{Told, tells, accepted, stored_by, stored}
 use Rattle.dock.specs.SlotLaws.{lowest_free}
 use Rattle.dock.specs.declared.dock.Dock.{Dock}
-use Rattle.dock.specs.declared.begin.Begun.TheVariants.{Done as NoRequest, Admitted, Refused as BeginRefused}
 use Rattle.theorem_lists.specs.Courses.{is_zero_job, has_vector, is_last, is_regular, suited, Sole, read_regular, write_regular}
 use Rattle.theorem_lists.specs.Courses.{zero_regular, discard_regular, Goes, stays_regular, enters_regular}
 use Rattle.theorem_lists.specs.Held.{SlotOf, Held}
 use Rattle.theorem_lists.specs.Keeping.{Changes, none_changes, enter_changes, leave_changes, stay_changes, slot_anew, none_held}
+use Rattle.arithmetic.specs.declared.refusals.Refusal.{Refusal}
 
 -- ---- phases and jobs
 
@@ -143,7 +139,7 @@ copied memory v n e t = simp (e, eq-eqb n v.total (sym t))
 
 pub filled_done : (share : ℕ) (x : State) (v : IoVector) (memory scratch : List ℕ)
     → (is_write_job x.job ≡ true → copies memory v (size_of x.stage.asked) ≡ true)
-    → (filled share x v memory scratch).outcome ≡ Done
+    → (filled share x v memory scratch).outcome ≡ Ok tt
 unfolding filled merged_at source_fits
 filled_done share x v memory scratch f = go (is_bounced_write x.phase) (is_write_job x.job) refl f
   where
@@ -151,21 +147,24 @@ filled_done share x v memory scratch f = go (is_bounced_write x.phase) (is_write
     n = size_of x.stage.asked
 
     go : (t w : Bool) → is_write_job x.job ≡ w → (w ≡ true → copies memory v n ≡ true)
-        → (pick t (merged_at (share + x.stage.head.0) n x.job v memory scratch) (record { scratch = scratch; outcome = Done })).outcome
-        ≡ Done
+        → (pick t (merged_at (share + x.stage.head.0) n x.job v memory scratch) (record {
+          scratch = scratch;
+          outcome = (Ok (tt {0}));
+        })).outcome
+        ≡ Ok (tt {0})
     go true true e g = simp (e, g refl)
     go true false e g = simp e
     go false w e g = refl
 
 pub handed_done : (share : ℕ) (x : State) (code : ℕ) (v : IoVector) (memory scratch : List ℕ)
     → (is_bounced_read x.phase ≡ true → copies memory v (size_of x.stage.asked) ≡ true)
-    → (handed share x code v memory scratch).outcome ≡ Done
+    → (handed share x code v memory scratch).outcome ≡ Ok tt
 unfolding handed copied_at
 handed_done share x code v memory scratch f = go (is_bounced_read x.phase) (eqb code 0) f
   where
     go : (t c : Bool) → (t ≡ true → copies memory v (size_of x.stage.asked) ≡ true)
         → (pick (t && c) (copied_at (share + x.stage.head.0) (size_of x.stage.asked) v memory scratch)
-        (record { memory = memory; outcome = Done })).outcome ≡ Done
+        (record { memory = memory; outcome = (Ok (tt {0})) })).outcome ≡ Ok (tt {0})
     go true true g = simp (g refl)
     go true false g = refl
     go false c g = refl
@@ -180,10 +179,10 @@ pub record Ready (s : Settings) (m : ℕ) (v : IoVector) (x : State) : Type 0 wh
   pub regular : is_regular x ≡ true
   pub vector : has_vector x.job ≡ true → (x.stage.asked ≡ x.range) × (is_valid m v ≡ true) × (v.total ≡ size_of x.range)
 
-pub starts_from : (P : State → Type 0) (p : Plan) → ((x : State) → p ≡ Started x → P x) → Starts P p
-starts_from P NothingToDo f = tt
-starts_from P (Started x) f = f x refl
-starts_from P (PlanRefused r) f = tt
+pub starts_from : (P : State → Type 0) (p : Result (Option State) Refusal) → ((x : State) → p ≡ (Ok (Some x)) → P x) → Starts P p
+starts_from P (Ok None) f = tt
+starts_from P (Ok (Some x)) f = f x refl
+starts_from P (Err r) f = tt
 
 module _ (s : Settings) (m : ℕ) (o : StoreOffset) where
   -- a job with a vector, from what its plan opens
@@ -246,15 +245,15 @@ abbrev pub admitted : Dock → ℕ → State → IoVector → List ℕ → List 
 admitted d p x v memory scratch =
     record {
       dock = with_job d p (blockers_with d.blockers p x).blockers x v;
-      answer = Admitted p;
+      answer = (Ok (Some p));
       scratch = (filled (share_at d p) x v memory scratch).scratch;
     }
 
 -- a begin by its decided plan, in the lowest free slot
-abbrev pub begun_rule : Dock → IoVector → List ℕ → List ℕ → Plan → Begins
-begun_rule d v memory scratch NothingToDo = record { dock = d; answer = NoRequest; scratch = scratch }
-begun_rule d v memory scratch (PlanRefused r) = record { dock = d; answer = BeginRefused r; scratch = scratch }
-begun_rule d v memory scratch (Started x) = admitted d (first_free d.states) x v memory scratch
+abbrev pub begun_rule : Dock → IoVector → List ℕ → List ℕ → Result (Option State) Refusal → Begins
+begun_rule d v memory scratch (Ok None) = record { dock = d; answer = (Ok None); scratch = scratch }
+begun_rule d v memory scratch (Err r) = record { dock = d; answer = Err r; scratch = scratch }
+begun_rule d v memory scratch (Ok (Some x)) = admitted d (first_free d.states) x v memory scratch
 
 module _ (d : Dock) (H : Held d) where
   abbrev N : ℕ
@@ -274,13 +273,13 @@ module _ (d : Dock) (H : Held d) where
       enters : Changes d.blockers p x (blockers_with d.blockers p x)
       enters = enter_changes d.blockers p x H.rank H.clock H.blockers h free_there
 
-      fills : (filled (share_at d p) x v memory scratch).outcome ≡ Done
+      fills : (filled (share_at d p) x v memory scratch).outcome ≡ Ok (tt {0})
       fills =
           filled_done (share_at d p) x v memory scratch
           (λ u. let k = r.vector (write_vector x.job u) in copied memory v (size_of x.stage.asked) (rw l k.1) (rw k.0 k.2))
 
       -- the begin is not refused at the slot
-      pub admit_done : stored_with d v (admit_at d.blockers p N v memory scratch (Started x)) ≡ admitted d p x v memory scratch
+      pub admit_done : stored_with d v (admit_at d.blockers p N v memory scratch (Ok (Some x))) ≡ admitted d p x v memory scratch
       unfolding enter_at
       admit_done = simp (enters.done, fills)
 
@@ -347,22 +346,23 @@ module _ (d : Dock) (H : Held d) (p : ℕ) (h : p < 8) (pending : is_pending (st
     G : Goes x y
     G = stays_regular d.settings x S.regular code y e
 
-    stays_fills : (filled (share_at d p) y (vector_at d p) memory scratch).outcome ≡ Done
+    stays_fills : (filled (share_at d p) y (vector_at d p) memory scratch).outcome ≡ Ok (tt {0})
     stays_fills =
         filled_done (share_at d p) y (vector_at d p) memory scratch
         (λ u. rw C.stage (has_bytes (write_vector x.job (rw C.job at u))))
 
     stays_done : stored d p (stays_at d.blockers (share_at d p) y (vector_at d p) memory scratch) ≡ stayed d p y memory scratch
-    stays_done = ap (λ (o : Outcome). stored_by o d p (stays_at d.blockers (share_at d p) y (vector_at d p) memory scratch)) stays_fills
+    stays_done = ap (λ (o : Result (Unit {0}) Refusal). stored_by o d p (stays_at d.blockers (share_at d p) y (vector_at d p) memory
+        scratch)) stays_fills
 
-    kept : Changes d.blockers p y (record { blockers = d.blockers; outcome = Done })
+    kept : Changes d.blockers p y (record { blockers = d.blockers; outcome = (Ok tt) })
     kept =
         stay_changes d.blockers p y H.rank H.clock H.blockers h x C.stage (G.after ∙ sym G.before) S.entered
         S.blocker
 
     stays_held : Held (stayed d p y memory scratch).dock
     stays_held =
-        slot_anew d H p h y d.vectors (record { blockers = d.blockers; outcome = Done }) kept H.vectors (λ q n. refl)
+        slot_anew d H p h y d.vectors (record { blockers = d.blockers; outcome = (Ok tt) }) kept H.vectors (λ q n. refl)
         (record {
           sound = C.sound S.sound;
           on_store = λ u. rw C.stage (S.on_store pending);
@@ -380,7 +380,7 @@ module _ (d : Dock) (H : Held d) (p : ℕ) (h : p < 8) (pending : is_pending (st
     leaves : Changes d.blockers p y (blockers_without d.blockers p x)
     leaves = leave_changes d.blockers p y H.rank H.clock H.blockers h x S.entered (ap is_blocking F.phase)
 
-    hands_out : (handed (share_at d p) x code (vector_at d p) memory scratch).outcome ≡ Done
+    hands_out : (handed (share_at d p) x code (vector_at d p) memory scratch).outcome ≡ Ok (tt {0})
     hands_out =
         handed_done (share_at d p) x code (vector_at d p) memory scratch
         (λ u. has_bytes (read_vector x.job (bounced_reads x.phase x refl S.regular u)))
@@ -430,7 +430,7 @@ module _ (d : Dock) (H : Held d) (p : ℕ) (h : p < 8) (pending : is_pending (st
       own = comes.own;
     }
 
-    enters_fills : (filled (share_at d p) y (vector_at d p) memory scratch).outcome ≡ Done
+    enters_fills : (filled (share_at d p) y (vector_at d p) memory scratch).outcome ≡ Ok (tt {0})
     enters_fills = filled_done (share_at d p) y (vector_at d p) memory scratch (λ u. never (sym bare ∙ write_vector y.job u))
 
     enters_done : stored d p (enters_at d.blockers p (share_at d p) x y (vector_at d p) memory scratch) ≡ entered d p x y memory scratch
@@ -476,7 +476,7 @@ pub freed_held : (d : Dock) → Held d → (p : ℕ) → p < 8 → has_ended (st
 unfolding vacant
 freed_held d H p h e =
     let n = (H.slots p h).entered ∙ ended_unblocked (state_at d p).phase e in
-    slot_anew d H p h vacant (set d.vectors p (vector_of [])) (record { blockers = d.blockers; outcome = Done })
+    slot_anew d H p h vacant (set d.vectors p (vector_of [])) (record { blockers = d.blockers; outcome = (Ok tt) })
     (none_changes d.blockers p vacant H.rank H.clock H.blockers n refl) (length-set d.vectors p (vector_of []) ∙ H.vectors)
     (λ q k. get_or-set_other d.vectors p q (vector_of []) no_vector k)
     (none_held d.settings.bounce d.buffers.«data».length _ _ _ n)

@@ -1,6 +1,6 @@
 -- Which phase, course and job go together, and that a phase which reads has something to read: every plan starts so, every told code keeps
 -- it. Assumes nothing.
-use Rattle.std.specs.Prelude.{◌≡◌, Bool, ◌&&◌, ◌||◌, ℕ, ltb, eqb}
+use Rattle.std.specs.Prelude.{◌≡◌, Bool, ◌&&◌, ◌||◌, ℕ, ltb, eqb, Result, Ok, Err, Option, Some, None}
 use Rattle.std.proofs.Math.Path.{refl, ap}
 use Rattle.std.proofs.Math.Bool.{true, false}
 use Rattle.arithmetic.specs.Rounding.{pick, is_multiple}
@@ -13,14 +13,9 @@ use Rattle.arithmetic.specs.declared.offsets.StoreOffset.{StoreOffset}
 use Rattle.arithmetic.specs.declared.offsets.Range.{Range}
 use Rattle.arithmetic.specs.declared.settings.Settings.{Settings}
 use Rattle.arithmetic.specs.declared.padding.Transfer.{Transfer}
-use Rattle.arithmetic.specs.declared.padding.Transfer.TheVariants.{Direct, Bounced, Refused as NoTransfer}
+use Rattle.arithmetic.specs.declared.padding.Transfer.TheVariants.{Direct, Bounced}
 use Rattle.arithmetic.specs.declared.zeroes.ZeroCut.{ZeroCut}
-use Rattle.arithmetic.specs.declared.zeroes.ZeroCut.TheVariants.{Nothing as NoCut, Whole, Split, Refused as CutRefused}
-use Rattle.arithmetic.specs.declared.zeroes.DiscardCut.{DiscardCut}
-use Rattle.arithmetic.specs.declared.zeroes.DiscardCut.TheVariants.{Nothing as NoDiscard, Middle as DiscardMiddle}
-use Rattle.arithmetic.specs.declared.zeroes.DiscardCut.TheVariants.{Refused as DiscardRefused}
-use Rattle.arithmetic.specs.declared.zeroes.Chunk.{Chunk}
-use Rattle.arithmetic.specs.declared.zeroes.Chunk.TheVariants.{Nothing as NoChunk, Next, Refused as ChunkRefused}
+use Rattle.arithmetic.specs.declared.zeroes.ZeroCut.TheVariants.{Nothing as NoCut, Whole, Split}
 use Rattle.stages.specs.Stages.{size_of, direct_stage, padded_stage, first_phase, asked, vector_by, read_plan, write_plan, zeroes_by}
 use Rattle.stages.specs.Stages.{zeroes_plan}
 use Rattle.stages.specs.Stages.{zero_job, zero_by, zero_plan, discard_by, discard_plan, ended_with, later_stage, zeroes_next, chunk_by}
@@ -36,12 +31,11 @@ use Rattle.stages.specs.declared.state.Course.{Course}
 use Rattle.stages.specs.declared.state.Course.TheVariants.{Last, Middle, Head, Chunks}
 use Rattle.stages.specs.declared.state.Stage.{Stage}
 use Rattle.stages.specs.declared.state.State.{State}
-use Rattle.stages.specs.declared.plan.Plan.{Plan}
-use Rattle.stages.specs.declared.plan.Plan.TheVariants.{Done, Started, Refused}
 use Rattle.stages.specs.declared.told.Step.{Step}
 use Rattle.stages.specs.declared.told.Step.TheVariants.{Stays, Ends, Enters}
 use Rattle.dock.specs.Dock.{is_read_job}
 use Rattle.dock.specs.Begin.{is_write_job}
+use Rattle.arithmetic.specs.declared.refusals.Refusal.{Refusal}
 
 abbrev pub is_zero_job : Job → Bool
 is_zero_job Read = false
@@ -135,33 +129,33 @@ abbrev Regular : State → Type 0
 Regular x = is_regular x ≡ true
 
 module _ (s : Settings) (o : StoreOffset) (n : ℕ) where
-  read_by : (t : Transfer) → Starts Sole (vector_by s Read DirectRead o n t)
+  read_by : (t : Result Transfer Refusal) → Starts Sole (vector_by s Read DirectRead o n t)
   unfolding is_regular direct_stage padded_stage
-  read_by (Direct r) = (refl, refl)
-  read_by (Bounced x) = starts_within Sole x.length s.bounce _ (λ h. (refl, refl))
-  read_by (NoTransfer r) = tt
+  read_by (Ok (Direct r)) = (refl, refl)
+  read_by (Ok (Bounced x)) = starts_within Sole x.length s.bounce _ (λ h. (refl, refl))
+  read_by (Err r) = tt
 
   pub read_regular : (t : Bool) → Starts Sole (read_plan s o n t)
   unfolding read_plan
   read_regular t = starts_some Sole n _ (λ h. read_by (transfer_of s.align o n t))
 
-  write_by : (t : Transfer) → Starts Sole (vector_by s Write DirectWrite o n t)
+  write_by : (t : Result Transfer Refusal) → Starts Sole (vector_by s Write DirectWrite o n t)
   unfolding is_regular direct_stage padded_stage
-  write_by (Direct r) = (refl, refl)
-  write_by (Bounced x) =
+  write_by (Ok (Direct r)) = (refl, refl)
+  write_by (Ok (Bounced x)) =
       starts_within Sole x.length s.bounce _ (λ h. (first_regular Write Last (padded_stage x (asked o n)) refl, refl))
-  write_by (NoTransfer r) = tt
+  write_by (Err r) = tt
 
   pub write_regular : (t : Bool) → Starts Sole (write_plan s o n t)
   unfolding write_plan
   write_regular t = starts_some Sole n _ (λ h. write_by (transfer_of s.align o n t))
 
 module _ (s : Settings) (j : Job) (w m : Range) (c : Course) (r : Range) (h : bounces c j ≡ true) where
-  zeroes_by_lem : (t : Transfer) → Starts Regular (zeroes_by s j w m c r t)
+  zeroes_by_lem : (t : Result Transfer Refusal) → Starts Regular (zeroes_by s j w m c r t)
   unfolding is_regular
-  zeroes_by_lem (Direct x) = starts_within Regular (size_of r) s.bounce _ (λ k. simp h)
-  zeroes_by_lem (Bounced x) = starts_within Regular x.length s.bounce _ (λ k. first_regular j c (padded_stage x r) h)
-  zeroes_by_lem (NoTransfer x) = tt
+  zeroes_by_lem (Ok (Direct x)) = starts_within Regular (size_of r) s.bounce _ (λ k. simp h)
+  zeroes_by_lem (Ok (Bounced x)) = starts_within Regular x.length s.bounce _ (λ k. first_regular j c (padded_stage x r) h)
+  zeroes_by_lem (Err x) = tt
 
   zeroes_regular : Starts Regular (zeroes_plan s j w m c r)
   unfolding zeroes_plan
@@ -179,22 +173,22 @@ last_bounces AllocatedZeroes e = refl
 last_bounces Discard e = e
 
 module _ (s : Settings) (o : StoreOffset) (n : ℕ) where
-  zero_by_lem : (t : Bool) (x : ZeroCut) → Starts Regular (zero_by s (zero_job t) o n x)
+  zero_by_lem : (t : Bool) (x : Result ZeroCut Refusal) → Starts Regular (zero_by s (zero_job t) o n x)
   unfolding is_regular
-  zero_by_lem t NoCut = tt
-  zero_by_lem t (Whole r) = zeroes_regular s (zero_job t) r (range_of 0 0) Last r (last_bounces (zero_job t) (zero_job_lem t))
-  zero_by_lem t (Split c) = simp (zero_job_lem t)
-  zero_by_lem t (CutRefused r) = tt
+  zero_by_lem t (Ok NoCut) = tt
+  zero_by_lem t (Ok (Whole r)) = zeroes_regular s (zero_job t) r (range_of 0 0) Last r (last_bounces (zero_job t) (zero_job_lem t))
+  zero_by_lem t (Ok (Split c)) = simp (zero_job_lem t)
+  zero_by_lem t (Err r) = tt
 
   pub zero_regular : (t : Bool) → Starts Regular (zero_plan s t o n)
   unfolding zero_plan
   zero_regular t = zero_by_lem t (zero_cut_of s.align o n)
 
-  discard_by_lem : (x : DiscardCut) → Starts Regular (discard_by o n x)
+  discard_by_lem : (x : Result (Option Range) Refusal) → Starts Regular (discard_by o n x)
   unfolding is_regular
-  discard_by_lem NoDiscard = tt
-  discard_by_lem (DiscardMiddle r) = refl
-  discard_by_lem (DiscardRefused r) = tt
+  discard_by_lem (Ok None) = tt
+  discard_by_lem (Ok (Some r)) = refl
+  discard_by_lem (Err r) = tt
 
   pub discard_regular : Starts Regular (discard_plan s o n)
   unfolding discard_plan
@@ -216,19 +210,19 @@ StepRegular x (Enters y) = (is_zero_job x.job ≡ true) × (is_regular y ≡ tru
 
 module _ (s : Settings) (x : State) where
   module _ (z : is_zero_job x.job ≡ true) where
-    later_regular : (p : Plan) → Starts Regular p → StepRegular x (later_stage x p)
-    later_regular Done k = tt
-    later_regular (Started y) k = (z, k)
-    later_regular (Refused r) k = tt
+    later_regular : (p : Result (Option State) Refusal) → Starts Regular p → StepRegular x (later_stage x p)
+    later_regular (Ok None) k = tt
+    later_regular (Ok (Some y)) k = (z, k)
+    later_regular (Err r) k = tt
 
     next_regular : (c : Course) (r : Range) → bounces c x.job ≡ true → StepRegular x (zeroes_next s x c r)
     next_regular c r h =
         later_regular (zeroes_plan s x.job x.range x.middle c r) (zeroes_regular s x.job x.range x.middle c r h)
 
-    chunk_by_lem : (k : Chunk) → StepRegular x (chunk_by s x k)
-    chunk_by_lem NoChunk = tt
-    chunk_by_lem (Next r) = next_regular Chunks r z
-    chunk_by_lem (ChunkRefused r) = tt
+    chunk_by_lem : (k : Result (Option Range) Refusal) → StepRegular x (chunk_by s x k)
+    chunk_by_lem (Ok None) = tt
+    chunk_by_lem (Ok (Some r)) = next_regular Chunks r z
+    chunk_by_lem (Err r) = tt
 
     chunk_regular : (o : StoreOffset) → StepRegular x (chunk_next s x o)
     unfolding chunk_next

@@ -1,6 +1,6 @@
 -- A lawful list, its bytes computed on both sides. A padded write, a direct write that waits behind it, a padded read, zeroes that fall
 -- back, a write that fails part-way, a discard, a direct read; a begin that is refused, and one that is lent other buffers.
-use Rattle.std.specs.Prelude.{◌≡◌, true, false, List, [], ◌∷◌, ◌++◌, ℕ, ltb, length, take, drop, replicate}
+use Rattle.std.specs.Prelude.{◌≡◌, true, false, List, [], ◌∷◌, ◌++◌, ℕ, ltb, length, take, drop, replicate, Result, Ok, Err, Option}
 use Rattle.arithmetic.specs.Offsets.{store_at}
 use Rattle.arithmetic.specs.Settings.{alignments}
 use Rattle.arithmetic.specs.Content.{window}
@@ -12,10 +12,6 @@ use Rattle.dock.specs.Begin.{read_of, write_of, zeroes_of, discard_of, begin_of}
 use Rattle.dock.specs.Next.{next_of, piece_of}
 use Rattle.dock.specs.Tell.{collect_of}
 use Rattle.dock.specs.declared.begin.Asked.{Asked}
-use Rattle.dock.specs.declared.begin.Begun.{Begun}
-use Rattle.dock.specs.declared.begin.Begun.TheVariants.{Refused}
-use Rattle.dock.specs.declared.tell.Collected.{Collected}
-use Rattle.dock.specs.declared.tell.Collected.TheVariants.{Final}
 use Rattle.dock.specs.declared.next.Due.{Due}
 use Rattle.dock.specs.declared.next.Due.TheVariants.{Waiting}
 use Rattle.dock.specs.declared.next.Piece.{Piece}
@@ -24,6 +20,7 @@ use Rattle.theorem_lists.specs.Store.{Choice}
 use Rattle.theorem_lists.specs.PlainStore.{Plain, plain_opened}
 use Rattle.theorem_lists.specs.Histories.{Lends, World, opened}
 use Rattle.theorem_lists.specs.Acts.{Act, begin, begin_lent, carry, tell, collect, own, run, all_allowed}
+use Rattle.arithmetic.specs.declared.refusals.Refusal.{Refusal}
 
 -- a drive of blocks of 8 bytes, shares of 32; a store whose every byte is 9
 abbrev pub settings : Settings
@@ -97,16 +94,16 @@ all_done = jobs_done ++ (begin overlapping ∷ (begin_lent no_bytes overlapping 
 abbrev pub whole_list : List Act
 whole_list = all_done ++ (collect 0 ∷ (collect 1 ∷ (collect 2 ∷ (collect 3 ∷ (collect 4 ∷ (collect 5 ∷ (collect 6 ∷ [])))))))
 
-abbrev begun : World → Asked → Lends → Begun
+abbrev begun : World → Asked → Lends → Result (Option ℕ) Refusal
 begun w q l = (begin_of w.dock q l.memory l.scratch).answer
 
-abbrev answer : World → ℕ → Collected
+abbrev answer : World → ℕ → Result ℕ Refusal
 answer w p = (collect_of w.dock p (length w.memory) (length w.scratch)).answer
 
-abbrev due : World → ℕ → Due
+abbrev due : World → ℕ → Result Due Refusal
 due w p = next_of w.dock p (length w.memory) (length w.scratch)
 
-abbrev piece : World → ℕ → Piece
+abbrev piece : World → ℕ → Result Piece Refusal
 piece w p = piece_of w.dock p 0 (length w.memory) (length w.scratch)
 
 -- the store's first 42 bytes at the end: the direct write's, zeroes, the failing write's first byte alone, what the discard left
@@ -115,26 +112,26 @@ bytes = (1 ∷ 2 ∷ 3 ∷ 4 ∷ []) ++ (replicate 20 0 ++ (9 ∷ 9 ∷ 31 ∷ (
 
 pub record Computed : Type 0 where
   -- the direct write waits behind the padded one
-  pub waits : due (run world plain edits).real 1 ≡ Waiting
+  pub waits : due (run world plain edits).real 1 ≡ Ok Waiting
   -- the padded write puts its two bytes, and none beside them
   pub first : window (run world plain first_done).real.store 0 10 ≡ 9 ∷ 9 ∷ 9 ∷ 101 ∷ 102 ∷ 9 ∷ 9 ∷ 9 ∷ 9 ∷ 9 ∷ []
   pub second : window (run world plain both_done).real.store 0 10 ≡ 1 ∷ 2 ∷ 3 ∷ 4 ∷ 5 ∷ 6 ∷ 7 ∷ 8 ∷ 9 ∷ 9 ∷ []
   -- the second read goes straight to its bytes of the data
-  pub direct : piece (run world plain read_begun).real 6 ≡ InData (segment 16 8)
+  pub direct : piece (run world plain read_begun).real 6 ≡ Ok (InData (segment 16 8))
   -- at the end both sides have the same bytes
   pub real : window (run world plain all_done).real.store 0 42 ≡ bytes
   pub plain_bytes : window (run world plain all_done).plain.bytes 0 42 ≡ bytes
   -- the failing write is answered 5, the other jobs 0
-  pub write_answer : answer (run world plain all_done).real 0 ≡ Final 0
-  pub direct_answer : answer (run world plain all_done).real 1 ≡ Final 0
-  pub read_answer : answer (run world plain all_done).real 2 ≡ Final 0
-  pub zero_answer : answer (run world plain all_done).real 3 ≡ Final 0
-  pub failed_answer : answer (run world plain all_done).real 4 ≡ Final 5
-  pub discard_answer : answer (run world plain all_done).real 5 ≡ Final 0
-  pub direct_read_answer : answer (run world plain all_done).real 6 ≡ Final 0
+  pub write_answer : answer (run world plain all_done).real 0 ≡ Ok 0
+  pub direct_answer : answer (run world plain all_done).real 1 ≡ Ok 0
+  pub read_answer : answer (run world plain all_done).real 2 ≡ Ok 0
+  pub zero_answer : answer (run world plain all_done).real 3 ≡ Ok 0
+  pub failed_answer : answer (run world plain all_done).real 4 ≡ Ok 5
+  pub discard_answer : answer (run world plain all_done).real 5 ≡ Ok 0
+  pub direct_read_answer : answer (run world plain all_done).real 6 ≡ Ok 0
   -- 203, and 205 for the same read where it is lent other buffers
-  pub refused : begun (run world plain jobs_done).real overlapping (own (run world plain jobs_done).real) ≡ Refused Overlap
-  pub refused_lent : begun (run world plain jobs_done).real overlapping no_bytes ≡ Refused Buffer
+  pub refused : begun (run world plain jobs_done).real overlapping (own (run world plain jobs_done).real) ≡ Err Overlap
+  pub refused_lent : begun (run world plain jobs_done).real overlapping no_bytes ≡ Err Buffer
   -- both reads hold what they yielded, and the bytes beside them are as they were
   pub holds : take 16 (drop 10 (run world plain all_done).real.memory)
       ≡ 3 ∷ 4 ∷ 5 ∷ 6 ∷ 77 ∷ 77 ∷ 9 ∷ 9 ∷ 31 ∷ 9 ∷ 9 ∷ 9 ∷ 9 ∷ 9 ∷ 77 ∷ 77 ∷ []

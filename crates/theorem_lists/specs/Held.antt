@@ -1,11 +1,9 @@
 -- What holds of every dock that calls made from an opened one: of each slot by itself, and of the blockers together.
-use Rattle.std.specs.Prelude.{◌≡◌, true, false, List, ℕ, ◌<◌, ◌≤◌, length}
+use Rattle.std.specs.Prelude.{◌≡◌, true, false, List, ℕ, ◌<◌, ◌≤◌, length, Result, Ok}
 use Rattle.arithmetic.specs.Settings.{opening_of}
-use Rattle.arithmetic.specs.declared.refusals.Outcome.TheVariants.{Done}
 use Rattle.arithmetic.specs.declared.offsets.Range.{Range}
 use Rattle.arithmetic.specs.declared.settings.Settings.{Settings}
 use Rattle.arithmetic.specs.declared.settings.Buffers.{Buffers}
-use Rattle.arithmetic.specs.declared.settings.Profile.{Profile}
 use Rattle.vectors.specs.Vectors.{is_valid}
 use Rattle.vectors.specs.declared.vector.IoVector.{IoVector}
 use Rattle.blockers.specs.Blockers.{present, blocker_at, strength}
@@ -20,6 +18,8 @@ use Rattle.dock.specs.Tell.{tell_of, collect_of}
 use Rattle.dock.specs.declared.dock.Dock.{Dock}
 use Rattle.dock.specs.declared.begin.Asked.{Asked}
 use Rattle.theorem_lists.specs.Courses.{has_vector, is_regular}
+use Rattle.arithmetic.specs.declared.refusals.Refusal.{Refusal}
+use Rattle.arithmetic.specs.declared.settings.Alignments.{Alignments}
 
 -- one range lies inside another
 pub record Encloses (r q : Range) : Type 0 where
@@ -47,7 +47,7 @@ SlotOf d p =
 
 -- The dock; rank and clock say when each slot's blocker was entered.
 pub record Held (d : Dock) : Type 0 where
-  pub opened : opening_of d.settings d.buffers ≡ Done
+  pub opened : opening_of d.settings d.buffers ≡ Ok tt
   pub states : length d.states ≡ 8
   pub vectors : length d.vectors ≡ 8
   pub rank : ℕ → ℕ
@@ -58,8 +58,8 @@ pub record Held (d : Dock) : Type 0 where
 -- A dock that calls made: opened, then begun on, told and collected in any order, with any arguments and any lent buffers, refused calls
 -- included.
 pub data Made : Dock → Type 0 where
-  opens : (s : Settings) (b : Buffers) → (open_of s b).outcome ≡ Done → Made (open_of s b).dock
-  opens_by : (f : Profile) (n : ℕ) (b : Buffers) → (open_by f n b).outcome ≡ Done → Made (open_by f n b).dock
+  opens : (s : Settings) (b : Buffers) → (open_of s b).outcome ≡ (Ok (tt {0})) → Made (open_of s b).dock
+  opens_by : (f : Result Alignments Refusal) (n : ℕ) (b : Buffers) → (open_by f n b).outcome ≡ (Ok (tt {0})) → Made (open_by f n b).dock
   begins : {d : Dock} → Made d → (q : Asked) (memory scratch : List ℕ) → Made (begin_of d q memory scratch).dock
   tells : {d : Dock} → Made d → (p code : ℕ) (memory scratch : List ℕ) → Made (tell_of d p code memory scratch).dock
   collects : {d : Dock} → Made d → (p m n : ℕ) → Made (collect_of d p m n).dock

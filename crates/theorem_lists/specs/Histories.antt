@@ -1,15 +1,13 @@
 -- Lists of events on an opened dock over a store: the real side runs the dock's own definitions; what a list may assume; what is claimed of
 -- every list.
-use Rattle.std.specs.Prelude.{◌≡◌, Bool, true, false, ◌&&◌, List, [], ◌∷◌, ℕ, ◌-◌, eqb, length, get_or}
-use Rattle.std.proofs.Math.Option.{Option, none, some}
+use Rattle.std.specs.Prelude.{Option, Some, None}
+use Rattle.std.specs.Prelude.{◌≡◌, Bool, true, false, ◌&&◌, List, [], ◌∷◌, ℕ, ◌-◌, eqb, length, get_or, Result, Ok, Err}
 use Rattle.arithmetic.specs.Refusals.{when_done}
 use Rattle.arithmetic.specs.Rounding.{pick}
 use Rattle.arithmetic.specs.Content.{Bytes, in_range}
 use Rattle.arithmetic.specs.declared.offsets.Range.{Range}
 use Rattle.arithmetic.specs.declared.settings.Settings.{Settings}
 use Rattle.arithmetic.specs.declared.settings.Buffers.{Buffers}
-use Rattle.arithmetic.specs.declared.refusals.Outcome.{Outcome}
-use Rattle.arithmetic.specs.declared.refusals.Outcome.TheVariants.{Done}
 use Rattle.vectors.specs.Vectors.{segments_of, bytes_of}
 use Rattle.vectors.specs.Places.{covered}
 use Rattle.vectors.specs.declared.vector.Segment.{Segment}
@@ -24,13 +22,13 @@ use Rattle.dock.specs.Tell.{Told, tell_of, collect_of}
 use Rattle.dock.specs.declared.dock.Dock.{Dock}
 use Rattle.dock.specs.declared.begin.Asked.{Asked}
 use Rattle.dock.specs.declared.next.Due.{Due}
-use Rattle.dock.specs.declared.next.Due.TheVariants.{Waiting, Make, Answer, Refused as NotDue}
+use Rattle.dock.specs.declared.next.Due.TheVariants.{Waiting, Make, Answer}
 use Rattle.dock.specs.declared.tell.Collects.{Collects}
-use Rattle.dock.specs.declared.tell.Collected.TheVariants.{Final}
 use Rattle.theorem_lists.specs.Store.{Choice, pieces_from, gathered, range_asked, store_after, fetched}
 use Rattle.theorem_lists.specs.PlainStore.{Item, begin, carry, tell, collect, nothing, Did, yielded, wrote, zeroed, discarded}
 use Rattle.theorem_lists.specs.PlainStore.{range_for}
 use Rattle.theorem_lists.specs.PlainStore.{Tracked, Plain, plain_opened, plain_step, set_at}
+use Rattle.arithmetic.specs.declared.refusals.Refusal.{Refusal}
 
 -- ---- events
 
@@ -62,16 +60,16 @@ called w d memory scratch = record { dock = d; store = w.store; memory = memory;
 -- after an accepted tell: its request is out no more
 abbrev pub answered : World → ℕ → Dock → List ℕ → List ℕ → World
 answered w p d memory scratch =
-    record { dock = d; store = w.store; memory = memory; scratch = scratch; carried = set_at w.carried p none }
+    record { dock = d; store = w.store; memory = memory; scratch = scratch; carried = set_at w.carried p None }
 
 -- after the store's act on a request of slot p, with this code
 abbrev pub acted : World → ℕ → ℕ → Bytes → List ℕ → List ℕ → World
 acted w p code store memory scratch =
-    record { dock = w.dock; store = store; memory = memory; scratch = scratch; carried = set_at w.carried p (some code) }
+    record { dock = w.dock; store = store; memory = memory; scratch = scratch; carried = set_at w.carried p (Some code) }
 
 abbrev pub opened : Settings → Buffers → Bytes → List ℕ → List ℕ → World
 opened s b content memory scratch =
-    record { dock = (open_of s b).dock; store = content; memory = memory; scratch = scratch; carried = λ p. none }
+    record { dock = (open_of s b).dock; store = content; memory = memory; scratch = scratch; carried = λ p. None }
 
 -- a call that is lent buffers of other lengths is refused (205), and touches none of these
 abbrev pub fits_lent : World → Lends → Bool
@@ -80,7 +78,7 @@ fits_lent w l = lent_fits w.dock.buffers (length l.memory) (length l.scratch)
 abbrev pub after_begin : World → Lends → Begins → World
 after_begin w l b = pick (fits_lent w l) (called w b.dock l.memory b.scratch) w
 
-abbrev pub told : Outcome → World → ℕ → Told → World
+abbrev pub told : Result (Unit {0}) Refusal → World → ℕ → Told → World
 told o w p t = when_done o (answered w p t.dock t.memory t.scratch) (λ r. called w t.dock t.memory t.scratch)
 
 abbrev pub after_tell : World → ℕ → Lends → Told → World
@@ -98,21 +96,21 @@ carries_out w p code c q =
 
 -- the request that is out in a slot and was not carried out yet
 abbrev pub unless : Option ℕ → Option Request → Option Request
-unless none q = q
-unless (some code) q = none
+unless None q = q
+unless (Some code) q = None
 
-abbrev pub made : Due → Option Request
-made Waiting = none
-made (Make q) = some q
-made (Answer a) = none
-made (NotDue r) = none
+abbrev pub made : Result Due Refusal → Option Request
+made (Ok Waiting) = None
+made (Ok (Make q)) = Some q
+made (Ok (Answer a)) = None
+made (Err r) = None
 
 abbrev pub out_in : World → ℕ → Option Request
 out_in w p = unless (w.carried p) (made (next_of w.dock p (length w.memory) (length w.scratch)))
 
 abbrev pub after_carry : Option Request → World → ℕ → ℕ → Choice → World
-after_carry none w p code c = w
-after_carry (some q) w p code c = carries_out w p code c q
+after_carry None w p code c = w
+after_carry (Some q) w p code c = carries_out w p code c q
 
 unfoldable pub step : World → Event → World
 step w (begins q l) = after_begin w l (begin_of w.dock q l.memory l.scratch)
@@ -123,8 +121,8 @@ step w (collects p l) = after_collect w l (collect_of w.dock p (length l.memory)
 -- ---- what the plain byte store is fed of an event
 
 abbrev pub carry_item : Option Request → ℕ → ℕ → Choice → Item
-carry_item none p code c = nothing
-carry_item (some q) p code c = carry p code c
+carry_item None p code c = nothing
+carry_item (Some q) p code c = carry p code c
 
 unfoldable pub fed : World → Event → Item
 fed w (begins q l) = begin q l.memory (begin_of w.dock q l.memory l.scratch).answer
@@ -136,8 +134,8 @@ fed w (collects p l) = collect p (collect_of w.dock p (length l.memory) (length 
 
 -- the data of the job in a slot: its vector's, as it was handed to begin
 abbrev pub data_of : Option Tracked → List Segment
-data_of none = []
-data_of (some j) = segments_of (vector_for j.asked)
+data_of None = []
+data_of (Some j) = segments_of (vector_for j.asked)
 
 -- "scratch and the data of jobs in flight are as the last event left them, other data may change, and a call refused with 205 may be lent
 -- other buffers"
@@ -148,12 +146,12 @@ LentOf w m l =
 
 -- the code of a carry; a request that was not carried out has none
 abbrev pub CodeOf : Option ℕ → ℕ → Type 0
-CodeOf none code = ⊥
-CodeOf (some c) code = c ≡ code
+CodeOf None code = ⊥
+CodeOf (Some c) code = c ≡ code
 
 -- "An accepted tell follows its request's carry and hands in that code; a refused one may hand in any."
 abbrev pub HandsIn : World → ℕ → ℕ → Lends → Type 0
-HandsIn w p code l = (tell_of w.dock p code l.memory l.scratch).outcome ≡ Done → CodeOf (w.carried p) code
+HandsIn w p code l = (tell_of w.dock p code l.memory l.scratch).outcome ≡ (Ok tt) → CodeOf (w.carried p) code
 
 abbrev pub Allowed : World → Plain → Event → Type 0
 Allowed w m (begins q l) = LentOf w m l
@@ -201,8 +199,8 @@ OwedBy AllocatedZeroes r v j memory = (x : ℕ) → in_range r x ≡ true → pu
 OwedBy Discard r v j memory = Unit {0}
 
 abbrev pub OwedTo : Option Tracked → List ℕ → Type 0
-OwedTo none memory = ⊥
-OwedTo (some j) memory = OwedBy j.asked.job (range_for j.asked) (vector_for j.asked) j memory
+OwedTo None memory = ⊥
+OwedTo (Some j) memory = OwedBy j.asked.job (range_for j.asked) (vector_for j.asked) j memory
 
 -- "Answered 0: collect returned 0."
 abbrev pub Owed : World → Plain → Event → Type 0
@@ -210,7 +208,7 @@ Owed w m (begins q l) = Unit {0}
 Owed w m (carries p code c) = Unit {0}
 Owed w m (tells p code l) = Unit {0}
 Owed w m (collects p l) =
-    (collect_of w.dock p (length l.memory) (length l.scratch)).answer ≡ Final 0 → OwedTo (m.jobs p) l.memory
+    (collect_of w.dock p (length l.memory) (length l.scratch)).answer ≡ Ok 0 → OwedTo (m.jobs p) l.memory
 
 -- after every event, and at every collect that answers 0
 abbrev pub Claim : World → Plain → List Event → Type 0
@@ -223,7 +221,7 @@ Claim w m (e ∷ es) = Same w m × Owed w m e × Claim (step w e) (plain_step m 
 -- begin, carry, tell and collect, refused ones included: a lawful list has the claim. Proved in proofs/Theorem.antt.
 abbrev pub EveryList : Type 0
 EveryList =
-    (s : Settings) (b : Buffers) → (open_of s b).outcome ≡ Done → (content : Bytes) (memory scratch : List ℕ)
+    (s : Settings) (b : Buffers) → (open_of s b).outcome ≡ (Ok tt) → (content : Bytes) (memory scratch : List ℕ)
     → lent_fits b (length memory) (length scratch) ≡ true → (es : List Event)
     → Lawful (opened s b content memory scratch) (plain_opened s b content) es
     → Claim (opened s b content memory scratch) (plain_opened s b content) es

@@ -1,5 +1,5 @@
 -- What keeps `Held`: a blocker that enters, leaves or stays, one slot anew; and that an opened dock has it. Assumes nothing.
-use Rattle.std.specs.Prelude.{◌≡◌, Bool, ◌≢◌, List, [], ℕ, ◌+◌, ◌<◌, length, get_or, set}
+use Rattle.std.specs.Prelude.{◌≡◌, Bool, ◌≢◌, List, [], ℕ, ◌+◌, ◌<◌, length, get_or, set, Ok}
 use Rattle.std.proofs.Math.Path.{refl, sym, ap}
 use Rattle.std.proofs.Common.{◌∙◌, subst, arith, length-set, get_or-set_same, get_or-set_other}
 use Rattle.std.proofs.Math.Bool.{true, false}
@@ -7,7 +7,6 @@ use Rattle.std.proofs.Math.Decide.{ℕ_discrete}
 use Rattle.std.proofs.lemmas.List.{get_or-replicate, length-replicate}
 use Rattle.arithmetic.specs.Rounding.{pick}
 use Rattle.arithmetic.specs.Settings.{opening_of}
-use Rattle.arithmetic.specs.declared.refusals.Outcome.TheVariants.{Done}
 use Rattle.arithmetic.specs.declared.offsets.Range.{Range}
 use Rattle.arithmetic.specs.declared.settings.Settings.{Settings}
 use Rattle.arithmetic.specs.declared.settings.Buffers.{Buffers}
@@ -39,7 +38,7 @@ use Rattle.theorem_lists.specs.Held.{Encloses, SlotHeld, SlotOf, Held}
 
 -- The slot p has the blocker of the job y, or none where y has none; the other slots have theirs as before.
 pub record Changes (b : Blockers) (p : ℕ) (y : State) (c : Changed) : Type 0 where
-  pub done : c.outcome ≡ Done
+  pub done : c.outcome ≡ Ok tt
   pub rank : ℕ → ℕ
   pub clock : ℕ
   pub reached : Reached c.blockers rank clock
@@ -65,7 +64,7 @@ module _ (b : Blockers) (p : ℕ) (y : State) (rank : ℕ → ℕ) (clock : ℕ)
   unchanged : is_entered (blocker_at b p) ≡ is_blocking y.phase
       → (is_blocking y.phase ≡ true
       → ((blocker_at b p).kind ≡ strength y.stage.strong) × Encloses (blocker_at b p).range y.stage.request)
-      → Changes b p y (record { blockers = b; outcome = Done })
+      → Changes b p y (record { blockers = b; outcome = (Ok (tt {0})) })
   unchanged e o = record {
     done = refl;
     rank = rank;
@@ -79,7 +78,7 @@ module _ (b : Blockers) (p : ℕ) (y : State) (rank : ℕ → ℕ) (clock : ℕ)
 
   -- no blocker was there, and none comes
   pub none_changes : is_entered (blocker_at b p) ≡ false → is_blocking y.phase ≡ false
-      → Changes b p y (record { blockers = b; outcome = Done })
+      → Changes b p y (record { blockers = b; outcome = (Ok tt) })
   none_changes e f = unchanged (e ∙ sym f) (λ u. never (sym f ∙ u))
 
 module _ (b : Blockers) (p : ℕ) (y : State) (rank : ℕ → ℕ) (clock : ℕ) (R : Reached b rank clock) (h : p < 8) where
@@ -94,7 +93,7 @@ module _ (b : Blockers) (p : ℕ) (y : State) (rank : ℕ → ℕ) (clock : ℕ)
       r : Range
       r = blocked_of y.stage
 
-      go : (t : Bool) → is_blocking y.phase ≡ t → Changes b p y (pick t (entered_of k p r b) (record { blockers = b; outcome = Done }))
+      go : (t : Bool) → is_blocking y.phase ≡ t → Changes b p y (pick t (entered_of k p r b) (record { blockers = b; outcome = (Ok tt) }))
       go true t =
           let o = entered_own k p r b R.slots h e in
           record {
@@ -115,7 +114,7 @@ module _ (b : Blockers) (p : ℕ) (y : State) (rank : ℕ → ℕ) (clock : ℕ)
   unfolding blockers_without
   leave_changes x e f = go (is_blocking x.phase) refl
     where
-      go : (t : Bool) → is_blocking x.phase ≡ t → Changes b p y (pick t (left_of p b) (record { blockers = b; outcome = Done }))
+      go : (t : Bool) → is_blocking x.phase ≡ t → Changes b p y (pick t (left_of p b) (record { blockers = b; outcome = (Ok tt) }))
       go true t =
           let o = left_own p b h (e ∙ t) in
           record {
@@ -135,7 +134,7 @@ module _ (b : Blockers) (p : ℕ) (y : State) (rank : ℕ → ℕ) (clock : ℕ)
       → present (blocker_at b p).kind ≡ is_blocking x.phase
       → (is_blocking x.phase ≡ true
       → ((blocker_at b p).kind ≡ strength x.stage.strong) × Encloses (blocker_at b p).range x.stage.request)
-      → Changes b p y (record { blockers = b; outcome = Done })
+      → Changes b p y (record { blockers = b; outcome = (Ok tt) })
   stay_changes x g f e o = unchanged b p y rank clock R (e ∙ sym f) (λ u. rw g (o (sym f ∙ u)))
 
 -- ---- one slot anew
@@ -185,7 +184,7 @@ none_held n m v k r e = record {
 
 -- ---- opening
 
-pub fresh_held : (s : Settings) (b : Buffers) → opening_of s b ≡ Done → Held (fresh s b)
+pub fresh_held : (s : Settings) (b : Buffers) → opening_of s b ≡ (Ok tt) → Held (fresh s b)
 unfolding fresh no_blockers
 fresh_held s b e = record {
   opened = e;

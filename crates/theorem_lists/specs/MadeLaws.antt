@@ -1,6 +1,6 @@
 -- Every dock that calls made has `Held`; and so begin, a request's piece and tell answer on it as document 01 says, and never by a refusal
 -- of their inner steps. Assumes nothing.
-use Rattle.std.specs.Prelude.{◌≡◌, Bool, ◌&&◌, List, [], ℕ, ◌<◌, length}
+use Rattle.std.specs.Prelude.{◌≡◌, Bool, ◌&&◌, List, [], ℕ, ◌<◌, length, Result, Ok, Err, Option, Some, None}
 use Rattle.std.proofs.Math.Path.{refl}
 use Rattle.std.proofs.Common.{sym, subst, arith}
 use Rattle.std.proofs.Math.Bool.{true, false}
@@ -9,15 +9,10 @@ use borrow.Author.Tests.{ltb-true, eqb-true, le-leb}
 use Rattle.arithmetic.specs.Rounding.{pick}
 use Rattle.arithmetic.specs.SettingsLaws.{and_left, opened}
 use Rattle.arithmetic.specs.declared.refusals.Refusal.TheVariants.{Buffer, Slot, NoAnswer}
-use Rattle.arithmetic.specs.declared.refusals.Outcome.TheVariants.{Done}
 use Rattle.arithmetic.specs.declared.settings.Buffers.{Buffers}
-use Rattle.arithmetic.specs.declared.settings.Profile.{Profile}
-use Rattle.arithmetic.specs.declared.settings.Profile.TheVariants.{Of, Refused as NoProfile}
 use Rattle.vectors.specs.Vectors.{is_valid, vector_of}
 use Rattle.stages.specs.Stages.{is_pending, told_of, has_ended}
 use Rattle.stages.specs.declared.state.State.{State}
-use Rattle.stages.specs.declared.plan.Plan.{Plan}
-use Rattle.stages.specs.declared.plan.Plan.TheVariants.{Done as NothingToDo, Started, Refused as PlanRefused}
 use Rattle.dock.specs.Dock.{state_at, vector_at, share_at, vacant, open_of, open_by, lent_fits, lent_of, is_out_by, is_out, overlaps_of}
 use Rattle.dock.specs.Dock.{first_free}
 use Rattle.dock.specs.Begin.{admit_at, with_job, Begins, stored_with, vector_for, plan_for, decided_for, begin_of}
@@ -26,13 +21,13 @@ use Rattle.dock.specs.Tell.{refused_step, answered_of, answered_by, told_at, Tol
 use Rattle.dock.specs.SlotLaws.{started, lent_done}
 use Rattle.dock.specs.declared.dock.Dock.{Dock}
 use Rattle.dock.specs.declared.begin.Asked.{Asked}
-use Rattle.dock.specs.declared.tell.Answered.TheVariants.{Leads, Refused as NoLead}
 use Rattle.dock.specs.declared.tell.Collects.{Collects}
-use Rattle.dock.specs.declared.tell.Collected.TheVariants.{Final, Refused as NotCollected}
 use Rattle.theorem_lists.specs.Held.{Held, Made, opens, opens_by, begins, tells, collects}
 use Rattle.theorem_lists.specs.Keeping.{fresh_held}
 use Rattle.theorem_lists.specs.Calls.{Ready, planned_ready, begun_rule, admit_done, admit_held, after, told_done, told_held}
 use Rattle.theorem_lists.specs.Calls.{freed_held}
+use Rattle.arithmetic.specs.declared.refusals.Refusal.{Refusal}
+use Rattle.arithmetic.specs.declared.settings.Alignments.{Alignments}
 
 -- ---- what a call is lent
 
@@ -43,11 +38,11 @@ data_long b m n e = eqb-true m b.«data».length (and_left _ _ e)
 -- ---- begin
 
 module _ (d : Dock) (H : Held d) (q : Asked) (memory scratch : List ℕ) where
-  abbrev plan : Plan
+  abbrev plan : Result (Option State) Refusal
   plan = decided_for d q (length memory) (length scratch)
 
   -- what a plan that was decided to start says of its job, and of what is lent
-  decided_ready : (x : State) → plan ≡ Started x
+  decided_ready : (x : State) → plan ≡ Ok (Some x)
       → (length memory ≡ d.buffers.«data».length) × Ready d.settings d.buffers.«data».length (vector_for q) x
       × (first_free d.states < 8)
   decided_ready x e =
@@ -67,20 +62,20 @@ module _ (d : Dock) (H : Held d) (q : Asked) (memory scratch : List ℕ) where
   unfolding begin_of
   begin_is = go plan refl
     where
-      go : (z : Plan) → plan ≡ z
+      go : (z : Result (Option State) Refusal) → plan ≡ z
           → stored_with d (vector_for q) (admit_at d.blockers (first_free d.states) d.settings.bounce (vector_for q) memory scratch z)
           ≡ begun_rule d (vector_for q) memory scratch z
-      go NothingToDo e = refl
-      go (PlanRefused r) e = refl
-      go (Started x) e = let k = decided_ready x e in admit_done d H (vector_for q) memory scratch k.0 x k.1 k.2
+      go (Ok None) e = refl
+      go (Err r) e = refl
+      go (Ok (Some x)) e = let k = decided_ready x e in admit_done d H (vector_for q) memory scratch k.0 x k.1 k.2
 
   begin_held : Held (begin_of d q memory scratch).dock
   begin_held = subst (λ (b : Begins). Held b.dock) (sym begin_is) (go plan refl)
     where
-      go : (z : Plan) → plan ≡ z → Held (begun_rule d (vector_for q) memory scratch z).dock
-      go NothingToDo e = H
-      go (PlanRefused r) e = H
-      go (Started x) e = let k = decided_ready x e in admit_held d H (vector_for q) memory scratch k.0 x k.1 k.2
+      go : (z : Result (Option State) Refusal) → plan ≡ z → Held (begun_rule d (vector_for q) memory scratch z).dock
+      go (Ok None) e = H
+      go (Err r) e = H
+      go (Ok (Some x)) e = let k = decided_ready x e in admit_held d H (vector_for q) memory scratch k.0 x k.1 k.2
 
 -- ---- tell
 
@@ -111,7 +106,7 @@ module _ (d : Dock) (H : Held d) (p : ℕ) where
     abbrev told : Bool → Bool → Told
     told t u =
         stored d p (pick (t && is_sound_in (state_at d p) d.settings d.buffers)
-        (answered_by (pick u (Leads (told_of d.settings (state_at d p) code)) (NoLead NoAnswer)) d.blockers p (share_at d p)
+        (answered_by (pick u (Ok (told_of d.settings (state_at d p) code)) (Err NoAnswer)) d.blockers p (share_at d p)
         (state_at d p) code (vector_at d p)
         memory scratch) (refused_step d.blockers (state_at d p) Slot memory scratch))
 
@@ -163,8 +158,8 @@ module _ (d : Dock) (H : Held d) (p : ℕ) where
     where
       go : (a b c : Bool) → ltb p 8 ≡ b → has_ended (state_at d p).phase ≡ c
           → Held (pick {A = Collects} a (pick (b && c)
-          (record { dock = with_job d p d.blockers vacant (vector_of []); answer = Final (state_at d p).answer })
-          (record { dock = d; answer = NotCollected Slot })) (record { dock = d; answer = NotCollected Buffer })).dock
+          (record { dock = with_job d p d.blockers vacant (vector_of []); answer = Ok (state_at d p).answer })
+          (record { dock = d; answer = Err Slot })) (record { dock = d; answer = Err Buffer })).dock
       go true true true e f = freed_held d H p (ltb-true p 8 e) f
       go true true false e f = H
       go true false c e f = H
@@ -172,10 +167,10 @@ module _ (d : Dock) (H : Held d) (p : ℕ) where
 
 -- ---- every dock that calls made
 
-profile_held : (f : Profile) (n : ℕ) (b : Buffers) → (open_by f n b).outcome ≡ Done → Held (open_by f n b).dock
+profile_held : (f : Result Alignments Refusal) (n : ℕ) (b : Buffers) → (open_by f n b).outcome ≡ (Ok tt) → Held (open_by f n b).dock
 unfolding open_of
-profile_held (Of a) n b e = fresh_held (record { align = a; bounce = n }) b e
-profile_held (NoProfile r) n b e = let z : ◌≡◌ {A = ℕ} 0 1 = cc in absurd (omega arith)
+profile_held (Ok a) n b e = fresh_held (record { align = a; bounce = n }) b e
+profile_held (Err r) n b e = let z : ◌≡◌ {A = ℕ} 0 1 = cc in absurd (omega arith)
 
 pub made_held : {d : Dock} → Made d → Held d
 unfolding open_of

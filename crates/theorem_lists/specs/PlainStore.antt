@@ -2,8 +2,8 @@
 -- waiting of the dock. It steps a job by the rules of crate stages: a plan gives its first stage, told_of what a code leads to, Stage.asked
 -- and Stage.request the ranges of what is out. The laws read_opens, write_opens, zero_opens and discard_opens there tie a plan to what was
 -- handed to begin: its kind, and its range.
-use Rattle.std.specs.Prelude.{true, List, [], ◌∷◌, ℕ, ◌+◌, eqb}
-use Rattle.std.proofs.Math.Option.{Option, none, some}
+use Rattle.std.specs.Prelude.{Option}
+use Rattle.std.specs.Prelude.{true, List, [], ◌∷◌, ℕ, ◌+◌, eqb, Result, Ok, Err, Some, None}
 use Rattle.arithmetic.specs.Rounding.{pick}
 use Rattle.arithmetic.specs.Offsets.{range_of}
 use Rattle.arithmetic.specs.Refusals.{when_done}
@@ -11,7 +11,6 @@ use Rattle.arithmetic.specs.Content.{Bytes, changed, window, laid_at}
 use Rattle.arithmetic.specs.declared.offsets.Range.{Range}
 use Rattle.arithmetic.specs.declared.settings.Settings.{Settings}
 use Rattle.arithmetic.specs.declared.settings.Buffers.{Buffers}
-use Rattle.arithmetic.specs.declared.refusals.Outcome.{Outcome}
 use Rattle.vectors.specs.Vectors.{segments_of, bytes_of}
 use Rattle.stages.specs.Stages.{size_of, told_of}
 use Rattle.stages.specs.declared.state.Job.{Job}
@@ -20,27 +19,22 @@ use Rattle.stages.specs.declared.state.Phase.{Phase}
 use Rattle.stages.specs.declared.state.Phase.TheVariants.{Free, Ended, DirectRead, BouncedRead, FirstRead, SecondRead, BouncedWrite}
 use Rattle.stages.specs.declared.state.Phase.TheVariants.{DirectWrite, ZeroRequest, DiscardRequest}
 use Rattle.stages.specs.declared.state.State.{State}
-use Rattle.stages.specs.declared.plan.Plan.{Plan}
-use Rattle.stages.specs.declared.plan.Plan.TheVariants.{Done as NothingToDo, Started, Refused as PlanRefused}
 use Rattle.stages.specs.declared.told.Step.{Step}
 use Rattle.stages.specs.declared.told.Step.TheVariants.{Stays, Ends, Enters}
 use Rattle.dock.specs.Begin.{vector_for, plan_for}
 use Rattle.dock.specs.declared.begin.Asked.{Asked}
-use Rattle.dock.specs.declared.begin.Begun.{Begun}
-use Rattle.dock.specs.declared.begin.Begun.TheVariants.{Done as NoRequest, Admitted, Refused as BeginRefused}
-use Rattle.dock.specs.declared.tell.Collected.{Collected}
-use Rattle.dock.specs.declared.tell.Collected.TheVariants.{Final, Refused as NotCollected}
 use Rattle.theorem_lists.specs.Store.{Choice, becomes_new}
+use Rattle.arithmetic.specs.declared.refusals.Refusal.{Refusal}
 
 -- ---- what it is fed
 
 -- opening, the calls with arguments, lent bytes and answers, the carries with place, code and the store's choices; one begin for every kind
 -- of job
 pub data Item : Type 0 where
-  begin : Asked → List ℕ → Begun → Item
+  begin : Asked → List ℕ → Result (Option ℕ) Refusal → Item
   carry : ℕ → ℕ → Choice → Item
-  tell : ℕ → ℕ → Outcome → Item
-  collect : ℕ → Collected → Item
+  tell : ℕ → ℕ → Result (Unit {0}) Refusal → Item
+  collect : ℕ → Result ℕ Refusal → Item
   -- a carry of no request that is out, or of one a second time, is no event
   nothing : Item
 
@@ -81,7 +75,7 @@ pub record Plain : Type 0 where
 
 -- "at opening the store's content, zero past its end"
 abbrev pub plain_opened : Settings → Buffers → Bytes → Plain
-plain_opened s b content = record { settings = s; buffers = b; bytes = content; jobs = λ p. none }
+plain_opened s b content = record { settings = s; buffers = b; bytes = content; jobs = λ p. None }
 
 -- ---- "The list and the rules above give each carry's request"
 
@@ -171,39 +165,39 @@ abbrev pub put_job : Plain → ℕ → Option Tracked → Plain
 put_job m p j = record { settings = m.settings; buffers = m.buffers; bytes = m.bytes; jobs = set_at m.jobs p j }
 
 abbrev pub after_step : Plain → ℕ → PlainStepped → Plain
-after_step m p r = put_job (put_bytes m r.bytes) p (some r.job)
+after_step m p r = put_job (put_bytes m r.bytes) p (Some r.job)
 
 -- "A begin that gets a place enters its job"
-abbrev pub tracked : Asked → List ℕ → Plan → Option Tracked
-tracked q bs (Started x) = some (record { asked = q; bytes = bs; first = x; codes = []; steps = [] })
-tracked q bs NothingToDo = none
-tracked q bs (PlanRefused r) = none
+abbrev pub tracked : Asked → List ℕ → Result (Option State) Refusal → Option Tracked
+tracked q bs (Ok (Some x)) = Some (record { asked = q; bytes = bs; first = x; codes = []; steps = [] })
+tracked q bs (Ok None) = None
+tracked q bs (Err r) = None
 
-abbrev pub enters_plain : Begun → Plain → Asked → List ℕ → Plan → Plain
-enters_plain (Admitted p) m q bs plan = put_job m p (tracked q bs plan)
-enters_plain NoRequest m q bs plan = m
-enters_plain (BeginRefused r) m q bs plan = m
+abbrev pub enters_plain : Result (Option ℕ) Refusal → Plain → Asked → List ℕ → Result (Option State) Refusal → Plain
+enters_plain (Ok (Some p)) m q bs plan = put_job m p (tracked q bs plan)
+enters_plain (Ok None) m q bs plan = m
+enters_plain (Err r) m q bs plan = m
 
 -- "the vector's bytes at begin"
 abbrev pub brought_by : Asked → List ℕ → List ℕ
 brought_by q memory = bytes_of memory (segments_of (vector_for q))
 
 abbrev pub carried_by : Option Tracked → Plain → ℕ → ℕ → Choice → Plain
-carried_by none m p code c = m
-carried_by (some j) m p code c = after_step m p (carried_out m.settings code c m.bytes j)
+carried_by None m p code c = m
+carried_by (Some j) m p code c = after_step m p (carried_out m.settings code c m.bytes j)
 
 -- "an accepted tell its code"
 abbrev pub told_by : Option Tracked → Plain → ℕ → ℕ → Plain
-told_by none m p code = m
-told_by (some j) m p code = put_job m p (some (with_code j code))
+told_by None m p code = m
+told_by (Some j) m p code = put_job m p (Some (with_code j code))
 
-abbrev pub tell_by : Outcome → Plain → ℕ → ℕ → Plain
+abbrev pub tell_by : Result (Unit {0}) Refusal → Plain → ℕ → ℕ → Plain
 tell_by o m p code = when_done o (told_by (m.jobs p) m p code) (λ r. m)
 
 -- "an accepted collect removes the job, refused calls change nothing"
-abbrev pub collect_by : Collected → Plain → ℕ → Plain
-collect_by (Final a) m p = put_job m p none
-collect_by (NotCollected r) m p = m
+abbrev pub collect_by : Result ℕ Refusal → Plain → ℕ → Plain
+collect_by (Ok a) m p = put_job m p None
+collect_by (Err r) m p = m
 
 unfoldable pub plain_step : Plain → Item → Plain
 plain_step m (begin q memory a) = enters_plain a m q (brought_by q memory) (plan_for m.settings m.buffers q)

@@ -1,5 +1,5 @@
 -- The jobs marked * in document 01, each as a list of events with its collect: every one is lawful, and answers 0.
-use Rattle.std.specs.Prelude.{◌≡◌, refl, true, false, List, [], ◌∷◌, ◌++◌, ℕ, ◌*◌, ◌-◌, ◌^◌, length, replicate}
+use Rattle.std.specs.Prelude.{◌≡◌, refl, true, false, List, [], ◌∷◌, ◌++◌, ℕ, ◌*◌, ◌-◌, ◌^◌, length, replicate, Ok}
 use Rattle.vectors.specs.Vectors.{vector_of}
 use Rattle.dock.specs.Tell.{collect_of}
 use Rattle.dock.specs.Begin.{write_of, zeroes_of, discard_of}
@@ -7,7 +7,6 @@ use Rattle.arithmetic.specs.Offsets.{store_at}
 use Rattle.arithmetic.specs.Settings.{alignments}
 use Rattle.arithmetic.specs.declared.settings.Settings.{Settings}
 use Rattle.vectors.specs.Vectors.{segment}
-use Rattle.dock.specs.declared.tell.Collected.TheVariants.{Final}
 use Rattle.theorem_lists.specs.PlainStore.{plain_opened}
 use Rattle.theorem_lists.specs.Histories.{World, opened}
 use Rattle.theorem_lists.specs.Example.{served}
@@ -44,7 +43,7 @@ zeros n = replicate n 0
 abbrev pub Well : World → List Act → Type 0
 Well w job =
     ((collect_of (run w (plain_opened w.dock.settings w.dock.buffers w.store) job).real.dock 0 (length w.memory)
-    (length w.scratch)).answer ≡ Final 0)
+    (length w.scratch)).answer ≡ Ok 0)
     × (all_allowed w (job ++ (collect 0 ∷ [])) ≡ true)
 
 pub record StarredLists : Type 0 where

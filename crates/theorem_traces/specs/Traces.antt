@@ -1,8 +1,7 @@
 -- Document 01, "Traced jobs": a job run through the dock's own definitions, with the store's codes given. Which requests come, what each
 -- was asked for, where its pieces lie, which blocker it has; and every answer by its number.
-use Rattle.std.specs.Prelude.{◌≡◌, refl, false, List, [], ◌∷◌, ◌++◌, ℕ, zero, suc, ◌*◌, ◌-◌, ◌^◌, length, replicate}
+use Rattle.std.specs.Prelude.{◌≡◌, refl, false, List, [], ◌∷◌, ◌++◌, ℕ, zero, suc, ◌*◌, ◌-◌, ◌^◌, length, replicate, Result, Ok, Err}
 use Rattle.arithmetic.specs.Offsets.{store_at}
-use Rattle.arithmetic.specs.declared.refusals.Outcome.TheVariants.{Done}
 use Rattle.vectors.specs.Vectors.{vector_of, segment}
 use Rattle.blockers.specs.Blockers.{blocker_at}
 use Rattle.blockers.specs.declared.Kind.{Kind as Blocking}
@@ -19,9 +18,10 @@ use Rattle.dock.specs.Computing.{computing}
 use Rattle.dock.specs.declared.dock.Dock.{Dock}
 use Rattle.dock.specs.declared.begin.Asked.{Asked}
 use Rattle.dock.specs.declared.next.Due.{Due}
-use Rattle.dock.specs.declared.next.Due.TheVariants.{Waiting, Make, Answer, Refused as NotDue}
+use Rattle.dock.specs.declared.next.Due.TheVariants.{Waiting, Make, Answer}
 use Rattle.dock.specs.declared.next.Piece.{Piece}
 use Rattle.dock.specs.declared.next.Piece.TheVariants.{InData, InScratch}
+use Rattle.arithmetic.specs.declared.refusals.Refusal.{Refusal}
 
 -- ---- what is seen of a job
 
@@ -32,9 +32,9 @@ pub record Asking : Type 0 where
 
 -- before a tell: what next shows, what the stage was asked for, where the request's pieces lie, and the blocker that the job has
 pub record Seen : Type 0 where
-  pub due : Due
+  pub due : Result Due Refusal
   pub asked : Asking
-  pub pieces : List Piece
+  pub pieces : List (Result Piece Refusal)
   pub blocker : Blocking
 
 -- what begin answers, what is seen before each tell, what next shows after the last one, and what collect answers
@@ -45,16 +45,16 @@ pub record Trace : Type 0 where
   pub collected : Paper
 
 -- pieces 0 to k - 1
-abbrev pub pieces_of : Dock → ℕ → ℕ → ℕ → ℕ → List Piece
+abbrev pub pieces_of : Dock → ℕ → ℕ → ℕ → ℕ → List (Result Piece Refusal)
 pieces_of d p m n zero = []
 pieces_of d p m n (suc k) = pieces_of d p m n k ++ (piece_of d p k m n ∷ [])
 
 -- how many pieces what is due has
-abbrev pub count_of : Due → ℕ
-count_of Waiting = 0
-count_of (Make q) = q.segments
-count_of (Answer a) = 0
-count_of (NotDue r) = 0
+abbrev pub count_of : Result Due Refusal → ℕ
+count_of (Ok Waiting) = 0
+count_of (Ok (Make q)) = q.segments
+count_of (Ok (Answer a)) = 0
+count_of (Err r) = 0
 
 abbrev pub seen_in : Dock → ℕ → ℕ → ℕ → Seen
 seen_in d p m n =
@@ -106,7 +106,7 @@ begun row share q = begin_of (dock_of row share) q memory (replicate (8 * share)
 abbrev pub traced : ℕ → ℕ → Asked → List ℕ → Trace
 traced row share q codes =
     let b = begun row share q in
-    driven codes (begun_paper b.answer) 0 (record { dock = b.dock; outcome = Done; memory = memory; scratch = b.scratch })
+    driven codes (begun_paper b.answer) 0 (record { dock = b.dock; outcome = (Ok tt); memory = memory; scratch = b.scratch })
 
 -- "Row index 1, share 4096, one piece unless said": n bytes at o
 abbrev pub writes : ℕ → ℕ → List ℕ → Trace
@@ -125,9 +125,9 @@ abbrev pub at : ℕ → ℕ → Asking
 at n o = record { bytes = n; offset = o }
 
 -- "0+512 is offset 0, length 512", its pieces as listed
-abbrev pub request : Kind → ℕ → ℕ → List Piece → Asking → Blocking → Seen
+abbrev pub request : Kind → ℕ → ℕ → List (Result Piece Refusal) → Asking → Blocking → Seen
 request k o n ps asked blocker = record {
-  due = Make (record { kind = k; offset = store_at o; length = n; segments = length ps });
+  due = (Ok (Make (record { kind = k; offset = store_at o; length = n; segments = length ps })));
   asked = asked;
   pieces = ps;
   blocker = blocker;
@@ -135,10 +135,10 @@ request k o n ps asked blocker = record {
 
 -- requests of one padded write, asked for r: their bytes lie in the share, from a on, and its blocker is strong
 abbrev pub read : ℕ → ℕ → ℕ → Asking → Seen
-read o n a r = request Read o n (InScratch (segment a n) ∷ []) r Strong
+read o n a r = request Read o n ((Ok (InScratch (segment a n))) ∷ []) r Strong
 
 abbrev pub write : ℕ → ℕ → ℕ → Asking → Seen
-write o n a r = request Write o n (InScratch (segment a n) ∷ []) r Strong
+write o n a r = request Write o n ((Ok (InScratch (segment a n))) ∷ []) r Strong
 
 abbrev pub padded : Asking → List (Asking → Seen) → List Seen
 padded r [] = []
@@ -146,7 +146,7 @@ padded r (q ∷ qs) = q r ∷ padded r qs
 
 -- requests that go to the store as they are: a write of the data's bytes, from a on, and a zero request; their blocker is weak
 abbrev pub unpadded : ℕ → ℕ → ℕ → List Seen
-unpadded o n a = request Write o n (InData (segment a n) ∷ []) (at n o) Weak ∷ []
+unpadded o n a = request Write o n ((Ok (InData (segment a n))) ∷ []) (at n o) Weak ∷ []
 
 abbrev pub zeroed : ℕ → ℕ → List Seen
 zeroed o n = request Zero o n [] (at n o) Weak ∷ []

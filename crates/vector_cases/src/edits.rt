@@ -22,7 +22,12 @@ fn insert(
     start: usize,
     length: usize,
 ) -> io::Result<()> {
-    show::changed(rt, label, v, v.insert(index, Segment { start, length }, 100))
+    show::changed(
+        rt,
+        label,
+        v,
+        v.insert(index, Segment { start, length }, 100),
+    )
 }
 
 fn append(rt: &impl Print, label: &str, v: IoVector, other: IoVector) -> io::Result<()> {

@@ -6,8 +6,6 @@ use Rattle.arithmetic.specs.Rounding.{pick, fits, is_multiple}
 use Rattle.arithmetic.specs.Settings.{alignments_fit, length_align}
 use Rattle.arithmetic.specs.declared.refusals.Refusal.{Refusal}
 use Rattle.arithmetic.specs.declared.refusals.Refusal.TheVariants.{Unfit, Segment as BadSegment, Buffer}
-use Rattle.arithmetic.specs.declared.refusals.Outcome.{Outcome}
-use Rattle.arithmetic.specs.declared.refusals.Outcome.TheVariants.{Done, Refused}
 use Rattle.arithmetic.specs.declared.settings.Alignments.{Alignments}
 use Rattle.arithmetic.specs.declared.settings.Lent.{Lent}
 use Rattle.vectors.specs.declared.vector.Segment.{Segment}
@@ -171,8 +169,8 @@ fill_of memory (p ∷ ps) b = fill_of (put memory p.start (replicate p.length b)
 unfoldable pub copies : List ℕ → IoVector → ℕ → Bool
 copies memory v n = is_valid (length memory) v && eqb n v.total
 
-abbrev pub outcome_of : Bool → Outcome
-outcome_of t = pick t Done (Refused BadSegment)
+abbrev pub outcome_of : Bool → Result (Unit {0}) Refusal
+outcome_of t = pick t (Ok tt) (Err BadSegment)
 
 -- the slice, the memory that the slice is copied to, and the memory that the byte b fills: as they were where that is refused
 abbrev pub copied_into : List ℕ → IoVector → List ℕ → List ℕ

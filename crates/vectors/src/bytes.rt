@@ -5,7 +5,7 @@ ghost use Rattle.vectors.specs.Vectors.{copied_into, copied_from, filled_with};
 
 use crate::segments::{Segments, is_valid};
 use crate::vector::IoVector;
-use arithmetic::refusals::{Outcome, Refusal};
+use arithmetic::refusals::Refusal;
 
 // The front of `part` becomes that of `source`: as many bytes as both have.
 pub fn copy_bytes(part: &mut [u8], source: &[u8])
@@ -77,37 +77,37 @@ fn copies<V: Segments>(v: &V, data: &[u8], len: usize) -> bool
 }
 
 // `slice`, as long as the vector, becomes its bytes. Refused where it is of another length.
-pub fn copy_into_slice<V: Segments>(v: &V, data: &[u8], slice: &mut [u8]) -> Outcome
+pub fn copy_into_slice<V: Segments>(v: &V, data: &[u8], slice: &mut [u8]) -> Result<(), Refusal>
     ensures outcome { result
         ≡ outcome_of (copies «data».now (V.vector v.now) (length slice.old)) }
     ensures bytes { slice.new
         ≡ copied_into «data».now (V.vector v.now) slice.old }
 {
     if !copies(v, data, slice.len()) {
-        return Outcome::Refused(Refusal::Segment);
+        return Err(Refusal::Segment);
     }
     gather(v, data, slice);
-    Outcome::Done
+    Ok(())
 }
 
 // The bytes of `slice`, as long as the vector, go into its segments in order: where these overlap, the later wins. Refused
 // where it is of another length.
-pub fn copy_from_slice<V: Segments>(v: &V, data: &mut [u8], slice: &[u8]) -> Outcome
+pub fn copy_from_slice<V: Segments>(v: &V, data: &mut [u8], slice: &[u8]) -> Result<(), Refusal>
     ensures outcome { result
         ≡ outcome_of (copies «data».old (V.vector v.now) (length slice.now)) }
     ensures bytes { «data».new
         ≡ copied_from «data».old (V.vector v.now) slice.now }
 {
     if !copies(v, data, slice.len()) {
-        return Outcome::Refused(Refusal::Segment);
+        return Err(Refusal::Segment);
     }
     scatter(v, data, slice);
-    Outcome::Done
+    Ok(())
 }
 
 impl IoVector {
     // `slice`, as long as the vector, becomes its bytes. Refused where it is of another length.
-    pub fn copy_into_slice(self, data: &[u8], slice: &mut [u8]) -> Outcome
+    pub fn copy_into_slice(self, data: &[u8], slice: &mut [u8]) -> Result<(), Refusal>
         ensures outcome { result ≡ outcome_of (copies «data».now self (length slice.old)) }
         ensures bytes { slice.new ≡ copied_into «data».now self slice.old }
     {
@@ -116,7 +116,7 @@ impl IoVector {
 
     // The bytes of `slice`, as long as the vector, go into its segments in order: where these overlap, the later wins.
     // Refused where it is of another length.
-    pub fn copy_from_slice(self, data: &mut [u8], slice: &[u8]) -> Outcome
+    pub fn copy_from_slice(self, data: &mut [u8], slice: &[u8]) -> Result<(), Refusal>
         ensures outcome { result ≡ outcome_of (copies «data».old self (length slice.now)) }
         ensures bytes { «data».new ≡ copied_from «data».old self slice.now }
     {
@@ -124,19 +124,19 @@ impl IoVector {
     }
 
     // Every byte of the segments becomes `value`.
-    pub fn fill(self, data: &mut [u8], value: u8) -> Outcome
+    pub fn fill(self, data: &mut [u8], value: u8) -> Result<(), Refusal>
         ensures outcome { result ≡ outcome_of (is_valid (length «data».old) self) }
         ensures bytes { «data».new ≡ filled_with «data».old self value }
     {
         if !self.is_valid(data.len()) {
-            return Outcome::Refused(Refusal::Segment);
+            return Err(Refusal::Segment);
         }
         fill_segments(&self, data, value);
-        Outcome::Done
+        Ok(())
     }
 
     // A copy in a lent `buffer`, as long as the vector: there is no allocation. Refused where it is of another length.
-    pub fn try_into_owned(self, data: &[u8], buffer: &mut [u8]) -> Outcome
+    pub fn try_into_owned(self, data: &[u8], buffer: &mut [u8]) -> Result<(), Refusal>
         ensures outcome { result ≡ outcome_of (copies «data».now self (length buffer.old)) }
         ensures bytes { buffer.new ≡ copied_into «data».now self buffer.old }
     {

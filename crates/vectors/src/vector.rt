@@ -14,6 +14,7 @@ pub struct Segment {
     pub length: usize,
 }
 
+// An array with a count beside it: there is no heap, and words have any count (`vector_from`), which `is_valid` refuses past 16.
 #[derive(Clone, Copy)]
 pub struct IoVector {
     pub segments: [Segment; 16],

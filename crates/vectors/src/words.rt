@@ -51,7 +51,7 @@ impl Segments for [u64; 34] {
     }
 }
 
-// The vector in the words.
+// The vector in the words. This and its inverse are functions and no `From`: the words are read and written where they lie.
 pub fn get_vector(words: &[u64; 34]) -> IoVector
     ensures { result ≡ vector_from words.now }
 {

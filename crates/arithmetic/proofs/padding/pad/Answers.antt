@@ -3,7 +3,6 @@ use mathlib.Core.Path.{◌≡◌, sym, ◌∙◌}
 use mathlib.Core.Bool.{true}
 use Rattle.arithmetic.specs.Settings.{alignments_fit}
 use Rattle.arithmetic.specs.SettingsLaws.{aligned}
-use Rattle.arithmetic.specs.Padding.{padding_of}
 use Rattle.arithmetic.proofs.padding.pad.Goals as goal
 use Rattle.arithmetic.proofs.padding.pad.Goals.{Else-not-is_fit}
 
@@ -11,13 +10,5 @@ use Rattle.arithmetic.proofs.padding.pad.Goals.{Else-not-is_fit}
 fit_is : (c : Else-not-is_fit) → alignments_fit c.args.align ≡ true
 fit_is c = sym c.is_fit.ensures ∙ c.if-not-is_fit.false
 
-pub returns-then-not-is_fit : goal.returns-then-not-is_fit
-unfolding padding_of
-returns-then-not-is_fit c = simp (sym c.is_fit.ensures ∙ c.if-not-is_fit.true)
-
 pub pad_to-requires : goal.pad_to-requires
 pad_to-requires c = let k = aligned c.args.align (fit_is c.before) in rw c.length_align.ensures (k.req.positive, k.positive, k.req_le, k.of_req)
-
-pub returns : goal.returns
-unfolding padding_of
-returns c = simp (fit_is c.before.before) (rw (← c.length_align.ensures) c.pad_to.ensures)

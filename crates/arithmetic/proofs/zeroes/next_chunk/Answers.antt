@@ -7,7 +7,6 @@ use Prim.Native.Nat.{◌<◌}
 use native.Mathlib.Omega.{arith}
 use Rattle.arithmetic.specs.Settings.{settings_fit}
 use Rattle.arithmetic.specs.SettingsLaws.{accepted}
-use Rattle.arithmetic.specs.Zeroes.{chunk_of}
 use Rattle.arithmetic.specs.ZeroesLaws.{chunk_within}
 use Rattle.arithmetic.proofs.zeroes.next_chunk.Goals as goal
 use Rattle.arithmetic.proofs.zeroes.next_chunk.Goals.{Else-not-has_bytes, Else-not-is_fit}
@@ -22,23 +21,8 @@ some c = sym c.has_bytes.ensures ∙ c.if-not-has_bytes.false
 less : (c : Else-not-has_bytes) → c.args.range.start.0 < c.args.range.end.0
 less c = ltb-true c.args.range.start.0 c.args.range.end.0 (some c)
 
-pub returns-then-not-is_fit : goal.returns-then-not-is_fit
-unfolding chunk_of
-returns-then-not-is_fit c = simp (sym c.is_fit.ensures ∙ c.if-not-is_fit.true)
-
-pub returns-then-not-has_bytes : goal.returns-then-not-has_bytes
-unfolding chunk_of
-returns-then-not-has_bytes c = simp (fit_is c.before.before, sym c.has_bytes.ensures ∙ c.if-not-has_bytes.true)
-
-pub overflow_sub-end : goal.overflow_sub-end
-overflow_sub-end c = omega (arith, less c.before.before.before.before.before)
-
 pub chunk_length-n-requires : goal.chunk_length-n-requires
 chunk_length-n-requires c = (accepted c.args.settings (fit_is c.before.before.before.before.before.before.before)).align.req.positive
 
 pub overflow_add-chunk_end : goal.overflow_add-chunk_end
 overflow_add-chunk_end c = omega (arith, less c.before.before.before.before.before.before.before, c.chunk_length-n.ensures, chunk_within c.args.settings.align.req c.args.settings.bounce c.args.range.start.0 c.args.range.end.0)
-
-pub returns : goal.returns
-unfolding chunk_of
-returns c = rw c.chunk_length-n.ensures (simp (fit_is c.before.before.before.before.before.before.before.before.before, some c.before.before.before.before.before.before.before))

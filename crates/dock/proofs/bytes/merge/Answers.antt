@@ -5,7 +5,7 @@ use Rattle.dock.proofs.bytes.merge.Goals as goal
 
 pub returns-then-is_write_job : goal.returns-then-is_write_job
 returns-then-is_write_job c = let a = c.args in
-    merged_write a.start a.n a.job a.v a.«data».now a.scratch.now c.requires (sym c.is_write_job.ensures ∙ c.if-is_write_job.true) _ _ (sym c.in-Done.is ∙ c.copy_into_slice-copied.ensures.outcome) c.copy_into_slice-copied.ensures.bytes
+    merged_write a.start a.n a.job a.v a.«data».now a.scratch.now c.requires (sym c.is_write_job.ensures ∙ c.if-is_write_job.true) _ _ (sym c.in-Ok.is ∙ c.copy_into_slice-copied.ensures.outcome) c.copy_into_slice-copied.ensures.bytes
 
 pub returns : goal.returns
 returns c = let a = c.args in

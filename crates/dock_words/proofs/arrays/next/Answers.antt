@@ -1,4 +1,5 @@
 -- `dock_words::arrays::next` meets its contract: 205, 208, then what is due. Assumes nothing.
+use Rattle.std.specs.Prelude.{Result}
 use borrow.Author.Tests.{lt-ltb, le-ltb}
 use mathlib.Core.Path.{◌≡◌, sym, ap, ◌∙◌}
 use mathlib.Core.Bool.{Bool, true, false}
@@ -14,10 +15,11 @@ use Rattle.std.proofs.Common.{arith}
 use Rattle.vectors.specs.declared.vector.IoVector.{IoVector}
 use Rattle.dock_words.specs.Laws.{state_row, vector_row}
 use Rattle.dock_words.proofs.arrays.next.Goals as goal
+use Rattle.arithmetic.specs.declared.refusals.Refusal.{Refusal}
 
 -- what is due, where the lent buffers fit and the slot is one of the eight
 module _ (d : Dock) (p m n : ℕ) (f : lent_fits d.buffers m n ≡ true) (h : p < 8) where
-  due_there : {r : Due} {x : State} {w : Bool} {k : ℕ} → x ≡ state_at d p → w ≡ waits_of p d.blockers → k ≡ (vector_at d p).count → r ≡ due_in x w k → r ≡ next_of d p m n
+  due_there : {r : Result Due Refusal} {x : State} {w : Bool} {k : ℕ} → x ≡ state_at d p → w ≡ waits_of p d.blockers → k ≡ (vector_at d p).count → r ≡ due_in x w k → r ≡ next_of d p m n
   unfolding next_of
   due_there x w k e = simp (f, lt-ltb p 8 h) (e ∙ rw (x, w, k))
 

@@ -1,4 +1,5 @@
 -- `dock_words::arrays::piece` meets its contract: 205, 208, then the piece of the slot's job. Assumes nothing.
+use Rattle.std.specs.Prelude.{Result, Err}
 use borrow.Author.Tests.{lt-ltb, le-ltb}
 use mathlib.Core.Path.{◌≡◌, sym, ◌∙◌}
 use mathlib.Core.Bool.{true, false, and-false}
@@ -11,19 +12,19 @@ use Rattle.stages.specs.declared.state.State.{State}
 use Rattle.dock.specs.Dock.{lent_fits, state_at, vector_at, is_out_by, is_out}
 use Rattle.dock.specs.Next.{is_sound_of, piece_in, piece_of}
 use Rattle.dock.specs.declared.next.Piece.{Piece}
-use Rattle.dock.specs.declared.next.Piece.TheVariants.{Refused}
 use Rattle.dock.specs.declared.dock.Dock.{Dock}
 use Rattle.dock_words.specs.View.{buffers_of, dock_of}
 use Rattle.std.proofs.Common.{arith}
 use Rattle.dock_words.specs.Laws.{state_row, vector_row}
 use Rattle.dock_words.proofs.arrays.piece.Goals as goal
+use Rattle.arithmetic.specs.declared.refusals.Refusal.{Refusal}
 
 module _ (d : Dock) (p i m n : ℕ) (f : lent_fits d.buffers m n ≡ true) where
-  piece_not : is_out_by d.blockers (state_at d p) p ≡ false → Refused Slot ≡ piece_of d p i m n
+  piece_not : is_out_by d.blockers (state_at d p) p ≡ false → Err Slot ≡ piece_of d p i m n
   unfolding piece_of is_out
   piece_not o = simp (f, o, and-false)
 
-  piece_there : p < 8 → {r : Piece} {x : State} {s : Settings} {b : Buffers} {v : IoVector} → x ≡ state_at d p → is_out_by d.blockers x p ≡ true → s ≡ d.settings → b ≡ d.buffers → v ≡ vector_at d p
+  piece_there : p < 8 → {r : Result Piece Refusal} {x : State} {s : Settings} {b : Buffers} {v : IoVector} → x ≡ state_at d p → is_out_by d.blockers x p ≡ true → s ≡ d.settings → b ≡ d.buffers → v ≡ vector_at d p
       → r ≡ piece_in p s b x v i m → r ≡ piece_of d p i m n
   unfolding piece_of is_out is_sound_of piece_in
   piece_there h x o s b v e = let q : is_out_by d.blockers (state_at d p) p ≡ true = rw x at o in simp (f, lt-ltb p 8 h, q) (e ∙ rw (x, s, b, v) (simp (lt-ltb p 8 h)))

@@ -1,4 +1,5 @@
 -- `tables::words::row_of` meets its contract: the four words of the row. Assumes nothing.
+use Rattle.std.specs.Prelude.{Ok}
 use native.Mathlib.Omega.{arith}
 use mathlib.Core.Path.{◌≡◌, sym, ap, ◌∙◌}
 use mathlib.Core.List.{List}
@@ -7,7 +8,6 @@ use lib.ListN.{length, take, drop, length-drop}
 use lib.Seq.{take_all}
 use Rattle.std.specs.Simd.{first_chunks}
 use mathlib.Core.Logic.{inl, inr}
-use Rattle.arithmetic.specs.declared.settings.Profile.TheVariants.{Of}
 use Rattle.tables.specs.TablesLaws.{past_last, row_there}
 use Rattle.tables.specs.Words.{table_from}
 use Rattle.tables.specs.WordsLaws.{chunk_row, table_rows}
@@ -35,4 +35,4 @@ unfolding table_from
 returns c = let w = c.args.table.now in
     let i = c.args.index in
     rw (rows_in w _ c.told-table c.as_chunks.ensures.front)
-    (ap Of (chunk_row w i) ∙ sym (row_there (table_from w) i (search rules) (omega (arith, table_rows w, c.if-index-ge-MOST_ROWS.false))))
+    (ap Ok (chunk_row w i) ∙ sym (row_there (table_from w) i (search rules) (omega (arith, table_rows w, c.if-index-ge-MOST_ROWS.false))))

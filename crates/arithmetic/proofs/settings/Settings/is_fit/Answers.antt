@@ -2,7 +2,7 @@
 use mathlib.Core.Path.{◌≡◌, sym, ◌∙◌}
 use mathlib.Core.Bool.{true}
 use native.Mathlib.Omega.{arith}
-use Rattle.arithmetic.specs.Settings.{alignments_fit, bounce_fits, settings_fit}
+use Rattle.arithmetic.specs.Settings.{alignments_fit}
 use Rattle.arithmetic.specs.SettingsLaws.{Aligned, aligned}
 use Rattle.arithmetic.proofs.settings.Settings.is_fit.Goals as goal
 use Rattle.arithmetic.proofs.settings.Settings.is_fit.Goals.{Else-not-is_fit}
@@ -14,10 +14,6 @@ fit_is c = sym c.is_fit.ensures ∙ c.if-not-is_fit.false
 known : (c : Else-not-is_fit) → Aligned c.args.self.align
 known c = aligned c.args.self.align (fit_is c)
 
-pub returns-then-not-is_fit : goal.returns-then-not-is_fit
-unfolding settings_fit
-returns-then-not-is_fit c = simp (sym c.is_fit.ensures ∙ c.if-not-is_fit.true)
-
 pub overflow_mul-result : goal.overflow_mul-result
 overflow_mul-result c = omega (arith, (known c.before.before.before).zero.most)
 
@@ -26,7 +22,3 @@ overflow_mul-result-2 c = omega (arith, c.length_align-l.ensures, (known c.befor
 
 pub overflow_add-result : goal.overflow_add-result
 overflow_add-result c = omega (arith, c.length_align-l.ensures, (known c.before.before.before).most, (known c.before.before.before).zero.most)
-
-pub returns : goal.returns
-unfolding settings_fit bounce_fits
-returns c = simp (fit_is c.before.before.before, c.is_multiple-whole.ensures, c.length_align-l.ensures)
