@@ -2,17 +2,20 @@
  *   FAULT_SHORT=1         every other transfer moves half of its bytes
  *   FAULT_EINTR=1         every third transfer, and every other fallocate, is interrupted first
  *   FAULT_DELAY_US=N      each transfer takes so long
+ *   FAULT_TOGETHER=N,S    each transfer waits until N are out, which then go on together; after S seconds it fails with ETIME
  *   FAULT_READ=N,ERRNO    the Nth read fails with that error; so do FAULT_WRITE, FAULT_FALLOCATE, FAULT_FSYNC (N = 0: each)
  *   FAULT_RENAME=N,ERRNO  the Nth rename fails with that error
  * `cc -shared -fPIC -O1 faults.c -o faults.so -ldl -pthread` */
 #define _GNU_SOURCE
 #include <dlfcn.h>
 #include <errno.h>
+#include <pthread.h>
 #include <stdatomic.h>
 #include <stdio.h>
 #include <stdlib.h>
 #include <sys/types.h>
 #include <sys/uio.h>
+#include <time.h>
 #include <unistd.h>
 
 static atomic_ulong transfers, reads, writes, fallocates, fsyncs, renames;
@@ -35,6 +38,38 @@ static int is_failing(const char *name, atomic_ulong *count)
     return 1;
 }
 
+/* Whether as many transfers as FAULT_TOGETHER says have come, which then go on together; otherwise errno says that they did not. */
+static int has_met(void)
+{
+    static pthread_mutex_t meeting = PTHREAD_MUTEX_INITIALIZER;
+    static pthread_cond_t all_here = PTHREAD_COND_INITIALIZER;
+    static long here, meetings;
+    const char *text = getenv("FAULT_TOGETHER");
+    struct timespec until;
+    long wanted, seconds, mine;
+    int late = 0, met;
+    if (!text || sscanf(text, "%ld,%ld", &wanted, &seconds) != 2)
+        return 1;
+    clock_gettime(CLOCK_MONOTONIC, &until);
+    until.tv_sec += seconds;
+    pthread_mutex_lock(&meeting);
+    mine = meetings;
+    if (++here == wanted) {
+        here = 0;
+        meetings++;
+        pthread_cond_broadcast(&all_here);
+    }
+    while (meetings == mine && !late)
+        late = pthread_cond_clockwait(&all_here, &meeting, CLOCK_MONOTONIC, &until);
+    met = meetings != mine;
+    if (!met)
+        here--;
+    pthread_mutex_unlock(&meeting);
+    if (!met)
+        errno = ETIME;
+    return met;
+}
+
 /* How many of `length` bytes a transfer moves; 0 where it is interrupted instead. */
 static size_t allowed(size_t length)
 {
@@ -55,7 +90,7 @@ static size_t allowed(size_t length)
     ssize_t name(int fd, buffer bytes, size_t length, off64_t offset)                                       \
     {                                                                                                       \
         if (fd > 2) {                                                                                       \
-            if (is_failing(fault, &count))                                                                  \
+            if (is_failing(fault, &count) || !has_met())                                                    \
                 return -1;                                                                                  \
             if (length && !(length = allowed(length))) {                                                    \
                 errno = EINTR;                                                                              \
@@ -74,7 +109,7 @@ TRANSFER(pwrite64, const void *, "FAULT_WRITE", writes)
     {                                                                                                       \
         size_t let;                                                                                         \
         if (fd > 2) {                                                                                       \
-            if (is_failing(fault, &count))                                                                  \
+            if (is_failing(fault, &count) || !has_met())                                                    \
                 return -1;                                                                                  \
             if (!(let = allowed((size_t)n + 1))) {                                                          \
                 errno = EINTR;                                                                              \
