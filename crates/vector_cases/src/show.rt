@@ -42,7 +42,11 @@ pub fn changed(
     v: IoVector,
     c: Result<IoVector, Refusal>,
 ) -> io::Result<()> {
-    println!(rt; "{label}: {}, {}", Became(c.err()), Shown(&c.unwrap_or(v)))
+    println!(rt;
+        "{label}: {}, {}",
+        Became(c.err()),
+        Shown(&v.vector_after(c))
+    )
 }
 
 // The parts of v: where the split is refused, v as it was and an empty one.
@@ -53,11 +57,7 @@ pub fn halves(
     h: Result<Halves, Refusal>,
 ) -> io::Result<()> {
     print!(rt; "split at {mid}: {}, ", Became(h.err()))?;
-    let parts = h.unwrap_or(Halves {
-        head: v,
-        tail: IoVector::new(),
-        looked: 0,
-    });
+    let parts = v.halves_after(h);
     println!(rt;
         "{} | {}, {} looked at",
         Shown(&parts.head),
@@ -69,10 +69,7 @@ pub fn halves(
 // The tail of v: where the split is refused, v as it was.
 pub fn tail(rt: &impl Print, v: IoVector, mid: u64, t: Result<Tail, Refusal>) -> io::Result<()> {
     print!(rt; "tail from {mid}: {}, ", Became(t.err()))?;
-    let rest = t.unwrap_or(Tail {
-        vector: v,
-        looked: 0,
-    });
+    let rest = v.tail_after(t);
     println!(rt; "{}, {} looked at", Shown(&rest.vector), rest.looked)
 }
 

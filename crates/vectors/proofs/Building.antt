@@ -99,7 +99,7 @@ module _ (v₀ : IoVector) (qs : List Segment) (v : IoVector) (i : ℕ) (g : Joi
         is = e ∙ ap vector_of (ap (λ (l : List Segment). l ++ (get_or qs i none ∷ [])) s₁ ∙ append_assoc (segments_of v₀) (take i qs) (get_or qs i none ∷ []) ∙ ap (λ (l : List Segment). segments_of v₀ ++ l) (sym taken));
       }
 
--- ---- what a caller of `join` and `add` shows, over the vector of a list
+-- ---- what a caller of `join` and `put_last` shows, over the vector of a list
 
 -- the segments of a vector that is that of a list
 pub its : {u : IoVector} {xs : List Segment} → u ≡ vector_of xs → segments_of u ≡ xs

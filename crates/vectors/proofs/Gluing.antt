@@ -1,5 +1,5 @@
 -- A vector with segments glued behind its own: the last one made longer, or one more, and the rest joined. Assumes nothing.
-use Rattle.std.specs.Prelude.{Some, None}
+use Rattle.std.specs.Prelude.{Option, Some, None, Err, ok_or}
 use mathlib.Core.Path.{◌≡◌, refl, sym, ap, ◌∙◌}
 use mathlib.Core.Bool.{true, false, false≢true}
 use mathlib.Core.List.{List, [], ◌∷◌, ◌++◌}
@@ -9,10 +9,12 @@ use native.Mathlib.Omega.{arith}
 use lib.ListN.{length, take, drop, get_or, set, replicate, length-append, length-take, length-drop}
 use lib.Seq.{set-append_left, length-take-le}
 use borrow.Author.Tests.{le-leb, lt-leb}
+use Rattle.arithmetic.specs.declared.refusals.Refusal.{Refusal}
+use Rattle.arithmetic.specs.declared.refusals.Refusal.TheVariants.{Segment as BadSegment}
 use Rattle.vectors.specs.declared.vector.Segment.{Segment}
 use Rattle.vectors.specs.declared.vector.IoVector.{IoVector}
 use Rattle.vectors.specs.Vectors.{none, segments_of, size_of, vector_of, touches, glued}
-use Rattle.vectors.specs.Joining.{Room, Joins, last_touches, Gluing, Lengthens, GluesAll, glued_of}
+use Rattle.vectors.specs.Joining.{Room, Joins, last_touches, Gluing, Lengthens, GluesAll, glued_of, vector_if}
 use Rattle.vectors.specs.SegmentLaws.{size_cut, size_at}
 use Rattle.vectors.specs.SeamLaws.{joint, glued_size, last_is, glued_last, glued_length, glued_apart, glued_nothing, glued_more}
 use Rattle.vectors.proofs.Pass.{nth, in_use, same, first}
@@ -109,6 +111,18 @@ module _ (v : IoVector) (qs : List Segment) where
     | yes h ↦ let f = glue_fits (vector_of (glued (segments_of v) qs)) h refl in cc
     | no h ↦ omega arith
   ]
+
+-- what a caller learns of one that does it in place, by whether it says that it fits
+module _ {o : Option (Unit {0})} where
+  pub fitted : {v : IoVector} {g : Option IoVector} → o ≡ Some tt → vector_if o v ≡ g → Some v ≡ g
+  fitted {v} z e = ap (λ (x : Option (Unit {0})). vector_if x v) (sym z) ∙ e
+
+  pub not_fitted : (v : IoVector) {g : Option IoVector} → o ≡ None → vector_if o v ≡ g → None ≡ g
+  not_fitted v z e = ap (λ (x : Option (Unit {0})). vector_if x v) (sym z) ∙ e
+
+  -- 202 is the refusal
+  pub refused_is : {r : Refusal} → o ≡ None → Err r ≡ ok_or o BadSegment → r ≡ BadSegment
+  refused_is z e = let f = e ∙ ap (λ (x : Option (Unit {0})). ok_or x BadSegment) z in cc
 
 -- ---- `glue`
 

@@ -45,3 +45,8 @@ pub record GluesAll (v w : IoVector) (s n : ℕ) : Type 0 where
 -- v with qs glued behind its segments, where the whole is at most 16
 unfoldable pub glued_of : IoVector → List Segment → Option IoVector
 glued_of v qs = pick (leb (length (glued (segments_of v) qs)) 16) (Some (vector_of (glued (segments_of v) qs))) None
+
+-- the vector that such a call leaves in place, where it fits
+abbrev pub vector_if : Option (Unit {0}) → IoVector → Option IoVector
+vector_if (Some u) v = Some v
+vector_if None v = None

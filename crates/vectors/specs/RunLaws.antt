@@ -15,17 +15,16 @@ use Rattle.arithmetic.specs.declared.refusals.Refusal.{Refusal}
 use Rattle.arithmetic.specs.declared.refusals.Refusal.TheVariants.{Segment as BadSegment}
 use Rattle.vectors.specs.declared.vector.Segment.{Segment}
 use Rattle.vectors.specs.declared.vector.IoVector.{IoVector}
-use Rattle.vectors.specs.declared.vector.Halves.{Halves}
-use Rattle.vectors.specs.declared.vector.Tail.{Tail}
 use Rattle.vectors.specs.Vectors.{segment, segments_of, size_of, lies_in, all_segments, segments_fit, is_valid, touches, seam}
-use Rattle.vectors.specs.Vectors.{glued, refused_vector, changed_to, push_of, inserted_at, insert_of, append_of, head_of, tail_of, split_of}
-use Rattle.vectors.specs.Vectors.{vector_after, halves_of, rest_of, split_tail_of}
-use Rattle.vectors.specs.Runs.{not_empty, touches_first, none_touch, up_from, positions, run_from, runs, MaximalRuns, runs_or_refused}
+use Rattle.vectors.specs.Vectors.{glued, changed_to, push_of, inserted_at, insert_of, append_of, head_of, tail_of, split_of}
+use Rattle.vectors.specs.Vectors.{refused_vector, vector_after, vector_of, halves_of, rest_of, split_tail_of, halves_after, tail_after}
+use Rattle.vectors.specs.Runs.{not_empty, touches_first, none_touch, up_from, positions, run_from, runs, MaximalRuns}
+use Rattle.vectors.specs.Runs.{runs_or_refused, RunsAs}
 use Rattle.vectors.specs.Places.{place_of}
 use Rattle.vectors.specs.SegmentLaws.{valid, segments_of_lem, all_cut}
 use Rattle.vectors.specs.SplitLaws.{cases}
 use Rattle.vectors.specs.SeamLaws.{Touching, same_end, seam_cases, glued_lies, glued_none_touch}
-use Rattle.vectors.specs.EditLaws.{EditedTo, pushed, inserted, appended}
+use Rattle.vectors.specs.EditLaws.{EditedTo, LeftAs, pushed, inserted, appended}
 
 -- ---- positions
 
@@ -280,6 +279,14 @@ module _ (n : ℕ) where
       sym (runs_only (positions ps) ps (record { same = refl; filled = lies_filled ps a.lie; longest = a.none_touch_lem })) in
       rw (e, a.lie, r, positions_length ps)
 
+  runs_as : (v : IoVector) (xs : List ℕ) (c : Result IoVector Refusal) → c ≡ runs_or_refused xs → RunsAs v xs c
+  unfolding runs_or_refused
+  runs_as v xs c e = (e, ap (vector_after v) e ∙ go (leb (length (runs xs)) 16 && leb (length xs) 1048576))
+    where
+      go : (t : Bool) → vector_after v (pick t (Ok (vector_of (runs xs))) refused_vector) ≡ pick t (vector_of (runs xs)) v
+      go true = refl
+      go false = refl
+
   module _ (v : IoVector) (e : is_valid n v ≡ true) (t : none_touch (segments_of v) ≡ true) where
     own : Separate (segments_of v)
     own = record { lie = (valid n v e).fit.lie; none_touch_lem = t }
@@ -290,16 +297,16 @@ module _ (n : ℕ) where
       one = record { lie = both _ _ f refl; none_touch_lem = refl }
 
       -- push gives the maximal runs of the positions, or 202 for more than 16 runs or more than 1,048,576 positions
-      pub push_runs : push_of n v p ≡ runs_or_refused (positions (segments_of v ++ (p ∷ [])))
+      pub push_runs : RunsAs v (positions (segments_of v ++ (p ∷ []))) (push_of n v p)
       unfolding push_of
       push_runs =
           let ps = segments_of v in
-          rw f (changed_runs v (glued ps (p ∷ [])) e (glued_separate ps (p ∷ []) own one)
-          ∙ ap runs_or_refused (glued_positions ps (p ∷ [])))
+          runs_as v _ _ (rw f (changed_runs v (glued ps (p ∷ [])) e (glued_separate ps (p ∷ []) own one)
+          ∙ ap runs_or_refused (glued_positions ps (p ∷ []))))
 
       -- and so does insert
       pub insert_runs : (i : ℕ) → i ≤ v.count →
-          insert_of n v i p ≡ runs_or_refused (positions (take i (segments_of v) ++ (p ∷ drop i (segments_of v))))
+          RunsAs v (positions (take i (segments_of v) ++ (p ∷ drop i (segments_of v)))) (insert_of n v i p)
       unfolding insert_of inserted_at
       insert_runs i h =
           let ps = segments_of v in
@@ -309,18 +316,19 @@ module _ (n : ℕ) where
           glued_positions front (drop i ps) ∙ positions_append front (drop i ps)
           ∙ ap (λ (l : List ℕ). l ++ positions (drop i ps)) (glued_positions (take i ps) (p ∷ []))
           ∙ sym (positions_append (take i ps ++ (p ∷ [])) (drop i ps)) ∙ ap positions (append_snoc (take i ps) p (drop i ps)) in
-          rw (le-leb i v.count h, f) (changed_runs v (glued front (drop i ps)) e
-          (glued_separate front (drop i ps) (glued_separate (take i ps) (p ∷ []) a.0 one) a.1) ∙ ap runs_or_refused x)
+          runs_as v _ _ (rw (le-leb i v.count h, f) (changed_runs v (glued front (drop i ps)) e
+          (glued_separate front (drop i ps) (glued_separate (take i ps) (p ∷ []) a.0 one) a.1) ∙ ap runs_or_refused x))
 
     -- and append
     pub append_runs : (w : IoVector) → is_valid n w ≡ true → none_touch (segments_of w) ≡ true →
-        append_of n v w ≡ runs_or_refused (positions (segments_of v ++ segments_of w))
+        RunsAs v (positions (segments_of v ++ segments_of w)) (append_of n v w)
     unfolding append_of
     append_runs w f u =
         let ps = segments_of v in
         let qs = segments_of w in
-        rw f (changed_runs v (glued ps qs) e (glued_separate ps qs own (record { lie = (valid n w f).fit.lie; none_touch_lem = u }))
-        ∙ ap runs_or_refused (glued_positions ps qs))
+        runs_as v _ _ (rw f (changed_runs v (glued ps qs) e
+        (glued_separate ps qs own (record { lie = (valid n w f).fit.lie; none_touch_lem = u }))
+        ∙ ap runs_or_refused (glued_positions ps qs)))
 
 -- ---- no two neighbours of a vector touch
 
@@ -329,8 +337,8 @@ NoneTouch v = none_touch (segments_of v) ≡ true
 
 -- what the caller has after a call keeps it where the segments that the call would give do
 kept : (n : ℕ) (v : IoVector) (ps : List Segment) (c : Result IoVector Refusal) → NoneTouch v → none_touch ps ≡ true
-    → EditedTo n ps c ⊎ (c ≡ refused_vector) → NoneTouch (vector_after v c)
-kept n v ps c e f r = ⊎_elim (λ d. rw d.done (rw d.segments f)) (λ d. rw d e) r
+    → EditedTo n ps c ⊎ LeftAs v c → NoneTouch (vector_after v c)
+kept n v ps c e f r = ⊎_elim (λ d. rw d.done (rw d.segments f)) (λ d. rw d.1 e) r
 
 module _ (n : ℕ) (v : IoVector) (e : NoneTouch v) where
   pub push_keeps : (p : Segment) → NoneTouch (vector_after v (push_of n v p))
@@ -352,31 +360,26 @@ module _ (n : ℕ) (v : IoVector) (e : NoneTouch v) where
       kept n v (glued (segments_of v) (segments_of w)) (append_of n v w) e (glued_none_touch (segments_of w) (segments_of v) e f)
       (appended n v w)
 
-  -- both parts of a split
-  pub split_keeps : (mid : ℕ) (h : Halves) → split_of n v mid ≡ Ok h → NoneTouch h.head × NoneTouch h.tail
-  unfolding split_of
-  split_keeps mid h = go (is_valid n v)
+  -- both parts of a split, refused or not
+  pub split_keeps : (mid : ℕ) → NoneTouch (halves_after v (split_of n v mid)).head × NoneTouch (halves_after v (split_of n v mid)).tail
+  unfolding split_of none_touch vector_of
+  split_keeps mid = go (is_valid n v)
     where
       ps : List Segment
       ps = segments_of v
 
-      parts : NoneTouch (halves_of v mid).head × NoneTouch (halves_of v mid).tail
-      parts = rw (segments_of_lem (head_of ps mid), segments_of_lem (tail_of ps mid)) (head_none_touch ps mid e, tail_none_touch ps mid e)
+      go : (t : Bool) → NoneTouch (halves_after v (pick t (Ok (halves_of v mid)) (Err BadSegment))).head
+          × NoneTouch (halves_after v (pick t (Ok (halves_of v mid)) (Err BadSegment))).tail
+      go true = rw (segments_of_lem (head_of ps mid), segments_of_lem (tail_of ps mid)) (head_none_touch ps mid e, tail_none_touch ps mid e)
+      go false = (e, refl)
 
-      go : (t : Bool) → pick t (Ok (halves_of v mid)) (Err BadSegment) ≡ Ok h → NoneTouch h.head × NoneTouch h.tail
-      go true f = let i : h ≡ halves_of v mid = cc in rw i parts
-      go false f = cc
-
-  pub split_tail_keeps : (mid : ℕ) (t : Tail) → split_tail_of n v mid ≡ Ok t → NoneTouch t.vector
+  pub split_tail_keeps : (mid : ℕ) → NoneTouch (tail_after v (split_tail_of n v mid)).vector
   unfolding split_tail_of
-  split_tail_keeps mid t = go (is_valid n v)
+  split_tail_keeps mid = go (is_valid n v)
     where
-      rest : NoneTouch (rest_of v mid).vector
-      rest = rw (segments_of_lem (tail_of (segments_of v) mid)) (tail_none_touch (segments_of v) mid e)
-
-      go : (b : Bool) → pick b (Ok (rest_of v mid)) (Err BadSegment) ≡ Ok t → NoneTouch t.vector
-      go true f = let i : t ≡ rest_of v mid = cc in rw i rest
-      go false f = cc
+      go : (t : Bool) → NoneTouch (tail_after v (pick t (Ok (rest_of v mid)) (Err BadSegment))).vector
+      go true = rw (segments_of_lem (tail_of (segments_of v) mid)) (tail_none_touch (segments_of v) mid e)
+      go false = e
 
 -- ---- computed
 

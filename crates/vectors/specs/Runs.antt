@@ -4,7 +4,7 @@ use Rattle.arithmetic.specs.Rounding.{pick}
 use Rattle.arithmetic.specs.declared.refusals.Refusal.{Refusal}
 use Rattle.vectors.specs.declared.vector.Segment.{Segment}
 use Rattle.vectors.specs.declared.vector.IoVector.{IoVector}
-use Rattle.vectors.specs.Vectors.{segment, all_segments, touches, vector_of, refused_vector}
+use Rattle.vectors.specs.Vectors.{segment, all_segments, touches, vector_of, refused_vector, vector_after}
 
 -- p touches the first of the segments
 unfoldable pub touches_first : Segment → List Segment → Bool
@@ -48,3 +48,8 @@ pub record MaximalRuns (xs : List ℕ) (ps : List Segment) : Type 0 where
 -- the vector of the runs of the positions xs: 202 for more than 16 of them, or more than 1,048,576 positions
 unfoldable pub runs_or_refused : List ℕ → Result IoVector Refusal
 runs_or_refused xs = pick (leb (length (runs xs)) 16 && leb (length xs) 1048576) (Ok (vector_of (runs xs))) refused_vector
+
+-- a call on v answers it, and its caller has that vector, or v as it was
+abbrev pub RunsAs : IoVector → List ℕ → Result IoVector Refusal → Type 0
+RunsAs v xs c = (c ≡ runs_or_refused xs)
+    × (vector_after v c ≡ pick (leb (length (runs xs)) 16 && leb (length xs) 1048576) (vector_of (runs xs)) v)

@@ -144,6 +144,16 @@ split_of n v mid = pick (is_valid n v) (Ok (halves_of v mid)) (Err BadSegment)
 unfoldable pub split_tail_of : ℕ → IoVector → ℕ → Result Tail Refusal
 split_tail_of n v mid = pick (is_valid n v) (Ok (rest_of v mid)) (Err BadSegment)
 
+-- what the caller has after a split: of a refused one the vector as it was and an empty one, and "looked at" is 0
+abbrev pub halves_after : IoVector → Result Halves Refusal → Halves
+halves_after v (Ok h) = h
+halves_after v (Err r) = record { head = v; tail = vector_of []; looked = 0 }
+
+-- and after one for the tail alone: of a refused one the vector as it was
+abbrev pub tail_after : IoVector → Result Tail Refusal → Tail
+tail_after v (Ok t) = t
+tail_after v (Err r) = record { vector = v; looked = 0 }
+
 -- ---- bytes: "each area is filled or used up before the next" (POSIX readv, writev)
 
 -- bs in the place of l's elements from a on

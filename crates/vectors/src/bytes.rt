@@ -128,7 +128,7 @@ impl IoVector {
         ensures outcome { result ≡ outcome_of (is_valid (length «data».old) self) }
         ensures bytes { «data».new ≡ filled_with «data».old self value }
     {
-        if !self.is_valid(data.len()) {
+        if !is_valid(&self, data.len()) {
             return Err(Refusal::Segment);
         }
         fill_segments(&self, data, value);

@@ -1,8 +1,8 @@
 // An I/O vector: up to 16 segments of the lent data, by value.
 ghost use Rattle.std.specs.Prelude.{◌≡◌, [], ◌∷◌, ◌++◌, ◌≤◌, eqb, take, drop};
 ghost use Rattle.vectors.specs.Vectors.{vector_of, segments_of, lies_in, is_valid, touches, glued};
-ghost use Rattle.vectors.specs.Vectors.{push_of, insert_of, append_of};
-ghost use Rattle.vectors.specs.Joining.{Room, Joins, last_touches, Lengthens, Gluing, GluesAll, glued_of};
+ghost use Rattle.vectors.specs.Vectors.{push_of, insert_of, append_of, vector_after};
+ghost use Rattle.vectors.specs.Joining.{Room, Joins, last_touches, Lengthens, Gluing, GluesAll, glued_of, vector_if};
 
 use crate::segments;
 use arithmetic::refusals::Refusal;
@@ -117,8 +117,8 @@ impl IoVector {
         segments::is_valid(&self, data_len)
     }
 
-    // One segment more at the end, in place.
-    fn put_last(&mut self, segment: Segment)
+    // One segment more at the end.
+    pub(crate) fn put_last(&mut self, segment: Segment)
         requires { Room self.old segment }
         ensures { self.new ≡ vector_of (segments_of self.old ++ (segment ∷ [])) }
     {
@@ -127,31 +127,21 @@ impl IoVector {
         self.total += segment.length as u64;
     }
 
-    // With one segment more at the end.
-    pub(crate) fn add(mut self, segment: Segment) -> IoVector
-        requires { Room self segment }
-        ensures { result ≡ vector_of (segments_of self ++ (segment ∷ [])) }
-    {
-        self.put_last(segment);
-        self
-    }
-
-    // With n segments of `other`, from `start` on, at the end, as they are: nothing is looked at where the two meet. Each is
-    // put in place: by `add` the whole vector would be copied for each.
-    pub(crate) fn join(mut self, other: IoVector, start: usize, n: usize) -> IoVector
-        requires { Joins self other start n }
-        ensures { result ≡ vector_of (segments_of self ++ take n (drop start (segments_of other))) }
+    // n segments of `other` more, from `start` on, as they are: nothing is looked at where the two meet. This and what glues
+    // change the vector in place, and borrow the other: by value each call would copy 272 bytes.
+    pub(crate) fn join(&mut self, other: &IoVector, start: usize, n: usize)
+        requires { Joins self.old other.now start n }
+        ensures { self.new ≡ vector_of (segments_of self.old ++ take n (drop start (segments_of other.now))) }
     {
         for segment in &other.segments[start..start + n] {
             self.put_last(*segment);
         }
-        self
     }
 
     // Whether the last segment ends where `next` starts.
-    fn last_touches(self, next: Segment) -> bool
-        requires { self.count ≤ 16 }
-        ensures { result ≡ last_touches (segments_of self) next }
+    fn last_touches(&self, next: Segment) -> bool
+        requires { self.now.count ≤ 16 }
+        ensures { result ≡ last_touches (segments_of self.now) next }
     {
         match &self.segments[..self.count] {
             [.., last] => last.touches(next),
@@ -159,43 +149,45 @@ impl IoVector {
         }
     }
 
-    // With the last segment longer by `next`, which it touches.
-    fn lengthen(mut self, next: Segment) -> IoVector
-        requires { Lengthens self next }
-        ensures { result ≡ vector_of (glued (segments_of self) (next ∷ [])) }
+    // The last segment longer by `next`, which it touches.
+    fn lengthen(&mut self, next: Segment)
+        requires { Lengthens self.old next }
+        ensures { self.new ≡ vector_of (glued (segments_of self.old) (next ∷ [])) }
     {
         self.segments[self.count - 1].length += next.length;
         self.total += next.length as u64;
-        self
     }
 
-    // With `segment` at the end, as part of the last segment where they touch. It does not fit where it is a 17th.
-    fn glue(self, segment: Segment) -> Option<IoVector>
-        requires { Gluing self segment.length }
-        ensures { result ≡ glued_of self (segment ∷ []) }
+    // `segment` at the end, as part of the last segment where they touch. It does not fit where it is a 17th.
+    fn glue(&mut self, segment: Segment) -> Option<()>
+        requires { Gluing self.old segment.length }
+        ensures { vector_if result self.new ≡ glued_of self.old (segment ∷ []) }
     {
         if self.last_touches(segment) {
-            return Some(self.lengthen(segment));
+            self.lengthen(segment);
+            return Some(());
         }
         if self.count == MAX_COUNT {
             return None;
         }
-        Some(self.add(segment))
+        self.put_last(segment);
+        Some(())
     }
 
-    // With n segments of `other`, from `start` on, at the end: the first is glued. They do not fit where one is a 17th.
-    fn glue_all(self, other: IoVector, start: usize, n: usize) -> Option<IoVector>
-        requires { GluesAll self other start n }
-        ensures { result ≡ glued_of self (take n (drop start (segments_of other))) }
+    // n segments of `other` at the end, from `start` on: the first is glued. They do not fit where one is a 17th.
+    fn glue_all(&mut self, other: &IoVector, start: usize, n: usize) -> Option<()>
+        requires { GluesAll self.old other.now start n }
+        ensures { vector_if result self.new ≡ glued_of self.old (take n (drop start (segments_of other.now))) }
     {
         if n == 0 {
-            return Some(self);
+            return Some(());
         }
-        let first = self.glue(other.segments[start])?;
-        if MAX_COUNT - first.count < n - 1 {
+        self.glue(other.segments[start])?;
+        if MAX_COUNT - self.count < n - 1 {
             return None;
         }
-        Some(first.join(other, start + 1, n - 1))
+        self.join(other, start + 1, n - 1);
+        Some(())
     }
 
     // With `segment` at the end: where it starts where the last one ends, that one is longer by it. Refused where the
@@ -217,18 +209,22 @@ impl IoVector {
         ensures { result ≡ insert_of data_len self index segment }
     {
         let n = self.count;
-        let is_asked = (index <= n) & self.is_valid(data_len) & segment.lies_in(data_len);
+        let is_asked = (index <= n)
+            & segments::is_valid(&self, data_len)
+            & segment.lies_in(data_len);
         if !is_asked {
             return Err(Refusal::Segment);
         }
         if MAX_TOTAL - self.total < segment.length as u64 {
             return Err(Refusal::Segment);
         }
-        let front = IoVector::new().join(self, 0, index);
-        let glued = front.glue(segment).ok_or(Refusal::Segment)?;
-        glued
-            .glue_all(self, index, n - index)
-            .ok_or(Refusal::Segment)
+        let mut whole = IoVector::new();
+        whole.join(&self, 0, index);
+        whole.glue(segment).ok_or(Refusal::Segment)?;
+        whole
+            .glue_all(&self, index, n - index)
+            .ok_or(Refusal::Segment)?;
+        Ok(whole)
     }
 
     // With the segments of `other` at the end, the first of them as in push. Refused as push is, and where `other` is no
@@ -236,16 +232,25 @@ impl IoVector {
     pub fn append(self, other: IoVector, data_len: usize) -> Result<IoVector, Refusal>
         ensures { result ≡ append_of data_len self other }
     {
-        let is_asked = other.is_valid(data_len) & self.is_valid(data_len);
+        let is_asked = segments::is_valid(&other, data_len) & segments::is_valid(&self, data_len);
         if !is_asked {
             return Err(Refusal::Segment);
         }
         if MAX_TOTAL - self.total < other.total {
             return Err(Refusal::Segment);
         }
-        let front = IoVector::new().join(self, 0, self.count);
-        front
-            .glue_all(other, 0, other.count)
-            .ok_or(Refusal::Segment)
+        let mut whole = IoVector::new();
+        whole.join(&self, 0, self.count);
+        whole
+            .glue_all(&other, 0, other.count)
+            .ok_or(Refusal::Segment)?;
+        Ok(whole)
+    }
+
+    // What the caller of a push, an insert or an append of this vector has: of a refused one this vector.
+    pub fn vector_after(self, edited: Result<IoVector, Refusal>) -> IoVector
+        ensures { result ≡ vector_after self edited }
+    {
+        edited.unwrap_or(self)
     }
 }

@@ -10,10 +10,10 @@ use Rattle.vectors.proofs.Walking.{back_start, back_few, back_here, back_next}
 use Rattle.vectors.proofs.vector.IoVector.do_split_at.Goals as goal
 use Rattle.vectors.proofs.vector.IoVector.do_split_at.Goals.{Else-self-mid, Start}
 
-wide_of : (c : Start) → length c.args.self.segments ≡ 16
+wide_of : (c : Start) → length c.args.self.now.segments ≡ 16
 wide_of c = search (rules, array_long)
 
-before_end : (c : Else-self-mid) → c.args.mid < c.args.self.total
+before_end : (c : Else-self-mid) → c.args.mid < c.args.self.now.total
 before_end c = omega (arith, c.if-self-mid.false)
 
 pub returns-then-self-mid : goal.returns-then-self-mid

@@ -1,9 +1,11 @@
 -- `vectors::vector::IoVector::insert` meets its contract: each step glues what the tests showed to fit. Assumes nothing.
-use Rattle.std.proofs.Common.{Err, ◌≡◌, sym, ap, ◌∙◌, true, ◌&&◌, [], leb, length, arith, rules}
+use Rattle.std.specs.Prelude.{Some, None}
+use Rattle.std.proofs.Common.{Err, ◌≡◌, refl, sym, ap, ◌∙◌, true, ◌&&◌, [], leb, length, arith, rules}
 use Rattle.std.proofs.lemmas.Result.{err_from_is_err_and}
 use Rattle.arithmetic.specs.Loops.{array_long}
 use Rattle.vectors.specs.Vectors.{lies_in, is_valid}
 use Rattle.vectors.proofs.Building.{grown}
+use Rattle.vectors.proofs.Gluing.{fitted, not_fitted, refused_is}
 use Rattle.vectors.proofs.Editing.{tests_are, insert_not, insert_valid, insert_long, insert_first, insert_glues, insert_full}
 use Rattle.vectors.proofs.Editing.{insert_reach, insert_rest, insert_whole}
 use Rattle.vectors.proofs.vector.IoVector.insert.Goals as goal
@@ -26,25 +28,27 @@ overflow_sub-self c = let v = insert_valid _ _ _ _ (wide_of (goal.at.overflow_su
 pub returns-then-self-segment : goal.returns-then-self-segment
 returns-then-self-segment c = insert_long _ _ _ _ (wide_of (goal.at.returns-then-self-segment c).Start) (asked_of (goal.at.returns-then-self-segment c).Else-not-is_asked) c.if-self-segment.true
 
-pub join-front-requires : goal.join-front-requires
-join-front-requires c = insert_first _ _ _ _ (wide_of (goal.at.join-front-requires c).Start) (asked_of (goal.at.join-front-requires c).Else-not-is_asked) c.if-self-segment.false _ c.new.ensures
+pub join-requires : goal.join-requires
+join-requires c = insert_first _ _ _ _ (wide_of (goal.at.join-requires c).Start) (asked_of (goal.at.join-requires c).Else-not-is_asked) c.if-self-segment.false _ c.new-whole.ensures
 
 pub glue-requires : goal.glue-requires
-glue-requires c = insert_glues _ _ _ _ (wide_of (goal.at.glue-requires c).Start) (asked_of (goal.at.glue-requires c).Else-not-is_asked) c.if-self-segment.false _ (grown [] _ c.new.ensures c.join-front.ensures)
+glue-requires c = insert_glues _ _ _ _ (wide_of (goal.at.glue-requires c).Start) (asked_of (goal.at.glue-requires c).Else-not-is_asked) c.if-self-segment.false _ (grown [] _ c.new-whole.ensures c.join.ensures)
 
-pub returns-in_err-glued : goal.returns-in_err-glued
-returns-in_err-glued c = let p = err_from_is_err_and c.from_residual.result c.from_residual.ensures.1 in
-    p.1 ∙ ap Err p.2 ∙ c.in_err-glued.ensures.value
-    ∙ insert_full _ _ _ _ (wide_of (goal.at.returns-in_err-glued c).Start) (asked_of (goal.at.returns-in_err-glued c).Else-not-is_asked) c.if-self-segment.false
-    _ (grown [] _ c.new.ensures c.join-front.ensures) _ c.glue.ensures c.in_err-glued.ensures.ok_part
+pub returns-in_err-ok_or : goal.returns-in_err-ok_or
+returns-in_err-ok_or c = let p = err_from_is_err_and c.from_residual.result c.from_residual.ensures.1 in
+    let o = c.in_err-ok_or.ensures in
+    p.1 ∙ ap Err (p.2 ∙ refused_is o.ok_part o.value)
+    ∙ insert_full _ _ _ _ (wide_of (goal.at.returns-in_err-ok_or c).Start) (asked_of (goal.at.returns-in_err-ok_or c).Else-not-is_asked) c.if-self-segment.false
+    _ (grown [] _ c.new-whole.ensures c.join.ensures) None (not_fitted _ o.ok_part c.glue.ensures) refl
 
 pub overflow_sub-n : goal.overflow_sub-n
 overflow_sub-n c = insert_reach _ _ _ _ (wide_of (goal.at.overflow_sub-n c).Start) (asked_of (goal.at.overflow_sub-n c).Else-not-is_asked)
 
 pub glue_all-requires : goal.glue_all-requires
-glue_all-requires c = insert_rest _ _ _ _ (wide_of (goal.at.glue_all-requires c).Start) (asked_of (goal.at.glue_all-requires c).Else-not-is_asked) c.if-self-segment.false
-    _ (grown [] _ c.new.ensures c.join-front.ensures) _ (sym c.in_ok-glued.ensures.ok_part ∙ c.glue.ensures)
+glue_all-requires c = insert_rest _ _ _ _ (wide_of (goal.at.glue_all-requires c).Start) (asked_of (goal.at.glue_all-requires c).Else-not-is_asked) c.if-self-segment.false _ (grown [] _ c.new-whole.ensures c.join.ensures) _ (fitted c.in_ok-ok_or.ensures.ok_part c.glue.ensures)
+
+pub returns-in_err-ok_or-2 : goal.returns-in_err-ok_or-2
+returns-in_err-ok_or-2 c = let p = err_from_is_err_and c.from_residual-in_err-ok_or-2.result c.from_residual-in_err-ok_or-2.ensures.1 in let o = c.in_err-ok_or-2.ensures in p.1 ∙ ap Err (p.2 ∙ refused_is o.ok_part o.value) ∙ insert_whole _ _ _ _ (wide_of (goal.at.returns-in_err-ok_or-2 c).Start) (asked_of (goal.at.returns-in_err-ok_or-2 c).Else-not-is_asked) c.if-self-segment.false _ (grown [] _ c.new-whole.ensures c.join.ensures) _ (fitted c.in_ok-ok_or.ensures.ok_part c.glue.ensures) None (not_fitted _ o.ok_part c.glue_all.ensures)
 
 pub returns : goal.returns
-returns c = c.ok_or-2.ensures.value ∙ insert_whole _ _ _ _ (wide_of (goal.at.returns c).Start) (asked_of (goal.at.returns c).Else-not-is_asked) c.if-self-segment.false
-    _ (grown [] _ c.new.ensures c.join-front.ensures) _ (sym c.in_ok-glued.ensures.ok_part ∙ c.glue.ensures) _ c.glue_all.ensures
+returns c = insert_whole _ _ _ _ (wide_of (goal.at.returns c).Start) (asked_of (goal.at.returns c).Else-not-is_asked) c.if-self-segment.false _ (grown [] _ c.new-whole.ensures c.join.ensures) _ (fitted c.in_ok-ok_or.ensures.ok_part c.glue.ensures) (Some _) (fitted c.in_ok-ok_or-2.ensures.ok_part c.glue_all.ensures)

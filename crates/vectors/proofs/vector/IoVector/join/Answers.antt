@@ -3,7 +3,7 @@ use Rattle.vectors.proofs.Building.{join_start, join_end, join_room, join_next}
 use Rattle.vectors.proofs.vector.IoVector.join.Goals as goal
 
 pub loop-segment-init : goal.loop-segment-init
-loop-segment-init c = join_start c.args.self c.args.other c.args.start c.args.n c.requires
+loop-segment-init c = join_start c.args.self.now c.args.other.now c.args.start c.args.n c.requires
 
 pub put_last-requires : goal.put_last-requires
 put_last-requires c = join_room _ _ _ _ c.loop-segment.invariant c.loop-segment-test.true

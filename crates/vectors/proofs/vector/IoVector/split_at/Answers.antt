@@ -29,7 +29,7 @@ cut : (c : After-do_split_at-split) (p : SplitPosition) → p ≡ position_of (s
     → Cut c.args.self p
 cut c p e =
     let w : length c.args.self.segments ≡ 16 = search (rules, array_long) in
-    cut_of _ _ _ _ w (search rules) (valid _ _ (valid_of c.before)) e
+    cut_of _ _ _ _ w (search rules) (valid _ _ (valid_of c.before.before)) e
 
 pub returns-then-not-is_valid : goal.returns-then-not-is_valid
 returns-then-not-is_valid c = split_refused _ _ c.args.mid (sym c.is_valid.ensures ∙ c.if-not-is_valid.true)

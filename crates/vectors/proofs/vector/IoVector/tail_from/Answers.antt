@@ -10,29 +10,29 @@ use Rattle.vectors.proofs.Building.{grown}
 use Rattle.vectors.proofs.Splitting.{tail_joins, tail_clean, tail_ends, tail_inner}
 use borrow.Author.Rules.{rules}
 use Rattle.vectors.proofs.vector.IoVector.tail_from.Goals as goal
-use Rattle.vectors.proofs.vector.IoVector.tail_from.Goals.{After-join-tail, Start}
+use Rattle.vectors.proofs.vector.IoVector.tail_from.Goals.{After-join, Start}
 
-wide_of : (c : Start) → length c.args.self.segments ≡ 16
+wide_of : (c : Start) → length c.args.self.now.segments ≡ 16
 wide_of c = search (rules, array_long)
 
 -- the segments from the position's on, whole
-joined : (c : After-join-tail) → c.join-tail.result ≡ vector_of (take (c.args.self.count - c.args.position.index) (drop c.args.position.index (segments_of c.args.self)))
-joined c = grown [] _ c.new.ensures c.join-tail.ensures
+joined : (c : After-join) → c.join.new.self ≡ vector_of (take (c.args.self.now.count - c.args.position.index) (drop c.args.position.index (segments_of c.args.self.now)))
+joined c = grown [] _ c.new-tail.ensures c.join.ensures
 
-pub join-tail-requires : goal.join-tail-requires
-join-tail-requires c = tail_joins _ c.args.position (wide_of (goal.at.join-tail-requires c).Start) c.requires c.new.result c.new.ensures
+pub join-requires : goal.join-requires
+join-requires c = tail_joins _ c.args.position (wide_of (goal.at.join-requires c).Start) c.requires _ c.new-tail.ensures
 
 pub returns-then-inside-eq0 : goal.returns-then-inside-eq0
-returns-then-inside-eq0 c = tail_clean _ c.args.position (wide_of (goal.at.returns-then-inside-eq0 c).Start) c.requires _ c.if-inside-eq0.true (joined (goal.at.returns-then-inside-eq0 c).After-join-tail)
+returns-then-inside-eq0 c = tail_clean _ c.args.position (wide_of (goal.at.returns-then-inside-eq0 c).Start) c.requires _ c.if-inside-eq0.true (joined (goal.at.returns-then-inside-eq0 c).After-join)
 
 pub overflow_add-first : goal.overflow_add-first
-overflow_add-first c = omega (arith, (tail_ends _ _ (wide_of (goal.at.overflow_add-first c).Start) c.requires c.if-inside-eq0.false _ (joined (goal.at.overflow_add-first c).After-join-tail)).0)
+overflow_add-first c = omega (arith, (tail_ends _ _ (wide_of (goal.at.overflow_add-first c).Start) c.requires c.if-inside-eq0.false _ (joined (goal.at.overflow_add-first c).After-join)).0)
 
 pub overflow_sub-first : goal.overflow_sub-first
-overflow_sub-first c = (tail_ends _ _ (wide_of (goal.at.overflow_sub-first c).Start) c.requires c.if-inside-eq0.false _ (joined (goal.at.overflow_sub-first c).After-join-tail)).1
+overflow_sub-first c = (tail_ends _ _ (wide_of (goal.at.overflow_sub-first c).Start) c.requires c.if-inside-eq0.false _ (joined (goal.at.overflow_sub-first c).After-join)).1
 
 pub overflow_sub-tail : goal.overflow_sub-tail
-overflow_sub-tail c = (tail_ends _ _ (wide_of (goal.at.overflow_sub-tail c).Start) c.requires c.if-inside-eq0.false _ (joined (goal.at.overflow_sub-tail c).After-join-tail)).2
+overflow_sub-tail c = (tail_ends _ _ (wide_of (goal.at.overflow_sub-tail c).Start) c.requires c.if-inside-eq0.false _ (joined (goal.at.overflow_sub-tail c).After-join)).2
 
 pub returns : goal.returns
-returns c = tail_inner _ _ (wide_of (goal.at.returns c).Start) c.requires c.if-inside-eq0.false _ (joined (goal.at.returns c).After-join-tail)
+returns c = tail_inner _ _ (wide_of (goal.at.returns c).Start) c.requires c.if-inside-eq0.false _ (joined (goal.at.returns c).After-join)
