@@ -16,6 +16,13 @@ pub struct Header {
 #[derive(Clone, Copy, PartialEq, Eq)]
 pub struct Broken;
 
+// The number of two bytes.
+pub fn u16_of(low: u8, high: u8) -> u64
+    ensures { result ≡ little_endian (low ∷ high ∷ []) }
+{
+    u64::from(u16::from_le_bytes([low, high]))
+}
+
 // The number of four bytes.
 pub fn u32_of(first: u8, second: u8, third: u8, fourth: u8) -> u64
     ensures { result ≡ little_endian (first ∷ second ∷ third ∷ fourth ∷ []) }
@@ -34,7 +41,7 @@ pub fn first_record(bytes: &[u8]) -> Result<Option<Header>, Broken>
     let [low, high, kind_low, kind_high, ..] = bytes else {
         return Err(Broken); // even a record without a body has length and kind
     };
-    let length = usize::from(u16::from_le_bytes([*low, *high]));
+    let length = u16_of(*low, *high) as usize;
     if length < 2 {
         return Err(Broken); // shorter than its kind
     }
@@ -42,7 +49,7 @@ pub fn first_record(bytes: &[u8]) -> Result<Option<Header>, Broken>
         return Err(Broken); // cut
     }
     Ok(Some(Header {
-        kind: u64::from(u16::from_le_bytes([*kind_low, *kind_high])),
+        kind: u16_of(*kind_low, *kind_high),
         body: length - 2,
     }))
 }
