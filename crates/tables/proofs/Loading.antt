@@ -2,7 +2,7 @@
 use mathlib.Core.Path.{◌≡◌, refl, sym, ap, ◌∙◌}
 use Rattle.std.specs.Prelude.{Option, Some, None, Result, Ok, Err}
 use mathlib.Core.List.{List, [], ◌∷◌, ◌++◌, append_assoc, append-nil}
-use Prim.Native.Nat.{ℕ, zero, suc, ◌+◌, ◌-◌, ◌<◌, ◌≤◌}
+use Prim.Native.Nat.{ℕ, zero, suc, ◌+◌, ◌-◌, ◌≤◌}
 use native.Mathlib.Omega.{arith}
 use native.Mathlib.Numerals.{add-one}
 use lib.Dec.{eqb}
@@ -115,9 +115,6 @@ module _ {bytes : List ℕ} {rows : List Alignments} {count : ℕ} {rest : List 
 
     -- its body, and what lies behind it
     module _ (body behind : List ℕ) (b : body ≡ take h.body Bodies) (m : behind ≡ drop h.body Bodies) where
-      pub fewer : length behind < length rest
-      fewer = rw (m, bodies, length-drop, length-drop) (omega (arith, it.room))
-
       step : rows_from count (form_of rest)
           ≡ with_entry (entry_of count h.kind body) (rows_from count (form_of behind)) (rows_from (suc count) (form_of behind))
       unfolding rows_from

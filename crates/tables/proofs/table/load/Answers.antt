@@ -1,9 +1,10 @@
 -- `tables::table::load` meets its contract: in every turn the table is what is read and what the rest of the bytes adds. Assumes nothing.
 use mathlib.Core.Path.{◌≡◌, sym, ap, ◌∙◌}
+use lib.ListN.{length}
 use Rattle.std.specs.Prelude.{Option, Result, Ok}
 use Rattle.std.proofs.lemmas.Result.{err_from_is_err_and}
 use Rattle.arithmetic.specs.declared.refusals.Refusal.{Refusal}
-use Rattle.tables.proofs.Loading.{reading_none, broken_here, header_room, body_room, fewer, passed_on, row_read, refused_by, ended}
+use Rattle.tables.proofs.Loading.{reading_none, broken_here, header_room, body_room, passed_on, row_read, refused_by, ended}
 use Rattle.tables.specs.TablesLaws.{entry_row}
 use borrow.Author.Tests.{eq-eqb, ne_eqb}
 use borrow.Author.Rules.{rules}
@@ -42,7 +43,7 @@ bounds-rows-count c = (entry_row _ _ _ _ (known c.in_ok-row.ensures c.in-Some-2.
 
 pub loop-record-smaller-in-Some-2 : goal.loop-record-smaller-in-Some-2
 loop-record-smaller-in-Some-2 c =
-    fewer c.loop-record.invariant _ (known c.in_ok-record.ensures c.in-Some.is) _ _ c.split_at.ensures.front c.split_at.ensures.back
+    search (rules, header_room c.loop-record.invariant _ (known c.in_ok-record.ensures c.in-Some.is), ap length c.split_at.ensures.back)
 
 pub loop-record-preserved-in-Some-2 : goal.loop-record-preserved-in-Some-2
 loop-record-preserved-in-Some-2 c =
@@ -51,7 +52,7 @@ loop-record-preserved-in-Some-2 c =
 
 pub loop-record-smaller : goal.loop-record-smaller
 loop-record-smaller c =
-    fewer c.loop-record.invariant _ (known c.in_ok-record.ensures c.in-Some.is) _ _ c.split_at.ensures.front c.split_at.ensures.back
+    search (rules, header_room c.loop-record.invariant _ (known c.in_ok-record.ensures c.in-Some.is), ap length c.split_at.ensures.back)
 
 pub loop-record-preserved : goal.loop-record-preserved
 loop-record-preserved c =
