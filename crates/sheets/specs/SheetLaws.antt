@@ -1,6 +1,7 @@
 -- Laws of sheets: what a sound write is; the owner of a byte; the joined ranges, one write after the other. Assumes nothing.
 use Rattle.std.specs.Prelude.{◌≡◌, refl, Bool, true, false, ◌&&◌, ◌||◌, List, [], ◌∷◌, ℕ, zero, suc, ◌+◌, ◌^◌, ◌<◌, ◌≤◌, ltb, leb, length}
-use Rattle.std.specs.Prelude.{get_or, Option, Some, None}
+use Rattle.std.specs.Prelude.{get_or, drop, Option, Some, None}
+use Rattle.std.specs.Option.{is_some}
 use Rattle.std.proofs.Common.{sym, ap, subst, ◌∙◌, arith, ltb-true, leb-true}
 use Rattle.arithmetic.specs.Loops.{or_first}
 use Rattle.arithmetic.specs.Rounding.{pick, fits}
@@ -73,11 +74,15 @@ owner_none (w ∷ ws) owner k e =
     let a = or_left_false (covers w k) (is_covered ws k) e in
     rw a (owner_none ws owner k (or_right_false (covers w k) (is_covered ws k) e))
 
--- the last of the writes that covers k: it is sound where all are
+-- the owner is the last of the writes that covers k: number m of them, and none behind it does; it is sound where all are
 pub record Last (ws : List SheetWrite) (owner : Option SheetWrite) (k : ℕ) : Type 0 where
   pub w : SheetWrite
   pub is : owner ≡ Some w
+  pub m : ℕ
+  pub there : m < length ws
+  pub from : get_or ws m no_write ≡ w
   pub its : covers w k ≡ true
+  pub last : is_covered (drop (suc m) ws) k ≡ false
   pub fit : (n : ℕ) → all_sound n ws ≡ true → is_sound n w ≡ true
 
 pub owner_last : (ws : List SheetWrite) (owner : Option SheetWrite) (k : ℕ) → is_covered ws k ≡ true → Last ws (owner_from owner ws k) k
@@ -90,11 +95,29 @@ owner_last (w ∷ ws) owner k e = go (is_covered ws k) refl (owner_last ws (pick
         → Last (w ∷ ws) (owner_from (pick (covers w k) (Some w) owner) ws k) k
     go true p f =
         let r = f p in
-        record { w = r.w; is = r.is; its = r.its; fit = λ n s. r.fit n (and_right (is_sound n w) (all_sound n ws) s) }
+        record {
+          w = r.w;
+          is = r.is;
+          m = suc r.m;
+          there = omega (arith, r.there);
+          from = r.from;
+          its = r.its;
+          last = r.last;
+          fit = λ n s. r.fit n (and_right (is_sound n w) (all_sound n ws) s);
+        }
     go false p f =
         let h = or_first (covers w k) (rw p at e) in
         let o = owner_none ws (pick (covers w k) (Some w) owner) k p in
-        record { w = w; is = o ∙ rw h; its = h; fit = λ n s. and_left (is_sound n w) (all_sound n ws) s }
+        record {
+          w = w;
+          is = o ∙ rw h;
+          m = 0;
+          there = omega arith;
+          from = refl;
+          its = h;
+          last = p;
+          fit = λ n s. and_left (is_sound n w) (all_sound n ws) s;
+        }
 
 -- a byte that has no owner is not covered
 pub owned_none : (ws : List SheetWrite) (k : ℕ) → owner_of ws k ≡ None → is_covered ws k ≡ false
@@ -117,6 +140,19 @@ owned_last ws k w e = go (is_covered ws k) refl
         let q = sym (owner_none ws None k p) ∙ e in
         let z : ◌≡◌ {A = ℕ} 0 1 = cc in
         absurd (omega arith)
+
+-- so the byte is covered exactly where it has an owner
+pub owned_covered : (ws : List SheetWrite) (k : ℕ) (o : Option SheetWrite) → owner_of ws k ≡ o → is_covered ws k ≡ is_some o
+owned_covered ws k None e = owned_none ws k e
+owned_covered ws k (Some w) e = (owned_last ws k w e).0
+
+-- and its owner is one of the writes, which covers it
+pub owner_covers : (ws : List SheetWrite) (k : ℕ) (w : SheetWrite) → owner_of ws k ≡ Some w
+    → (covers w k ≡ true) × (m : ℕ) × (m < length ws) × (get_or ws m no_write ≡ w)
+owner_covers ws k w e =
+    let l = (owned_last ws k w e).1 in
+    let same : w ≡ l.w = let i = l.is in cc in
+    (ap (λ (u : SheetWrite). covers u k) same ∙ l.its, l.m, l.there, l.from ∙ sym same)
 
 -- ---- the ranges, one write after the other
 
