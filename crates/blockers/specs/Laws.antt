@@ -1,6 +1,7 @@
--- Laws of write blockers: what enter and leave change, that both keep `Reached`, who has noted whom, who waits, and that somebody entered
--- is always free. Assumes nothing.
-use Rattle.std.specs.Prelude.{◌≡◌, Bool, ◌&&◌, ◌⊎◌, ◌≢◌, List, [], ◌∷◌, map, ℕ, zero, suc, ◌+◌, ◌<◌, ◌≤◌, ltb, eqb, set, replicate}
+-- Laws of write blockers: what enter and leave answer, and what they change, that both keep `Reached`, who has noted whom, who waits, and
+-- that somebody entered is always free. Assumes nothing.
+use Rattle.std.specs.Prelude.{◌≡◌, Ok, Err, Bool, ◌&&◌, ◌⊎◌, ◌≢◌, List, [], ◌∷◌, map, ℕ, zero, suc, ◌+◌, ◌<◌, ◌≤◌, ltb, eqb, set, replicate}
+use Rattle.std.specs.Result.{result_unwrap_or}
 use Rattle.std.proofs.Math.Path.{refl, sym, ap}
 use Rattle.std.proofs.Common.{◌∙◌, inl, inr, ⊎_elim, arith, get_or-set_same, lt-ltb, le-ltb, eq-eqb, ne_eqb}
 use Rattle.std.proofs.Math.Bool.{true, false, not, false≢true, and-false, and_comm}
@@ -11,12 +12,13 @@ use Rattle.arithmetic.specs.Rounding.{pick}
 use Rattle.arithmetic.specs.Loops.{any_here, any_none, any_found}
 use Rattle.arithmetic.specs.SettingsLaws.{and_left, and_right}
 use Rattle.arithmetic.specs.declared.offsets.Range.{Range}
+use Rattle.arithmetic.specs.declared.refusals.Refusal.TheVariants.{Slot}
 use Rattle.blockers.specs.declared.Kind.{Kind}
 use Rattle.blockers.specs.declared.Kind.TheVariants.{Absent, Weak, Strong}
 use Rattle.blockers.specs.declared.Blocker.{Blocker}
 use Rattle.blockers.specs.declared.Blockers.{Blockers}
 use Rattle.blockers.specs.Blockers.{overlaps, present, is_entered, conflict, notes, notes_of, vacant, nowhere, blocker_at, no_blockers}
-use Rattle.blockers.specs.Blockers.{Changed, refused, changed_to, entered_of, forgetting, left_of, has_noted, waits_of}
+use Rattle.blockers.specs.Blockers.{Changed, changed, refused, changed_to, entered_of, forgetting, left_of, has_noted, waits_of}
 use Rattle.blockers.specs.Reached.{Meet, Entered, Reached}
 
 -- ---- ranges
@@ -56,6 +58,24 @@ module _ (k : Kind) (p : ℕ) (r : Range) (b : Blockers) where
   unfolding entered_of
   enter_taken e = simp (e, and-false)
 
+  -- what the call answers: the blockers with the entered one, or 208
+  pub enter_answer : p < 8 → is_entered (blocker_at b p) ≡ false
+      → changed (entered_of k p r b) ≡ Ok (record { slots = set b.slots p (entering k r b) })
+  enter_answer h e = rw (enter_done h e) refl
+
+  pub enter_refused : (8 ≤ p) ⊎ Entered b p → changed (entered_of k p r b) ≡ Err Slot
+  enter_refused s = ⊎_elim (λ h. rw (enter_past h) refl) (λ e. rw (enter_taken e) refl) s
+
+  -- so what a caller has then, the answer or else what it had, is what the laws below call the blockers after the call
+  pub enter_after : result_unwrap_or (changed (entered_of k p r b)) b ≡ (entered_of k p r b).blockers
+  unfolding entered_of
+  enter_after = go (ltb p 8 && not (is_entered (blocker_at b p)))
+    where
+      go : (t : Bool) → result_unwrap_or (changed (pick t (changed_to (set b.slots p (entering k r b))) (refused b))) b
+          ≡ (pick t (changed_to (set b.slots p (entering k r b))) (refused b)).blockers
+      go true = refl
+      go false = refl
+
 module _ (p : ℕ) (b : Blockers) where
   -- out of a slot where one is entered
   pub leave_done : p < 8 → Entered b p → left_of p b ≡ changed_to (set (map (forgetting p) b.slots) p vacant)
@@ -70,6 +90,23 @@ module _ (p : ℕ) (b : Blockers) where
   pub leave_none : is_entered (blocker_at b p) ≡ false → left_of p b ≡ refused b
   unfolding left_of
   leave_none e = simp (e, and-false)
+
+  -- what the call answers: the blockers without the one that left, or 208
+  pub leave_answer : p < 8 → Entered b p → changed (left_of p b) ≡ Ok (record { slots = set (map (forgetting p) b.slots) p vacant })
+  leave_answer h e = rw (leave_done h e) refl
+
+  pub leave_refused : (8 ≤ p) ⊎ (is_entered (blocker_at b p) ≡ false) → changed (left_of p b) ≡ Err Slot
+  leave_refused s = ⊎_elim (λ h. rw (leave_past h) refl) (λ e. rw (leave_none e) refl) s
+
+  -- so what a caller has then, the answer or else what it had
+  pub leave_after : result_unwrap_or (changed (left_of p b)) b ≡ (left_of p b).blockers
+  unfolding left_of
+  leave_after = go (ltb p 8 && is_entered (blocker_at b p))
+    where
+      go : (t : Bool) → result_unwrap_or (changed (pick t (changed_to (set (map (forgetting p) b.slots) p vacant)) (refused b))) b
+          ≡ (pick t (changed_to (set (map (forgetting p) b.slots) p vacant)) (refused b)).blockers
+      go true = refl
+      go false = refl
 
 -- ---- what enter changes
 
