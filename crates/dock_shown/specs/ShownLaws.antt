@@ -1,5 +1,5 @@
 -- What the combined calls rely on: what is shown of a slot, and of a begin and a tell, by what the separate calls give. Assumes nothing.
-use Rattle.std.specs.Prelude.{◌≡◌, refl, Bool, true, false, List, ℕ, length, Result, Ok, Err}
+use Rattle.std.specs.Prelude.{◌≡◌, refl, Bool, true, false, List, ℕ, length, Result, Ok, Err, Option}
 use Rattle.std.proofs.Math.Path.{sym, ap}
 use Rattle.std.proofs.Common.{◌∙◌}
 use Rattle.arithmetic.specs.Refusals.{when_done, is_done}
@@ -49,6 +49,33 @@ module _ (d : Dock) (p m n : ℕ) where
       let q = shown_as (Ok (Answer a)) e in
       let t = sym (ap (λ (s : Shows). is_collected s.answer) q) in
       ((w ∙ ap (λ (s : Shows). shown_words s.answer) q, k ∙ ap (λ (s : Shows). s.dock) q), (done_words _ _ _ t, done_words _ _ _ t))
+
+-- ---- a begin, shown
+
+module _
+    (begun z : Result (Option ℕ) Refusal) (e : begun ≡ z) (d : Dock) (m n : ℕ) (words : List ℕ)
+    (w : words ≡ shown_words (shown_begun z d m n).answer) where
+  -- one that took no slot leaves every word
+  pub begun_kept : (shown_begun z d m n).dock ≡ d → (x v : Rows)
+      → ShowsAs (shown_begun begun d m n) words d × same_two (is_admitted begun) x v x v
+  begun_kept k x v = (
+    (
+      w ∙ sym (ap (λ (b : Result (Option ℕ) Refusal). shown_words (shown_begun b d m n).answer) e),
+      sym k ∙ sym (ap (λ (b : Result (Option ℕ) Refusal). (shown_begun b d m n).dock) e),
+    ),
+    (same_words _ _, same_words _ _),
+  )
+
+  pub begun_shown : is_admitted z ≡ true → (d' : Dock) → d' ≡ (shown_begun z d m n).dock → (x v x' v' : Rows)
+      → ShowsAs (shown_begun begun d m n) words d' × same_two (is_admitted begun) x v x' v'
+  begun_shown t d' k x v x' v' =
+      let u = ap is_admitted e ∙ t in (
+        (
+          w ∙ sym (ap (λ (b : Result (Option ℕ) Refusal). shown_words (shown_begun b d m n).answer) e),
+          k ∙ sym (ap (λ (b : Result (Option ℕ) Refusal). (shown_begun b d m n).dock) e),
+        ),
+        (done_words _ _ _ u, done_words _ _ _ u),
+      )
 
 -- ---- submit
 

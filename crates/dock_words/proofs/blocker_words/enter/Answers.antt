@@ -3,7 +3,7 @@ use Rattle.std.specs.Prelude.{refl}
 use Rattle.std.proofs.Common.{sym, ◌∙◌, arith}
 use Rattle.blockers.specs.Laws.{enter_done, enter_past, enter_taken}
 use Rattle.dock_words.specs.View.{blockers_of}
-use Rattle.dock_words.specs.Laws.{entered_word, blocker_put}
+use Rattle.dock_words.specs.Laws.{entered_word, blocker_part}
 use Rattle.dock_words.specs.CallWordsLaws.{same_words, done_words}
 use Rattle.dock_words.proofs.blocker_words.enter.Goals.{then-slot-ge-SLOTS-via-then-slot-ge-SLOTS, then-slot-ge-SLOTS-via-else-slot-ge-SLOTS+then-is_entered}
 use Rattle.dock_words.proofs.blocker_words.enter.Goals as goal
@@ -22,4 +22,4 @@ returns c = let a = c.args in
     let w = a.all.now in
     let h = c.if-slot-ge-SLOTS.false in
     let e = sym (entered_word w a.slot (omega (arith, h, c.told-all))) ∙ sym c.is_entered.ensures ∙ c.if-is_entered.false in
-    rw (enter_done a.kind a.slot a.range (blockers_of w) h e, c.put_blocker.ensures, ← c.notes-noted.ensures) (refl, blocker_put w a.slot _, done_words _ _ _ refl)
+    rw (enter_done a.kind a.slot a.range (blockers_of w) h e, c.put_blocker.ensures, ← c.notes-noted.ensures) (refl, blocker_part w a.slot _ _ refl, done_words _ _ _ refl)
