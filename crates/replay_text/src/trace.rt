@@ -76,7 +76,7 @@ impl fmt::Display for Place {
     }
 }
 
-fn refused(rt: &impl Print, r: Refusal) -> io::Result<()> {
+pub fn refused(rt: &impl Print, r: Refusal) -> io::Result<()> {
     print!(rt; " {}", Reason(r))
 }
 
@@ -281,10 +281,11 @@ impl fmt::Display for Flaw {
     }
 }
 
-// A line of the script, and what ends it.
+// A line of the script, and what ends it: bytes as they are, since `print` makes a formatter for each piece, and a script may have
+// 65535 lines.
 pub fn copy(rt: &impl Print, line: &[u8], end: &str) -> io::Result<()> {
     rt.write_all(line)?;
-    rt.print(end)
+    rt.write_all(end.as_bytes())
 }
 
 // The last line of a run that came to its end.
