@@ -8,6 +8,13 @@ use Rattle.std.proofs.Math.Decide.{dec_lt, ℕ_discrete}
 use Rattle.std.proofs.lemmas.Bool.{lt-leb}
 use Rattle.arithmetic.specs.Rounding.{pick, fits, round_down, round_up, sum_of, up_of}
 
+-- ---- what a test picks
+
+-- f of what it picks is what it picks of f's values
+pub picked : {A B : Type 0} (f : A → B) (t : Bool) (x y : A) → f (pick t x y) ≡ pick t (f x) (f y)
+picked f true x y = refl
+picked f false x y = refl
+
 -- ---- what fits
 
 pub fits_true : (x : ℕ) → x < 2 ^ 64 → fits x ≡ true

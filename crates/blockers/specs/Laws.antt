@@ -66,16 +66,6 @@ module _ (k : Kind) (p : ℕ) (r : Range) (b : Blockers) where
   pub enter_refused : (8 ≤ p) ⊎ Entered b p → changed (entered_of k p r b) ≡ Err Slot
   enter_refused s = ⊎_elim (λ h. rw (enter_past h) refl) (λ e. rw (enter_taken e) refl) s
 
-  -- so what a caller has then, the answer or else what it had, is what the laws below call the blockers after the call
-  pub enter_after : result_unwrap_or (changed (entered_of k p r b)) b ≡ (entered_of k p r b).blockers
-  unfolding entered_of
-  enter_after = go (ltb p 8 && not (is_entered (blocker_at b p)))
-    where
-      go : (t : Bool) → result_unwrap_or (changed (pick t (changed_to (set b.slots p (entering k r b))) (refused b))) b
-          ≡ (pick t (changed_to (set b.slots p (entering k r b))) (refused b)).blockers
-      go true = refl
-      go false = refl
-
 module _ (p : ℕ) (b : Blockers) where
   -- out of a slot where one is entered
   pub leave_done : p < 8 → Entered b p → left_of p b ≡ changed_to (set (map (forgetting p) b.slots) p vacant)
@@ -98,15 +88,21 @@ module _ (p : ℕ) (b : Blockers) where
   pub leave_refused : (8 ≤ p) ⊎ (is_entered (blocker_at b p) ≡ false) → changed (left_of p b) ≡ Err Slot
   leave_refused s = ⊎_elim (λ h. rw (leave_past h) refl) (λ e. rw (leave_none e) refl) s
 
-  -- so what a caller has then, the answer or else what it had
-  pub leave_after : result_unwrap_or (changed (left_of p b)) b ≡ (left_of p b).blockers
-  unfolding left_of
-  leave_after = go (ltb p 8 && is_entered (blocker_at b p))
-    where
-      go : (t : Bool) → result_unwrap_or (changed (pick t (changed_to (set (map (forgetting p) b.slots) p vacant)) (refused b))) b
-          ≡ (pick t (changed_to (set (map (forgetting p) b.slots) p vacant)) (refused b)).blockers
-      go true = refl
-      go false = refl
+-- ---- what the caller has: the answer, or else what it had, is what the laws below call the blockers after the call
+
+answered : (b : Blockers) (t : Bool) (l : List Blocker)
+    → result_unwrap_or (changed (pick t (changed_to l) (refused b))) b ≡ (pick t (changed_to l) (refused b)).blockers
+answered b true l = refl
+answered b false l = refl
+
+pub enter_after : (k : Kind) (p : ℕ) (r : Range) (b : Blockers)
+    → result_unwrap_or (changed (entered_of k p r b)) b ≡ (entered_of k p r b).blockers
+unfolding entered_of
+enter_after k p r b = answered b (ltb p 8 && not (is_entered (blocker_at b p))) (set b.slots p (entering k r b))
+
+pub leave_after : (p : ℕ) (b : Blockers) → result_unwrap_or (changed (left_of p b)) b ≡ (left_of p b).blockers
+unfolding left_of
+leave_after p b = answered b (ltb p 8 && is_entered (blocker_at b p)) (set (map (forgetting p) b.slots) p vacant)
 
 -- ---- what enter changes
 

@@ -2,6 +2,7 @@
 use Rattle.std.specs.Prelude.{◌≡◌, refl, Result, Ok, Err, Bool, true, false, ◌&&◌, List, [], ◌∷◌, ◌⊎◌, ℕ, leb}
 use Rattle.std.proofs.Common.{ap, inl, inr}
 use Rattle.arithmetic.specs.Rounding.{pick}
+use Rattle.arithmetic.specs.RoundingLaws.{picked}
 use Rattle.arithmetic.specs.SettingsLaws.{and_right}
 use Rattle.arithmetic.specs.declared.refusals.Refusal.{Refusal}
 use Rattle.arithmetic.specs.declared.refusals.Refusal.TheVariants.{Segment as BadSegment}
@@ -94,18 +95,8 @@ module _ (n : ℕ) (v : IoVector) (mid : ℕ) where
   pub split_after : halves_after v (split_of n v mid)
       ≡ pick (is_valid n v) (halves_of v mid) (record { head = v; tail = vector_of []; looked = 0 })
   unfolding split_of
-  split_after = go (is_valid n v)
-    where
-      go : (t : Bool) → halves_after v (pick t (Ok (halves_of v mid)) (Err BadSegment))
-          ≡ pick t (halves_of v mid) (record { head = v; tail = vector_of []; looked = 0 })
-      go true = refl
-      go false = refl
+  split_after = picked (halves_after v) (is_valid n v) (Ok (halves_of v mid)) (Err BadSegment)
 
   pub split_tail_after : tail_after v (split_tail_of n v mid) ≡ pick (is_valid n v) (rest_of v mid) (record { vector = v; looked = 0 })
   unfolding split_tail_of
-  split_tail_after = go (is_valid n v)
-    where
-      go : (t : Bool) → tail_after v (pick t (Ok (rest_of v mid)) (Err BadSegment))
-          ≡ pick t (rest_of v mid) (record { vector = v; looked = 0 })
-      go true = refl
-      go false = refl
+  split_tail_after = picked (tail_after v) (is_valid n v) (Ok (rest_of v mid)) (Err BadSegment)

@@ -11,6 +11,7 @@ use Rattle.std.proofs.Math.Seq.{append_snoc}
 use Rattle.std.proofs.lemmas.Bool.{not-true}
 use Rattle.arithmetic.specs.SettingsLaws.{and_left, and_right, both}
 use Rattle.arithmetic.specs.Rounding.{pick}
+use Rattle.arithmetic.specs.RoundingLaws.{picked}
 use Rattle.arithmetic.specs.declared.refusals.Refusal.{Refusal}
 use Rattle.arithmetic.specs.declared.refusals.Refusal.TheVariants.{Segment as BadSegment}
 use Rattle.vectors.specs.declared.vector.Segment.{Segment}
@@ -281,11 +282,9 @@ module _ (n : ℕ) where
 
   runs_as : (v : IoVector) (xs : List ℕ) (c : Result IoVector Refusal) → c ≡ runs_or_refused xs → RunsAs v xs c
   unfolding runs_or_refused
-  runs_as v xs c e = (e, ap (vector_after v) e ∙ go (leb (length (runs xs)) 16 && leb (length xs) 1048576))
-    where
-      go : (t : Bool) → vector_after v (pick t (Ok (vector_of (runs xs))) refused_vector) ≡ pick t (vector_of (runs xs)) v
-      go true = refl
-      go false = refl
+  runs_as v xs c e =
+      let t = leb (length (runs xs)) 16 && leb (length xs) 1048576 in
+      (e, ap (vector_after v) e ∙ picked (vector_after v) t (Ok (vector_of (runs xs))) refused_vector)
 
   module _ (v : IoVector) (e : is_valid n v ≡ true) (t : none_touch (segments_of v) ≡ true) where
     own : Separate (segments_of v)
