@@ -1,7 +1,5 @@
 -- What insert and append show of a vector: each step of the building, and which lists fit. Assumes nothing.
-use Rattle.std.specs.Prelude.{Ok, Option, Some, None}
-use Rattle.std.specs.Option.{ok_or}
-use Rattle.arithmetic.specs.declared.refusals.Refusal.TheVariants.{Segment as BadSegment}
+use Rattle.std.specs.Prelude.{Ok, Some, None}
 use mathlib.Core.Path.{◌≡◌, refl, sym, ap, ◌∙◌}
 use mathlib.Core.Bool.{Bool, true, false, ◌&&◌, and-false, false≢true}
 use mathlib.Core.List.{List, [], ◌∷◌}
@@ -124,11 +122,10 @@ module _ (n : ℕ) (v : IoVector) (i : ℕ) (p : Segment) (wide : length v.segme
           gluing_of u (take i ps) e p.length (omega (arith, length-take i ps, long, insert_valid.few))
           (omega (arith, size_cut i ps, insert_valid.total, insert_valid.fit.small))
 
-      pub insert_full : (q : Option IoVector) → q ≡ glued_of u (p ∷ []) → q ≡ None → ok_or q BadSegment ≡ insert_of n v i p
-      insert_full q g z =
-          ap (λ (r : Option IoVector). ok_or r BadSegment) z
-          ∙ too_many n v (glued front (drop i ps))
-          (omega (arith, not_fitting u (take i ps) (p ∷ []) e (sym z ∙ g), glued_longer front (drop i ps))) ∙ insert_is
+      pub insert_full : None ≡ glued_of u (p ∷ []) → refused_vector ≡ insert_of n v i p
+      insert_full g =
+          too_many n v (glued front (drop i ps))
+          (omega (arith, not_fitting u (take i ps) (p ∷ []) e g, glued_longer front (drop i ps))) ∙ insert_is
 
       module _ (r : IoVector) (g : Some r ≡ glued_of u (p ∷ [])) where
         first_is : (r ≡ vector_of front) × (length front ≤ 16)
@@ -145,12 +142,14 @@ module _ (n : ℕ) (v : IoVector) (i : ℕ) (p : Segment) (wide : length v.segme
           most = insert_valid.few;
         }
 
-        pub insert_whole : (q : Option IoVector) → q ≡ glued_of r (take (v.count - i) (drop i ps)) → ok_or q BadSegment ≡ insert_of n v i p
-        insert_whole None k =
+        pub insert_over : None ≡ glued_of r (take (v.count - i) (drop i ps)) → refused_vector ≡ insert_of n v i p
+        insert_over k =
             too_many n v (glued front (drop i ps)) (not_fitting r front (drop i ps) first_is.0 (k ∙ ap (glued_of r) rest)) ∙ insert_is
-        insert_whole (Some u') k =
-            let y = fitting r front (drop i ps) first_is.0 u' (k ∙ ap (glued_of r) rest) in
-            changed n v (glued front (drop i ps)) u' (valid_true n v insert_valid) all_lie y.1 small y.0 ∙ insert_is
+
+        pub insert_done : (w : IoVector) → Some w ≡ glued_of r (take (v.count - i) (drop i ps)) → Ok w ≡ insert_of n v i p
+        insert_done w k =
+            let y = fitting r front (drop i ps) first_is.0 w (k ∙ ap (glued_of r) rest) in
+            changed n v (glued front (drop i ps)) w (valid_true n v insert_valid) all_lie y.1 small y.0 ∙ insert_is
 
 -- push is an insert at the end
 pub push_is : (n : ℕ) (v : IoVector) (p : Segment) → insert_of n v v.count p ≡ push_of n v p
@@ -220,10 +219,11 @@ module _ (n : ℕ) (v w : IoVector) (wide : length v.segments ≡ 16) (wide' : l
       most = other.few;
     }
 
-    pub append_whole : (q : Option IoVector) → q ≡ glued_of u (take w.count (segments_of w)) → ok_or q BadSegment ≡ append_of n v w
-    append_whole None k =
-        too_many n v js (not_fitting u (segments_of v) (segments_of w) is_own (k ∙ ap (glued_of u) others)) ∙ append_is
-    append_whole (Some r) k =
+    pub append_over : None ≡ glued_of u (take w.count (segments_of w)) → refused_vector ≡ append_of n v w
+    append_over k = too_many n v js (not_fitting u (segments_of v) (segments_of w) is_own (k ∙ ap (glued_of u) others)) ∙ append_is
+
+    pub append_done : (r : IoVector) → Some r ≡ glued_of u (take w.count (segments_of w)) → Ok r ≡ append_of n v w
+    append_done r k =
         let y = fitting u (segments_of v) (segments_of w) is_own r (k ∙ ap (glued_of u) others) in
         changed n v js r (valid_true n v append_valid)
         (glued_lies (segments_of w) n other.fit.lie (segments_of v) append_valid.fit.lie) y.1

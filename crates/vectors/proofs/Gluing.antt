@@ -14,7 +14,7 @@ use Rattle.arithmetic.specs.declared.refusals.Refusal.TheVariants.{Segment as Ba
 use Rattle.vectors.specs.declared.vector.Segment.{Segment}
 use Rattle.vectors.specs.declared.vector.IoVector.{IoVector}
 use Rattle.vectors.specs.Vectors.{none, segments_of, size_of, vector_of, touches, glued}
-use Rattle.vectors.specs.Joining.{Room, Joins, last_touches, Gluing, Lengthens, GluesAll, glued_of, vector_if}
+use Rattle.vectors.specs.Joining.{Room, Joins, last_touches, Gluing, Lengthens, GluesAll, glued_of}
 use Rattle.vectors.specs.SegmentLaws.{size_cut, size_at}
 use Rattle.vectors.specs.SeamLaws.{joint, glued_size, last_is, glued_last, glued_length, glued_apart, glued_nothing, glued_more}
 use Rattle.vectors.proofs.Pass.{nth, in_use, same, first}
@@ -112,17 +112,9 @@ module _ (v : IoVector) (qs : List Segment) where
     | no h ↦ omega arith
   ]
 
--- what a caller learns of one that does it in place, by whether it says that it fits
-module _ {o : Option (Unit {0})} where
-  pub fitted : {v : IoVector} {g : Option IoVector} → o ≡ Some tt → vector_if o v ≡ g → Some v ≡ g
-  fitted {v} z e = ap (λ (x : Option (Unit {0})). vector_if x v) (sym z) ∙ e
-
-  pub not_fitted : (v : IoVector) {g : Option IoVector} → o ≡ None → vector_if o v ≡ g → None ≡ g
-  not_fitted v z e = ap (λ (x : Option (Unit {0})). vector_if x v) (sym z) ∙ e
-
-  -- 202 is the refusal
-  pub refused_is : {r : Refusal} → o ≡ None → Err r ≡ ok_or o BadSegment → r ≡ BadSegment
-  refused_is z e = let f = e ∙ ap (λ (x : Option (Unit {0})). ok_or x BadSegment) z in cc
+-- where one of the two does not fit, its caller's refusal is 202
+pub refused_is : {o : Option (Unit {0})} {r : Refusal} → o ≡ None → Err r ≡ ok_or o BadSegment → r ≡ BadSegment
+refused_is z e = let f = rw z at e in cc
 
 -- ---- `glue`
 

@@ -1,12 +1,11 @@
 -- `vectors::vector::IoVector::append` meets its contract: each step glues what the tests showed to fit. Assumes nothing.
-use Rattle.std.specs.Prelude.{Some, None}
 use Rattle.std.proofs.Common.{Err, ap, ◌≡◌, sym, ◌∙◌, true, ◌&&◌, [], length, arith, rules}
 use Rattle.std.proofs.lemmas.Result.{err_from_is_err_and}
 use Rattle.arithmetic.specs.Loops.{array_long}
 use Rattle.vectors.specs.Vectors.{is_valid}
 use Rattle.vectors.proofs.Building.{grown}
-use Rattle.vectors.proofs.Gluing.{fitted, not_fitted, refused_is}
-use Rattle.vectors.proofs.Editing.{both_are, append_not, append_valid, append_long, append_first, append_rest, append_whole}
+use Rattle.vectors.proofs.Gluing.{refused_is}
+use Rattle.vectors.proofs.Editing.{both_are, append_not, append_valid, append_long, append_first, append_rest, append_over, append_done}
 use Rattle.vectors.proofs.vector.IoVector.append.Goals as goal
 use Rattle.vectors.proofs.vector.IoVector.append.Goals.{Else-not-is_asked, Start}
 
@@ -40,9 +39,9 @@ pub returns-in_err-ok_or : goal.returns-in_err-ok_or
 returns-in_err-ok_or c = let p = err_from_is_err_and c.from_residual.result c.from_residual.ensures.1 in
     let o = c.in_err-ok_or.ensures in
     p.1 ∙ ap Err (p.2 ∙ refused_is o.ok_part o.value)
-    ∙ append_whole _ _ _ (wide_of (goal.at.returns-in_err-ok_or c).Start) (wide_other (goal.at.returns-in_err-ok_or c).Start) (asked_of (goal.at.returns-in_err-ok_or c).Else-not-is_asked) c.if-self-other.false
-    _ (grown [] _ c.new-whole.ensures c.join.ensures) None (not_fitted _ o.ok_part c.glue_all.ensures)
+    ∙ append_over _ _ _ (wide_of (goal.at.returns-in_err-ok_or c).Start) (wide_other (goal.at.returns-in_err-ok_or c).Start) (asked_of (goal.at.returns-in_err-ok_or c).Else-not-is_asked) c.if-self-other.false
+    _ (grown [] _ c.new-whole.ensures c.join.ensures) (rw o.ok_part at c.glue_all.ensures)
 
 pub returns : goal.returns
-returns c = append_whole _ _ _ (wide_of (goal.at.returns c).Start) (wide_other (goal.at.returns c).Start) (asked_of (goal.at.returns c).Else-not-is_asked) c.if-self-other.false
-    _ (grown [] _ c.new-whole.ensures c.join.ensures) (Some _) (fitted c.in_ok-ok_or.ensures.ok_part c.glue_all.ensures)
+returns c = append_done _ _ _ (wide_of (goal.at.returns c).Start) (wide_other (goal.at.returns c).Start) (asked_of (goal.at.returns c).Else-not-is_asked) c.if-self-other.false
+    _ (grown [] _ c.new-whole.ensures c.join.ensures) _ (rw c.in_ok-ok_or.ensures.ok_part at c.glue_all.ensures)

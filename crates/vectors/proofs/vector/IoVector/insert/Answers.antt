@@ -1,13 +1,12 @@
 -- `vectors::vector::IoVector::insert` meets its contract: each step glues what the tests showed to fit. Assumes nothing.
-use Rattle.std.specs.Prelude.{Some, None}
-use Rattle.std.proofs.Common.{Err, ◌≡◌, refl, sym, ap, ◌∙◌, true, ◌&&◌, [], leb, length, arith, rules}
+use Rattle.std.proofs.Common.{Err, ◌≡◌, sym, ap, ◌∙◌, true, ◌&&◌, [], leb, length, arith, rules}
 use Rattle.std.proofs.lemmas.Result.{err_from_is_err_and}
 use Rattle.arithmetic.specs.Loops.{array_long}
 use Rattle.vectors.specs.Vectors.{lies_in, is_valid}
 use Rattle.vectors.proofs.Building.{grown}
-use Rattle.vectors.proofs.Gluing.{fitted, not_fitted, refused_is}
+use Rattle.vectors.proofs.Gluing.{refused_is}
 use Rattle.vectors.proofs.Editing.{tests_are, insert_not, insert_valid, insert_long, insert_first, insert_glues, insert_full}
-use Rattle.vectors.proofs.Editing.{insert_reach, insert_rest, insert_whole}
+use Rattle.vectors.proofs.Editing.{insert_reach, insert_rest, insert_over, insert_done}
 use Rattle.vectors.proofs.vector.IoVector.insert.Goals as goal
 use Rattle.vectors.proofs.vector.IoVector.insert.Goals.{Else-not-is_asked, Start}
 
@@ -39,16 +38,16 @@ returns-in_err-ok_or c = let p = err_from_is_err_and c.from_residual.result c.fr
     let o = c.in_err-ok_or.ensures in
     p.1 ∙ ap Err (p.2 ∙ refused_is o.ok_part o.value)
     ∙ insert_full _ _ _ _ (wide_of (goal.at.returns-in_err-ok_or c).Start) (asked_of (goal.at.returns-in_err-ok_or c).Else-not-is_asked) c.if-self-segment.false
-    _ (grown [] _ c.new-whole.ensures c.join.ensures) None (not_fitted _ o.ok_part c.glue.ensures) refl
+    _ (grown [] _ c.new-whole.ensures c.join.ensures) (rw o.ok_part at c.glue.ensures)
 
 pub overflow_sub-n : goal.overflow_sub-n
 overflow_sub-n c = insert_reach _ _ _ _ (wide_of (goal.at.overflow_sub-n c).Start) (asked_of (goal.at.overflow_sub-n c).Else-not-is_asked)
 
 pub glue_all-requires : goal.glue_all-requires
-glue_all-requires c = insert_rest _ _ _ _ (wide_of (goal.at.glue_all-requires c).Start) (asked_of (goal.at.glue_all-requires c).Else-not-is_asked) c.if-self-segment.false _ (grown [] _ c.new-whole.ensures c.join.ensures) _ (fitted c.in_ok-ok_or.ensures.ok_part c.glue.ensures)
+glue_all-requires c = insert_rest _ _ _ _ (wide_of (goal.at.glue_all-requires c).Start) (asked_of (goal.at.glue_all-requires c).Else-not-is_asked) c.if-self-segment.false _ (grown [] _ c.new-whole.ensures c.join.ensures) _ (rw c.in_ok-ok_or.ensures.ok_part at c.glue.ensures)
 
 pub returns-in_err-ok_or-2 : goal.returns-in_err-ok_or-2
-returns-in_err-ok_or-2 c = let p = err_from_is_err_and c.from_residual-in_err-ok_or-2.result c.from_residual-in_err-ok_or-2.ensures.1 in let o = c.in_err-ok_or-2.ensures in p.1 ∙ ap Err (p.2 ∙ refused_is o.ok_part o.value) ∙ insert_whole _ _ _ _ (wide_of (goal.at.returns-in_err-ok_or-2 c).Start) (asked_of (goal.at.returns-in_err-ok_or-2 c).Else-not-is_asked) c.if-self-segment.false _ (grown [] _ c.new-whole.ensures c.join.ensures) _ (fitted c.in_ok-ok_or.ensures.ok_part c.glue.ensures) None (not_fitted _ o.ok_part c.glue_all.ensures)
+returns-in_err-ok_or-2 c = let p = err_from_is_err_and c.from_residual-in_err-ok_or-2.result c.from_residual-in_err-ok_or-2.ensures.1 in let o = c.in_err-ok_or-2.ensures in p.1 ∙ ap Err (p.2 ∙ refused_is o.ok_part o.value) ∙ insert_over _ _ _ _ (wide_of (goal.at.returns-in_err-ok_or-2 c).Start) (asked_of (goal.at.returns-in_err-ok_or-2 c).Else-not-is_asked) c.if-self-segment.false _ (grown [] _ c.new-whole.ensures c.join.ensures) _ (rw c.in_ok-ok_or.ensures.ok_part at c.glue.ensures) (rw o.ok_part at c.glue_all.ensures)
 
 pub returns : goal.returns
-returns c = insert_whole _ _ _ _ (wide_of (goal.at.returns c).Start) (asked_of (goal.at.returns c).Else-not-is_asked) c.if-self-segment.false _ (grown [] _ c.new-whole.ensures c.join.ensures) _ (fitted c.in_ok-ok_or.ensures.ok_part c.glue.ensures) (Some _) (fitted c.in_ok-ok_or-2.ensures.ok_part c.glue_all.ensures)
+returns c = insert_done _ _ _ _ (wide_of (goal.at.returns c).Start) (asked_of (goal.at.returns c).Else-not-is_asked) c.if-self-segment.false _ (grown [] _ c.new-whole.ensures c.join.ensures) _ (rw c.in_ok-ok_or.ensures.ok_part at c.glue.ensures) _ (rw c.in_ok-ok_or-2.ensures.ok_part at c.glue_all.ensures)
